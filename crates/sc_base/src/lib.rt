@@ -6,7 +6,11 @@
 pub mod fault;
 pub mod list;
 pub mod pos;
+pub mod rows;
+pub mod skip;
 
 pub use fault::{Failed, OutOfMemory};
 pub use list::List;
 pub use pos::{NameId, Pos};
+pub use rows::RowList;
+pub use skip::{IllTyped, LimitKind, Skip, Unsupported};
