@@ -1,0 +1,8 @@
+// First forms: files of one function over locks and flags.
+#![tactic(auto)]
+
+mod names;
+mod params;
+pub mod read;
+mod statements;
+pub mod stop;

@@ -1,0 +1,4 @@
+// The top calls of the checker.
+#![tactic(auto)]
+
+pub mod first;
