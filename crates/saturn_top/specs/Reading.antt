@@ -135,12 +135,18 @@ head_at bytes = do
 abbrev pub is_end : List ℕ → Bool
 is_end rest = bytes_eq rest [] || bytes_eq rest (codes "\n")
 
+-- the statements of the function's body, up to the end of the file
+unfoldable pub body_at : List Formal → List ℕ → Option Codes
+body_at ps bytes = do
+  start ← after (codes "{") bytes
+  body ← block_at (statement_at ps 15) (length start) start
+  if is_end body.1 then Some body.0 else None
+
 unfoldable pub whole_at : List ℕ → Option Form
 whole_at bytes = do
   head ← head_at bytes
-  start ← after (codes "{") head.2
-  body ← block_at (statement_at head.1 15) (length start) start
-  if is_end body.1 then Some (record { name = head.0; params = head.1; body = body.0 }) else None
+  body ← body_at head.1 head.2
+  Some (record { name = head.0; params = head.1; body = body })
 
 -- the first form that the file spells
 unfoldable pub form_at : List ℕ → Option Form

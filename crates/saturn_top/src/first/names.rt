@@ -1,13 +1,14 @@
 // Names of a first form, and the fixed words round them.
 #![tactic(auto)]
 
-ghost use Rattle.std.specs.Prelude.{◌≡◌, ◌≤◌, IfOk, length, option_map, true};
+ghost use Rattle.std.specs.Prelude.{◌≡◌, ◌≤◌, IfOk, length, option_map, string_bytes, true};
 ghost use Rattle.std.specs.List.{list_all, prefix_len};
 ghost use Rattle.std.specs.Char.{is_ascii_lowercase};
 ghost use Rattle.saturn_top.specs.Spelling.{is_name, is_reserved};
 ghost use Rattle.saturn_top.specs.Reading.{Gives, after, name_at};
 
 use crate::first::stop::Stop;
+use std::alloc::{AllocError, Global};
 
 /// The reserved words that a name could be spelled as: keywords (C11 6.4.1), `asm` and `typeof`.
 const RESERVED: [&[u8]; 36] = [
@@ -74,4 +75,13 @@ pub(crate) fn name(bytes: &[u8]) -> Result<(&[u8], &[u8]), Stop>
     } else {
         Err(Stop::Other)
     }
+}
+
+/// A name as a text. Its letters are ASCII, so nothing of it is replaced.
+#[tactic(auto, using(crate::proofs::Basics::name_is_text))]
+pub(crate) fn text_of(alloc: Global, name: &[u8]) -> Result<String, AllocError>
+    requires { is_name name.now ≡ true }
+    ensures { IfOk result (λ text. string_bytes text ≡ name.now) }
+{
+    String::from_utf8_lossy(alloc, name)
 }

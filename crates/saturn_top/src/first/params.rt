@@ -1,16 +1,16 @@
 // The parameters of a first form, and the places where a statement names one.
 #![tactic(auto)]
 
-ghost use Rattle.std.specs.Prelude.{◌≡◌, IfOk, bytes_eq, map, string_bytes, true};
+ghost use Rattle.std.specs.Prelude.{◌≡◌, bytes_eq, map};
 ghost use Rattle.std.specs.List.{list_any};
 ghost use Rattle.sc_tree.specs.Tree.{formal};
-ghost use Rattle.saturn_top.specs.Spelling.{are_different, is_name, names_of};
+ghost use Rattle.saturn_top.specs.Spelling.{are_different, names_of};
 ghost use Rattle.saturn_top.specs.Reading.{Gives, is_param, kind_at, name_at, param_at, param_of, params_at, place_at};
 
-use crate::first::names::{after, expect, name};
+use crate::first::names::{after, name, text_of};
 use crate::first::stop::Stop;
 use sc_tree::first::{Param, ParamKind};
-use std::alloc::{AllocError, Global};
+use std::alloc::Global;
 
 fn is_param(kind: ParamKind, name: &[u8], param: &Param) -> bool
     ensures { result ≡ is_param kind name.now (formal param.now) }
@@ -55,15 +55,6 @@ fn kind(bytes: &[u8]) -> Result<(ParamKind, &[u8]), Stop>
         return Ok((ParamKind::Lock, rest));
     }
     Err(Stop::Other)
-}
-
-/// A name as a text. Its letters are ASCII, so nothing of it is replaced.
-#[tactic(auto, using(crate::proofs::Basics::name_is_text))]
-pub(crate) fn text_of(alloc: Global, name: &[u8]) -> Result<String, AllocError>
-    requires { is_name name.now ≡ true }
-    ensures { IfOk result (λ text. string_bytes text ≡ name.now) }
-{
-    String::from_utf8_lossy(alloc, name)
 }
 
 #[tactic(auto, unfolding(crate::specs::Reading::param_at))]
