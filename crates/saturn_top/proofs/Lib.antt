@@ -1,2 +1,4 @@
 pub mod Basics
 pub mod Turns
+pub mod Items
+pub mod Spelled
