@@ -1,4 +1,6 @@
 pub mod Causes
 pub mod Held
+pub mod Memory
+pub mod Real
 pub mod Skip
 pub mod Taken
