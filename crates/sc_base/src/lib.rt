@@ -8,6 +8,7 @@
 pub mod fault;
 pub mod files;
 pub mod list;
+pub mod mem_files;
 pub mod mem_sink;
 pub mod pos;
 pub mod real;
@@ -18,6 +19,7 @@ pub mod skip;
 pub use fault::{Failed, OutOfMemory};
 pub use files::Files;
 pub use list::List;
+pub use mem_files::MemFiles;
 pub use mem_sink::MemSink;
 pub use pos::{NameId, Pos};
 pub use real::{RealFiles, RealSink};
