@@ -184,27 +184,27 @@ params_is (suc n) bytes x e =
     let one = one_param_is bytes a.0 a.1 in
     elim (chosen_is (after (codes ",") a.0.1) (λ rest. params_at n rest >>= λ ps. Some (p ∷ ps.0, ps.1)) (Some (p ∷ [], a.0.1)) x a.2) [
       | inl w ↦
-        let b = bind_is (params_at n w.0) (λ ps. Some (p ∷ ps.0, ps.1)) x w.2 in
-        let more = params_is n w.0 b.0 b.1 in
-        let comma = after_is (codes ",") a.0.1 w.0 w.1 in
-        let whole : bytes ≡ params_text (p ∷ b.0.0) ++ b.0.1 =
+          let b = bind_is (params_at n w.0) (λ ps. Some (p ∷ ps.0, ps.1)) x w.2 in
+          let more = params_is n w.0 b.0 b.1 in
+          let comma = after_is (codes ",") a.0.1 w.0 w.1 in
+          let whole : bytes ≡ params_text (p ∷ b.0.0) ++ b.0.1 =
           one.0 ∙ ap (λ (s : List ℕ). param_text p ++ s) (comma ∙ ap (λ (s : List ℕ). codes "," ++ s) more.spelling)
           ∙ sym (ap (λ (s : List ℕ). s ++ b.0.1) (joined p b.0.0 more.some) ∙ append_assoc (param_text p) (codes "," ++ params_text b.0.0) b.0.1) in
-        let it : ReadsParams (suc n) bytes (p ∷ b.0.0) b.0.1 = record {
-          spelling = whole;
-          some = omega arith;
-          few = omega (arith, more.few);
-          named = and_from (is_name p.name) (list_all is_name (names_of b.0.0)) one.1 more.named;
-        } in
-        subst (λ (y : List Formal × List ℕ). ReadsParams (suc n) bytes y.0 y.1) (some_is (p ∷ b.0.0, b.0.1) x b.2) it
+          let it : ReadsParams (suc n) bytes (p ∷ b.0.0) b.0.1 = record {
+            spelling = whole;
+            some = omega arith;
+            few = omega (arith, more.few);
+            named = and_from (is_name p.name) (list_all is_name (names_of b.0.0)) one.1 more.named;
+          } in
+          subst (λ (y : List Formal × List ℕ). ReadsParams (suc n) bytes y.0 y.1) (some_is (p ∷ b.0.0, b.0.1) x b.2) it
       | inr w ↦
-        let it : ReadsParams (suc n) bytes (p ∷ []) a.0.1 = record {
-          spelling = one.0;
-          some = omega arith;
-          few = omega arith;
-          named = and_from (is_name p.name) true one.1 refl;
-        } in
-        subst (λ (y : List Formal × List ℕ). ReadsParams (suc n) bytes y.0 y.1) (some_is (p ∷ [], a.0.1) x w.1) it
+          let it : ReadsParams (suc n) bytes (p ∷ []) a.0.1 = record {
+            spelling = one.0;
+            some = omega arith;
+            few = omega arith;
+            named = and_from (is_name p.name) true one.1 refl;
+          } in
+          subst (λ (y : List Formal × List ℕ). ReadsParams (suc n) bytes y.0 y.1) (some_is (p ∷ [], a.0.1) x w.1) it
     ]
 
 pub params_again : (limit : ℕ) (ps : List Formal) (rest : List ℕ) → 1 ≤ length ps → length ps ≤ limit → list_all is_name (names_of ps) ≡ true → Ends rest → after (codes ",") rest ≡ None

@@ -36,7 +36,7 @@ lock_is ps bytes x e =
     let p = place_is kinds.Lock ps bytes a.0 a.1 in
     let end = after_is (codes ");") a.0.1 b.0 b.1 in
     subst (λ (y : ℕ × List ℕ). (bytes ≡ name_of ps y.0 ++ (codes ");" ++ y.1)) × (kind_of ps y.0 ≡ Some kinds.Lock)) (some_is (a.0.0, b.0) x b.2)
-      (p.0 ∙ ap (λ (s : List ℕ). name_of ps a.0.0 ++ s) end, p.1)
+    (p.0 ∙ ap (λ (s : List ℕ). name_of ps a.0.0 ++ s) end, p.1)
 
 -- The parts are read by `one`, and whatever it gives is spelled so.
 module _ (ps : List Formal) (depth : ℕ) (one : List ℕ → Option (Code × List ℕ)) (one_is : (bytes : List ℕ) (x : Code × List ℕ) → one bytes ≡ Some x → Reads ps depth bytes x.0 x.1) where
@@ -46,19 +46,19 @@ module _ (ps : List Formal) (depth : ℕ) (one : List ℕ → Option (Code × Li
       let item : Code × List ℕ → Option (Codes × List ℕ) = λ c. block_at one turns c.1 >>= λ cs. Some (Then c.0 cs.0, cs.1) in
       elim (chosen_is (after (codes "}") bytes) (λ rest. Some (Done, rest)) (one bytes >>= item) x e) [
         | inl w ↦
-          let it : ReadsAll ps depth bytes Done w.0 = record { spelling = after_is (codes "}") bytes w.0 w.1; good = tt; low = omega arith } in
-          subst (λ (y : Codes × List ℕ). ReadsAll ps depth bytes y.0 y.1) (some_is (Done, w.0) x w.2) it
+            let it : ReadsAll ps depth bytes Done w.0 = record { spelling = after_is (codes "}") bytes w.0 w.1; good = tt; low = omega arith } in
+            subst (λ (y : Codes × List ℕ). ReadsAll ps depth bytes y.0 y.1) (some_is (Done, w.0) x w.2) it
         | inr w ↦
-          let a = bind_is (one bytes) item x w.1 in
-          let b = bind_is (block_at one turns a.0.1) (λ cs. Some (Then a.0.0 cs.0, cs.1)) x a.2 in
-          let c = one_is bytes a.0 a.1 in
-          let cs = block_is turns a.0.1 b.0 b.1 in
-          let it : ReadsAll ps depth bytes (Then a.0.0 b.0.0) b.0.1 = record {
-            spelling = c.spelling ∙ ap (λ (s : List ℕ). spelled ps a.0.0 ++ s) cs.spelling ∙ sym (append_assoc (spelled ps a.0.0) (all_spelled ps b.0.0) (codes "}" ++ b.0.1));
-            good = (c.good, cs.good);
-            low = omega (arith, c.low, cs.low);
-          } in
-          subst (λ (y : Codes × List ℕ). ReadsAll ps depth bytes y.0 y.1) (some_is (Then a.0.0 b.0.0, b.0.1) x b.2) it
+            let a = bind_is (one bytes) item x w.1 in
+            let b = bind_is (block_at one turns a.0.1) (λ cs. Some (Then a.0.0 cs.0, cs.1)) x a.2 in
+            let c = one_is bytes a.0 a.1 in
+            let cs = block_is turns a.0.1 b.0 b.1 in
+            let it : ReadsAll ps depth bytes (Then a.0.0 b.0.0) b.0.1 = record {
+              spelling = c.spelling ∙ ap (λ (s : List ℕ). spelled ps a.0.0 ++ s) cs.spelling ∙ sym (append_assoc (spelled ps a.0.0) (all_spelled ps b.0.0) (codes "}" ++ b.0.1));
+              good = (c.good, cs.good);
+              low = omega (arith, c.low, cs.low);
+            } in
+            subst (λ (y : Codes × List ℕ). ReadsAll ps depth bytes y.0 y.1) (some_is (Then a.0.0 b.0.0, b.0.1) x b.2) it
       ]
 
   choice_is : (bytes : List ℕ) (x : Code × List ℕ) → choice_at one ps bytes ≡ Some x → Reads ps (suc depth) (codes "if(" ++ bytes) x.0 x.1
@@ -76,27 +76,27 @@ module _ (ps : List Formal) (depth : ℕ) (one : List ℕ → Option (Code × Li
       let front : bytes ≡ name ++ (codes ")" ++ (spelled ps c.0.0 ++ c.0.1)) = flag.0 ∙ ap (λ (s : List ℕ). name ++ s) (close ∙ ap (λ (s : List ℕ). codes ")" ++ s) branch.spelling) in
       elim (chosen_is (after (codes "else ") c.0.1) (λ rest. one rest >>= λ d. Some (IfElse at c.0.0 d.0, d.1)) (Some (If at c.0.0, c.0.1)) x c.2) [
         | inl w ↦
-          let d = bind_is (one w.0) (λ d. Some (IfElse at c.0.0 d.0, d.1)) x w.2 in
-          let other = one_is w.0 d.0 d.1 in
-          let behind : c.0.1 ≡ codes "else " ++ (spelled ps d.0.0 ++ d.0.1) = after_is (codes "else ") c.0.1 w.0 w.1 ∙ ap (λ (s : List ℕ). codes "else " ++ s) other.spelling in
-          let inner = codes "else " ++ spelled ps d.0.0 in
-          let flat : (name ++ (codes ")" ++ (spelled ps c.0.0 ++ inner))) ++ d.0.1 ≡ name ++ (codes ")" ++ (spelled ps c.0.0 ++ (inner ++ d.0.1))) =
+            let d = bind_is (one w.0) (λ d. Some (IfElse at c.0.0 d.0, d.1)) x w.2 in
+            let other = one_is w.0 d.0 d.1 in
+            let behind : c.0.1 ≡ codes "else " ++ (spelled ps d.0.0 ++ d.0.1) = after_is (codes "else ") c.0.1 w.0 w.1 ∙ ap (λ (s : List ℕ). codes "else " ++ s) other.spelling in
+            let inner = codes "else " ++ spelled ps d.0.0 in
+            let flat : (name ++ (codes ")" ++ (spelled ps c.0.0 ++ inner))) ++ d.0.1 ≡ name ++ (codes ")" ++ (spelled ps c.0.0 ++ (inner ++ d.0.1))) =
             append_assoc name (codes ")" ++ (spelled ps c.0.0 ++ inner)) d.0.1 ∙ ap (λ (s : List ℕ). name ++ (codes ")" ++ s)) (append_assoc (spelled ps c.0.0) inner d.0.1) in
-          let it : Reads ps (suc depth) (codes "if(" ++ bytes) (IfElse at c.0.0 d.0.0) d.0.1 = record {
-            spelling = ap (λ (s : List ℕ). codes "if(" ++ s) (front ∙ ap (λ (s : List ℕ). name ++ (codes ")" ++ (spelled ps c.0.0 ++ s))) behind ∙ sym flat);
-            good = (flag.1, not_both (takes_else c.0.0) (after (codes "else ") c.0.1) w.0 branch.nearest w.1, branch.good, other.good);
-            low = omega (arith, branch.low, other.low);
-            nearest = other.nearest;
-          } in
-          subst (λ (y : Code × List ℕ). Reads ps (suc depth) (codes "if(" ++ bytes) y.0 y.1) (some_is (IfElse at c.0.0 d.0.0, d.0.1) x d.2) it
+            let it : Reads ps (suc depth) (codes "if(" ++ bytes) (IfElse at c.0.0 d.0.0) d.0.1 = record {
+              spelling = ap (λ (s : List ℕ). codes "if(" ++ s) (front ∙ ap (λ (s : List ℕ). name ++ (codes ")" ++ (spelled ps c.0.0 ++ s))) behind ∙ sym flat);
+              good = (flag.1, not_both (takes_else c.0.0) (after (codes "else ") c.0.1) w.0 branch.nearest w.1, branch.good, other.good);
+              low = omega (arith, branch.low, other.low);
+              nearest = other.nearest;
+            } in
+            subst (λ (y : Code × List ℕ). Reads ps (suc depth) (codes "if(" ++ bytes) y.0 y.1) (some_is (IfElse at c.0.0 d.0.0, d.0.1) x d.2) it
         | inr w ↦
-          let it : Reads ps (suc depth) (codes "if(" ++ bytes) (If at c.0.0) c.0.1 = record {
-            spelling = ap (λ (s : List ℕ). codes "if(" ++ s) (front ∙ sym (append_assoc name (codes ")" ++ spelled ps c.0.0) c.0.1));
-            good = (flag.1, branch.good);
-            low = omega (arith, branch.low);
-            nearest = λ _. w.0;
-          } in
-          subst (λ (y : Code × List ℕ). Reads ps (suc depth) (codes "if(" ++ bytes) y.0 y.1) (some_is (If at c.0.0, c.0.1) x w.1) it
+            let it : Reads ps (suc depth) (codes "if(" ++ bytes) (If at c.0.0) c.0.1 = record {
+              spelling = ap (λ (s : List ℕ). codes "if(" ++ s) (front ∙ sym (append_assoc name (codes ")" ++ spelled ps c.0.0) c.0.1));
+              good = (flag.1, branch.good);
+              low = omega (arith, branch.low);
+              nearest = λ _. w.0;
+            } in
+            subst (λ (y : Code × List ℕ). Reads ps (suc depth) (codes "if(" ++ bytes) y.0 y.1) (some_is (If at c.0.0, c.0.1) x w.1) it
       ]
 
   -- a call, read behind its opening bracket
@@ -134,8 +134,8 @@ module _ (ps : List Formal) (depth : ℕ) (one : List ℕ → Option (Code × Li
   returning_is bytes x e =
       elim (chosen_is (after (codes "return;") bytes) (λ rest. Some (Return, rest)) None x e) [
         | inl w ↦
-          let it : Reads ps (suc depth) bytes Return w.0 = record { spelling = after_is (codes "return;") bytes w.0 w.1; good = tt; low = omega arith; nearest = λ t. not_true t } in
-          subst (λ (y : Code × List ℕ). Reads ps (suc depth) bytes y.0 y.1) (some_is (Return, w.0) x w.2) it
+            let it : Reads ps (suc depth) bytes Return w.0 = record { spelling = after_is (codes "return;") bytes w.0 w.1; good = tt; low = omega arith; nearest = λ t. not_true t } in
+            subst (λ (y : Code × List ℕ). Reads ps (suc depth) bytes y.0 y.1) (some_is (Return, w.0) x w.2) it
         | inr w ↦ absurd cc
       ]
 
@@ -165,16 +165,16 @@ module _ (ps : List Formal) (depth : ℕ) (one : List ℕ → Option (Code × Li
   step_is bytes x e =
       elim (chosen_is (after (codes "{") bytes) (λ rest. block_at one (length rest) rest >>= λ b. Some (Block b.0, b.1)) (locking bytes) x e) [
         | inl w ↦
-          let a = bind_is (block_at one (length w.0) w.0) (λ b. Some (Block b.0, b.1)) x w.2 in
-          let cs = block_is (length w.0) w.0 a.0 a.1 in
-          let flat : (all_spelled ps a.0.0 ++ codes "}") ++ a.0.1 ≡ all_spelled ps a.0.0 ++ (codes "}" ++ a.0.1) = append_assoc (all_spelled ps a.0.0) (codes "}") a.0.1 in
-          let it : Reads ps (suc depth) bytes (Block a.0.0) a.0.1 = record {
-            spelling = after_is (codes "{") bytes w.0 w.1 ∙ ap (λ (s : List ℕ). codes "{" ++ s) (cs.spelling ∙ sym flat);
-            good = cs.good;
-            low = omega (arith, cs.low);
-            nearest = λ t. not_true t;
-          } in
-          subst (λ (y : Code × List ℕ). Reads ps (suc depth) bytes y.0 y.1) (some_is (Block a.0.0, a.0.1) x a.2) it
+            let a = bind_is (block_at one (length w.0) w.0) (λ b. Some (Block b.0, b.1)) x w.2 in
+            let cs = block_is (length w.0) w.0 a.0 a.1 in
+            let flat : (all_spelled ps a.0.0 ++ codes "}") ++ a.0.1 ≡ all_spelled ps a.0.0 ++ (codes "}" ++ a.0.1) = append_assoc (all_spelled ps a.0.0) (codes "}") a.0.1 in
+            let it : Reads ps (suc depth) bytes (Block a.0.0) a.0.1 = record {
+              spelling = after_is (codes "{") bytes w.0 w.1 ∙ ap (λ (s : List ℕ). codes "{" ++ s) (cs.spelling ∙ sym flat);
+              good = cs.good;
+              low = omega (arith, cs.low);
+              nearest = λ t. not_true t;
+            } in
+            subst (λ (y : Code × List ℕ). Reads ps (suc depth) bytes y.0 y.1) (some_is (Block a.0.0, a.0.1) x a.2) it
         | inr w ↦ locking_is bytes x w.1
       ]
 

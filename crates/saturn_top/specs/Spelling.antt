@@ -91,6 +91,7 @@ abbrev mutual
   spelled ps (If at c) = codes "if(" ++ (name_of ps at ++ (codes ")" ++ spelled ps c))
   spelled ps (IfElse at c d) = codes "if(" ++ (name_of ps at ++ (codes ")" ++ (spelled ps c ++ (codes "else " ++ spelled ps d))))
   spelled ps Return = codes "return;"
+
   pub all_spelled : List Formal → Codes → List ℕ
   all_spelled ps Done = []
   all_spelled ps (Then c cs) = spelled ps c ++ all_spelled ps cs
@@ -110,6 +111,7 @@ abbrev mutual
   IsGood ps (If at c) = (kind_of ps at ≡ Some kinds.Flag) × IsGood ps c
   IsGood ps (IfElse at c d) = (kind_of ps at ≡ Some kinds.Flag) × (takes_else c ≡ false) × IsGood ps c × IsGood ps d
   IsGood ps Return = Unit {0}
+
   pub AreGood : List Formal → Codes → Type 0
   AreGood ps Done = Unit {0}
   AreGood ps (Then c cs) = IsGood ps c × AreGood ps cs
@@ -123,6 +125,7 @@ abbrev mutual
   height (If at c) = suc (height c)
   height (IfElse at c d) = suc (max (height c) (height d))
   height Return = 1
+
   pub all_height : Codes → ℕ
   all_height Done = 0
   all_height (Then c cs) = max (height c) (all_height cs)

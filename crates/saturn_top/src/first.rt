@@ -1,9 +1,18 @@
-// First forms: files of one function over locks and flags.
+// First forms: files of one function over locks and flags, from the bytes to the text that is printed.
+//
+// Bytes are read into a tree (`read`), the tree is run on each choice (`run`), the runs give rows (`rows`)
+// and reports (`reports`), which are put together (`summary`) and printed (`text`). Each has its
+// definitions in `specs/`. `laws` says what holds of the definitions.
 #![tactic(auto)]
 
 pub mod laws;
 mod names;
 mod params;
 pub mod read;
+pub mod reports;
+pub mod rows;
+pub mod run;
 mod statements;
 pub mod stop;
+pub mod summary;
+pub mod text;

@@ -8,5 +8,4 @@ ghost use Rattle.saturn_top.specs.Reading.{statement_at};
 
 pub fn read_as_spelled()
     ensures { (ps : List Formal) (depth : ℕ) (bytes : List ℕ) (x : Code × List ℕ) → statement_at ps depth bytes ≡ Some x → height x.0 ≤ depth }
-{
-}
+{}

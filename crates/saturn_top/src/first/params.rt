@@ -68,11 +68,7 @@ fn param(alloc: Global, bytes: &[u8]) -> Result<(Param, &[u8]), Stop>
 }
 
 /// As many parameters as commas lead to, and no more than the limit.
-pub(crate) fn params(
-    alloc: Global,
-    limit: usize,
-    bytes: &[u8],
-) -> Result<(Vec<Param>, &[u8]), Stop>
+pub(crate) fn params(alloc: Global, limit: usize, bytes: &[u8]) -> Result<(Vec<Param>, &[u8]), Stop>
     ensures { Gives (λ x. (map formal x.0.items, x.1.now)) result (params_at limit bytes.now) }
 {
     let mut params = Vec::new(alloc);

@@ -8,7 +8,7 @@ ghost use Rattle.saturn_top.specs.Reading.{Gives, block_at, choice_at, lock_at, 
 use crate::first::names::{after, expect};
 use crate::first::params::place;
 use crate::first::stop::Stop;
-use sc_tree::first::{make_block, Param, ParamKind, Stmt};
+use sc_tree::first::{Param, ParamKind, Stmt, make_block};
 use std::alloc::Global;
 
 /// The lock that a call names, by its number. The call's opening bracket was read.
