@@ -2,3 +2,4 @@ pub mod Basics
 pub mod Turns
 pub mod Items
 pub mod Spelled
+pub mod Again
