@@ -3,3 +3,4 @@ pub mod Turns
 pub mod Items
 pub mod Spelled
 pub mod Again
+pub mod Whole
