@@ -6,4 +6,4 @@ mod names;
 mod params;
 pub mod read;
 mod statements;
-pub mod stop;
+mod stop;

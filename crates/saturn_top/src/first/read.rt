@@ -105,3 +105,6 @@ pub fn read_first(alloc: Global, bytes: &[u8]) -> Result<Option<First>, OutOfMem
         Err(Stop::Memory) => Err(OutOfMemory),
     }
 }
+
+#[cfg(test)]
+mod tests;
