@@ -2,6 +2,10 @@ pub mod Basics
 pub mod Turns
 pub mod Items
 pub mod Spelled
+pub mod Again
+pub mod Whole
 pub mod Numbers
 pub mod Digits
 pub mod Bounds
+pub mod Members
+pub mod RowProofs

@@ -1,14 +1,16 @@
 // Reading a first form from the bytes of a file.
 #![tactic(auto)]
 
-ghost use Rattle.std.specs.Prelude.{◌≡◌, length, map, string_bytes};
-ghost use Rattle.sc_tree.specs.Tree.{code_list, form, formal, seen};
+ghost use Rattle.std.specs.Prelude.{◌≡◌, IfNone, IfOk, IfSome, Some, length, map, option_map, string_bytes};
+ghost use Rattle.sc_tree.specs.Tree.{Form, code_list, form, formal, seen};
+ghost use Rattle.saturn_top.specs.Spelling.{IsFirst};
 ghost use Rattle.saturn_top.specs.Reading.{Gives, body_at, form_at, head_at, is_end, whole_at};
 
 use crate::first::names::{expect, name, text_of};
 use crate::first::params::{are_different, params};
 use crate::first::statements::block;
 use crate::first::stop::Stop;
+use sc_base::OutOfMemory;
 use sc_tree::first::{First, Param, Stmt};
 use std::alloc::Global;
 
@@ -83,3 +85,26 @@ fn first(alloc: Global, bytes: &[u8]) -> Result<First, Stop>
     }
     whole(alloc, bytes)
 }
+
+/// The first form that a file spells, or nothing where its bytes are not a first form.
+///
+/// # Errors
+///
+/// Memory was refused. What was read by then is dropped.
+pub fn read_first(alloc: Global, bytes: &[u8]) -> Result<Option<First>, OutOfMemory>
+    // What is read is spelled so.
+    ensures found { IfOk result (λ read. IfSome read (λ f. IsFirst (form f) bytes.now)) }
+    // What is spelled so is read.
+    ensures only { (f : Form) → IsFirst f bytes.now → IfOk result (λ read. option_map form read ≡ Some f) }
+    // Nothing is read only where no first form spells the bytes.
+    ensures none { IfOk result (λ read. IfNone read ((f : Form) → IsFirst f bytes.now → ⊥)) }
+{
+    match first(alloc, bytes) {
+        Ok(first) => Ok(Some(first)),
+        Err(Stop::Other) => Ok(None),
+        Err(Stop::Memory) => Err(OutOfMemory),
+    }
+}
+
+#[cfg(test)]
+mod tests;
