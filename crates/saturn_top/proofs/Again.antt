@@ -59,6 +59,7 @@ absurd_bool b f t = absurd cc
 
 mutual
   unfolding statement_step lock_at choice_at
+
   pub statement_again : (c : Code) (ps : List Formal) (depth : ℕ) (rest : List ℕ) → AreNamed ps → IsGood ps c → height c ≤ depth → (takes_else c ≡ true → after (codes "else ") rest ≡ None)
       → statement_at ps depth (spelled ps c ++ rest) ≡ Some (c, rest)
   statement_again (Block cs) ps zero rest names good low nearest = let bad : ⊥ = omega arith in absurd bad

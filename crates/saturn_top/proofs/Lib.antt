@@ -9,3 +9,5 @@ pub mod Digits
 pub mod Bounds
 pub mod Members
 pub mod RowProofs
+pub mod Order
+pub mod AllChoices

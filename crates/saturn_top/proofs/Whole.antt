@@ -154,10 +154,10 @@ pub form_again : (bytes : List ℕ) (f : Form) → IsFirst f bytes → form_at b
 unfolding form_at
 form_again bytes f h =
     let whole : whole_at bytes ≡ Some f =
-      elim h.spelling [
-        | inl e ↦ rw e (ap (λ (s : List ℕ). whole_at s) (sym (append-nil (form_text f))) ∙ whole_again f [] h.good refl)
-        | inr e ↦ rw e (whole_again f (codes "\n") h.good refl)
-      ] in
+    elim h.spelling [
+      | inl e ↦ rw e (ap (λ (s : List ℕ). whole_at s) (sym (append-nil (form_text f))) ∙ whole_again f [] h.good refl)
+      | inr e ↦ rw e (whole_again f (codes "\n") h.good refl)
+    ] in
     rw (short_is (length bytes) h.short, whole) refl
 
 -- ---- laws that follow
@@ -176,11 +176,13 @@ not_both : {A : Type 0} (o : Option A) (x : A) → o ≡ None → o ≡ Some x �
 not_both o x a b = cc
 
 pub no_form : (bytes : List ℕ) → (form_at bytes ≡ None) ↔ ((f : Form) → IsFirst f bytes → ⊥)
-no_form bytes =
-    (λ e f h. not_both (form_at bytes) f e (form_again bytes f h), λ none. elim (none_or_some (form_at bytes)) [
-      | inl e ↦ e
-      | inr x ↦ absurd (none x.0 (form_is bytes x.0 x.1))
-    ])
+no_form bytes = (
+  λ e f h. not_both (form_at bytes) f e (form_again bytes f h),
+  λ none. elim (none_or_some (form_at bytes)) [
+    | inl e ↦ e
+    | inr x ↦ absurd (none x.0 (form_is bytes x.0 x.1))
+  ],
+)
 
 -- With nothing behind them two statements that are spelled alike are what is read.
 pub one_statement : (ps : List Formal) (c d : Code) → AreParams ps → IsGood ps c → IsGood ps d → spelled ps c ≡ spelled ps d → c ≡ d

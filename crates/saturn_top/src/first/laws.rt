@@ -12,23 +12,19 @@ pub fn reading_is_spelling()
     ensures read { (bytes : List ℕ) (f : Form) → form_at bytes ≡ Some f → IsFirst f bytes }
     ensures again { (bytes : List ℕ) (f : Form) → IsFirst f bytes → form_at bytes ≡ Some f }
     ensures none { (bytes : List ℕ) → (form_at bytes ≡ None) ↔ ((f : Form) → IsFirst f bytes → ⊥) }
-{
-}
+{}
 
 /// Bytes have at most one first form.
 pub fn one_form()
     ensures { (f g : Form) (bytes : List ℕ) → IsFirst f bytes → IsFirst g bytes → f ≡ g }
-{
-}
+{}
 
 /// A first form has one spelling, but for a line feed that may end it.
 pub fn one_spelling()
     ensures { (f : Form) (a b : List ℕ) → IsFirst f a → IsFirst f b → (a ≡ b) ⊎ ((a ≡ b ++ codes "\n") ⊎ (b ≡ a ++ codes "\n")) }
-{
-}
+{}
 
 /// Statements that are spelled alike are one statement: each `else` has one `if` to belong to.
 pub fn one_statement()
     ensures { (ps : List Formal) (c d : Code) → AreParams ps → IsGood ps c → IsGood ps d → spelled ps c ≡ spelled ps d → c ≡ d }
-{
-}
+{}

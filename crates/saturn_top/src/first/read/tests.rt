@@ -20,9 +20,13 @@ fn a_lock_under_a_flag(rt: HostRuntime) -> Result<(), Fail> {
     let bytes = file(rt.alloc(), "{spin_lock(l);if(c)if(c)return;else {}}\n")?;
     let first = read_first(rt.alloc(), bytes.as_bytes())?.ok_or("the file is a first form")?;
     assert_eq!(rt; first.name.as_str(), "f");
-    assert!(rt; matches!(first.params.as_slice(), [c, l] if c.kind == ParamKind::Flag && l.kind == ParamKind::Lock));
+    assert!(rt;
+        matches!(first.params.as_slice(), [c, l] if c.kind == ParamKind::Flag && l.kind == ParamKind::Lock)
+    );
     // The `else` is that of the inner `if`.
-    assert!(rt; matches!(first.body.as_slice(), [Stmt::Lock(1), Stmt::If(0, inner)] if matches!(&**inner, Stmt::IfElse(0, _, _))));
+    assert!(rt;
+        matches!(first.body.as_slice(), [Stmt::Lock(1), Stmt::If(0, inner)] if matches!(&**inner, Stmt::IfElse(0, _, _)))
+    );
     Ok(())
 }
 
