@@ -1,5 +1,5 @@
 -- Names and parameters: what is read is spelled so, and what is spelled so is read.
-use Rattle.std.proofs.Common.{◌≡◌, ℕ, zero, suc, ◌+◌, ◌<◌, ◌≤◌, Bool, true, false, cond, List, [], ◌∷◌, ◌++◌, length, take, drop, map, Option, Some, None, refl, sym, ap, subst, ◌∙◌, append_assoc, add-one, arith, inl, inr}
+use Rattle.std.proofs.Common.{◌≡◌, ℕ, zero, suc, ◌+◌, ◌≤◌, Bool, true, false, cond, List, [], ◌∷◌, ◌++◌, length, take, drop, Option, Some, None, refl, sym, ap, subst, ◌∙◌, append_assoc, add-one, arith, inl, inr}
 use Rattle.std.specs.Prelude.{◌&&◌, ◌||◌, not, codes, bytes_eq, option_map}
 use Rattle.std.specs.List.{list_all, list_any, prefix_len}
 use Rattle.std.specs.Char.{is_ascii_lowercase}
@@ -11,7 +11,7 @@ use Rattle.sc_tree.specs.declared.first.ParamKind.TheVariants as kinds
 use Rattle.sc_tree.specs.Tree.{Formal}
 use Rattle.saturn_top.specs.Spelling.{is_name, name_of, kind_of, names_of, are_different, kind_text, param_text, params_text}
 use Rattle.saturn_top.specs.Reading.{◌>>=◌, chosen, after, name_at, is_kind, is_param, param_of, place_at, kind_at, param_at, params_at}
-use Rattle.saturn_top.proofs.Basics.{bind_is, chosen_is, test_is, some_is, after_is, after_again, NameParts, name_parts}
+use Rattle.saturn_top.proofs.Basics.{bind_is, chosen_is, test_is, some_is, after_is, name_parts}
 
 -- no letter stands at the front, so a name ends there
 abbrev pub Ends : List ℕ → Type 0

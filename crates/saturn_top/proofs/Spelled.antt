@@ -1,5 +1,5 @@
 -- What is read is spelled so, and is in good form: statements.
-use Rattle.std.proofs.Common.{◌≡◌, ℕ, zero, suc, ◌+◌, ◌<◌, ◌≤◌, max, Bool, true, false, cond, List, [], ◌∷◌, ◌++◌, length, Option, Some, None, refl, sym, ap, subst, ◌∙◌, append_assoc, arith, inl, inr}
+use Rattle.std.proofs.Common.{◌≡◌, ℕ, zero, suc, ◌≤◌, Bool, true, false, List, ◌++◌, length, Option, Some, None, refl, sym, ap, subst, ◌∙◌, append_assoc, arith, inl, inr}
 use Rattle.std.specs.Prelude.{codes}
 use Rattle.sc_tree.specs.declared.first.ParamKind.TheVariants as kinds
 use Rattle.sc_tree.specs.Tree.{Code, Codes, Block, Lock, Unlock, If, IfElse, Return, Done, Then, Formal}

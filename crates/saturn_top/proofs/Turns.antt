@@ -1,13 +1,12 @@
 -- Reading parameters, and the statements of a block, one in each turn of a loop.
 --
 -- Both loops keep that what was read so far, before what is still to read, is the whole reading.
-use Rattle.std.proofs.Common.{◌≡◌, ℕ, zero, suc, ◌+◌, ◌-◌, ◌<◌, ◌≤◌, List, [], ◌∷◌, ◌++◌, length, Option, Some, None, map, refl, sym, ap, ◌∙◌, append_assoc, arith}
+use Rattle.std.proofs.Common.{◌≡◌, ℕ, suc, ◌+◌, ◌-◌, ◌<◌, ◌≤◌, List, [], ◌∷◌, ◌++◌, Option, Some, None, refl, sym, ap, ◌∙◌, append_assoc, arith}
 use Rattle.std.specs.Prelude.{codes}
-use Rattle.std.proofs.lemmas.List.{map-append}
 use Rattle.sc_tree.specs.Tree.{Code, Codes, Done, Then, Formal, code_list}
 use Rattle.saturn_top.specs.declared.first.stop.Stop.{Stop}
 use Rattle.saturn_top.specs.declared.first.stop.Stop.TheVariants as stops
-use Rattle.saturn_top.specs.Reading.{◌>>=◌, chosen, Fails, after, param_at, params_at, block_at}
+use Rattle.saturn_top.specs.Reading.{◌>>=◌, Fails, after, param_at, params_at, block_at}
 
 -- ---- parameters
 

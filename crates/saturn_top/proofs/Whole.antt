@@ -1,12 +1,11 @@
 -- The file: what is read is spelled so, and what is spelled so is read.
-use Rattle.std.proofs.Common.{◌≡◌, ℕ, zero, suc, ◌+◌, ◌<◌, ◌≤◌, max, Bool, true, false, cond, List, [], ◌∷◌, ◌++◌, length, Option, Some, None, ◌⊎◌, inl, inr, refl, sym, ap, subst, ◌∙◌, append_assoc, arith}
+use Rattle.std.proofs.Common.{◌≡◌, ℕ, ◌≤◌, max, Bool, true, false, cond, List, [], ◌++◌, length, Option, Some, None, ◌⊎◌, inl, inr, refl, sym, ap, subst, ◌∙◌, append_assoc, arith}
 use Rattle.std.specs.Prelude.{◌||◌, ◌↔◌, codes, bytes_eq, nat_le}
-use Rattle.std.specs.List.{list_all}
 use Rattle.std.proofs.lemmas.Bool.{leb-true}
 use Rattle.std.proofs.lemmas.List.{append-nil}
 use Rattle.std.proofs.lemmas.Slice.Eq.{bytes_eq-Decides}
 use Rattle.sc_tree.specs.Tree.{Code, Codes, Block, Formal, Form}
-use Rattle.saturn_top.specs.Spelling.{is_name, names_of, are_different, AreParams, params_text, spelled, all_spelled, takes_else, IsGood, AreGood, height, all_height, form_text, IsGoodForm, IsFirst}
+use Rattle.saturn_top.specs.Spelling.{is_name, names_of, are_different, AreParams, params_text, spelled, all_spelled, IsGood, AreGood, height, all_height, form_text, IsGoodForm, IsFirst}
 use Rattle.saturn_top.specs.Reading.{◌>>=◌, after, name_at, params_at, block_at, statement_at, head_at, is_end, body_at, whole_at, form_at}
 use Rattle.saturn_top.proofs.Basics.{bind_is, test_is, some_is, after_is}
 use Rattle.saturn_top.proofs.Items.{name_is, name_again, params_is, params_again, AreNamed}

@@ -12,7 +12,7 @@
 -- H is `typedef struct{int v;}spinlock_t;`. There is no other white space, but that a line feed may end
 -- the file. Names of parameters differ, a lock call names a lock, an `if` names a flag, and an `else`
 -- belongs to the nearest `if`. A file has at most 4,096 bytes, and is nested at most 16 deep.
-use Rattle.std.specs.Prelude.{◌≡◌, ℕ, zero, suc, ◌≤◌, max, Bool, true, false, not, ◌&&◌, ◌||◌, nat_le, List, [], ◌∷◌, ◌++◌, length, map, Option, Some, None, codes, bytes_eq, ◌⊎◌}
+use Rattle.std.specs.Prelude.{◌≡◌, ℕ, zero, suc, ◌≤◌, max, Bool, true, false, not, ◌&&◌, nat_le, List, [], ◌∷◌, ◌++◌, length, map, Option, Some, None, codes, bytes_eq, ◌⊎◌}
 use Rattle.std.specs.List.{list_all, list_any}
 use Rattle.std.specs.Char.{is_ascii_lowercase}
 use Rattle.sc_tree.specs.declared.first.ParamKind.{ParamKind}

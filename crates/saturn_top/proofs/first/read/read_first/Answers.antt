@@ -1,4 +1,4 @@
-use Rattle.std.proofs.Common.{◌≡◌, Some, None, sym, ◌∙◌}
+use Rattle.std.proofs.Common.{◌≡◌, None, sym, ◌∙◌}
 use Rattle.sc_tree.specs.Tree.{form}
 use Rattle.saturn_top.specs.Reading.{form_at}
 use Rattle.saturn_top.proofs.Whole.{form_is, form_again, no_form}
