@@ -1,3 +1,4 @@
+pub mod Transfers
 pub mod Basics
 pub mod Turns
 pub mod Items
@@ -7,5 +8,3 @@ pub mod Whole
 pub mod Numbers
 pub mod Digits
 pub mod Bounds
-pub mod Members
-pub mod RowProofs
