@@ -1,3 +1,4 @@
+pub mod Transfers
 pub mod Basics
 pub mod Turns
 pub mod Items

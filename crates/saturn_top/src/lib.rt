@@ -1,4 +1,5 @@
-// The top calls of the checker.
+// The top calls of the checker: words and files in, text and a status out.
 #![tactic(auto)]
 
 pub mod first;
+pub mod transfer;

@@ -10,7 +10,7 @@ use Rattle.std.specs.Str.{bytes_eq}
 use Rattle.std.proofs.lemmas.Cmp.{nat_list_eq_equiv}
 use Rattle.indexmap.specs.IndexSet.{insert_key}
 use Rattle.sc_base.specs.Held.{is_named}
-use Rattle.sc_base.specs.Names.{place_of, with_text, all_different}
+use Rattle.sc_base.specs.Names.{place_of, all_different}
 
 abbrev Keys : Type 0
 Keys = List (String Global)
@@ -74,7 +74,7 @@ all_different-push (t ∷ texts) text different absent =
     let others = neither _ _ absent in
     let flipped : bytes_eq t text ≡ false = nat_list_eq_equiv.symm t text ∙ others.0 in
     let named : is_named t (texts ++ text ∷ []) ≡ false =
-        list_any-append (bytes_eq t) texts (text ∷ []) ∙ nor (is_named t texts) (bytes_eq t text) (negated (is_named t texts) first.0) flipped in
+    list_any-append (bytes_eq t) texts (text ∷ []) ∙ nor (is_named t texts) (bytes_eq t text) (negated (is_named t texts) first.0) flipped in
     joined (is_named t (texts ++ text ∷ [])) (all_different (texts ++ text ∷ [])) named (all_different-push texts text first.1 others.1)
 
 -- the texts of the keys with one more

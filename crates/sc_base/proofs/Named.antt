@@ -1,5 +1,5 @@
 -- What it means that a name is one of those that are held: look-ups of files by name.
-use Rattle.std.proofs.Common.{◌≡◌, ◌==◌, ◌||◌, ◌+◌, ◌<◌, ℕ, Bool, true, false, List, [], ◌∷◌, map, length, drop, get_or, Option, Some, None, is_some, if◌then◌else◌, refl, sym, ◌∙◌, ap, arith, drop-cons, string_bytes, String, Vec}
+use Rattle.std.proofs.Common.{◌≡◌, ◌==◌, ◌||◌, ◌<◌, ℕ, true, false, List, [], ◌∷◌, map, length, drop, get_or, Some, None, is_some, if◌then◌else◌, refl, arith, drop-cons, string_bytes, String, Vec}
 use Rattle.std.proofs.lemmas.Option.{slice_get-get_or}
 use Rattle.std.specs.declared.alloc.Global.{Global}
 use Rattle.std.specs.List.{list_any}

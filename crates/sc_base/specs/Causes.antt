@@ -1,6 +1,6 @@
 -- What comes from outside has a count of faults, a number that never falls. A call may fail only
 -- where that count rose in it, so code that gives up by itself is told from a fault outside.
-use Rattle.std.specs.Prelude.{◌≡◌, ◌⊎◌, ℕ, ◌+◌, ◌-◌, ◌^◌, ◌≤◌, min, Result, OnErr}
+use Rattle.std.specs.Prelude.{ℕ, ◌+◌, ◌-◌, ◌^◌, ◌≤◌, min, Result, OnErr}
 
 -- The count rose, or it stands at the greatest value of its 64 bits, where it cannot rise.
 abbrev pub Rose : ℕ → ℕ → Type 0

@@ -1,5 +1,5 @@
 -- What contracts see of the sink and of the files that are kept in memory.
-use Rattle.std.specs.Prelude.{ℕ, Vec, String, string_bytes, ◌+◌, ◌-◌, ◌^◌, ◌==◌, min, Bool, if◌then◌else◌, List, [], map, length, Option, Some, None, slice_get}
+use Rattle.std.specs.Prelude.{ℕ, Vec, String, string_bytes, ◌+◌, ◌-◌, ◌^◌, ◌==◌, min, Bool, if◌then◌else◌, List, [], map, length, Option, None, slice_get}
 use Rattle.std.specs.declared.alloc.Global.{Global}
 use Rattle.std.specs.List.{list_any}
 use Rattle.std.specs.Option.{option_map_or}

@@ -68,16 +68,10 @@ impl Sink for MemSink {
         ensures room { self.new.room ≡ self.old.room }
     {
         let count = bytes.len().min(self.room - self.bytes.len());
-        if count == 0 {
+        if count == 0 || self.bytes.extend_from_slice(&bytes[..count]).is_err() {
             self.faults = self.faults.saturating_add(1);
             return Err(Failed);
         }
-        match self.bytes.extend_from_slice(&bytes[..count]) {
-            Ok(()) => Ok(count),
-            Err(_) => {
-                self.faults = self.faults.saturating_add(1);
-                Err(Failed)
-            }
-        }
+        Ok(count)
     }
 }

@@ -10,7 +10,7 @@ use std::alloc::Global;
 use std::marker::Model;
 
 /// The interned texts. Contracts see the list of them, in which all are different.
-#[derive(Drop)]
+#[derive(Debug, Drop)]
 pub struct Names {
     alloc: Global,
     texts: IndexSet<String>,
@@ -77,7 +77,7 @@ impl Names {
 fn found(texts: &IndexSet<String>, text: &str) -> Option<usize>
     ensures { MatchOption result (is_named text.now (map string_bytes texts.now.keys) ≡ false)
         (λ at. (is_named text.now (map string_bytes texts.now.keys) ≡ true) × (at ≡ place_of text.now (map string_bytes texts.now.keys)) × (at < length texts.now.keys)
-            × (slice_get (map string_bytes texts.now.keys) at ≡ Some text.now)) }
+        × (slice_get (map string_bytes texts.now.keys) at ≡ Some text.now)) }
 {
     texts.get_index_of(text)
 }
