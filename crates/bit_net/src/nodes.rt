@@ -1,0 +1,321 @@
+//! Gates, the nodes behind them, and the net that holds the nodes.
+ghost use Rattle.std.specs.Prelude.{◌≡◌, ℕ, ◌+◌, ◌<◌, ◌≤◌, Bool, true, false, not, ◌&&◌, if◌then◌else◌, List, length, slice_get, IfOk, OnErr, IfSome, IsTrue, Some, ◌↔◌};
+ghost use Rattle.bit_net.specs.Value.{bit_at, xor, table, values};
+ghost use Rattle.bit_net.specs.Circuit.{first_nodes, input_count, ReadsBelow, IsCircuit};
+ghost use Rattle.bit_net.specs.Runs.{Grown, Gives, Always};
+
+use crate::OutOfMemory;
+use indexmap::IndexSet;
+use std::alloc::Global;
+use std::marker::Model;
+
+/// A gate of a net: the place of its node.
+#[derive(Clone, Copy, Debug, PartialEq, Eq, Hash)]
+pub struct Gate {
+    pub at: usize,
+}
+
+/// What a gate computes, from the gates of earlier nodes.
+#[derive(Clone, Copy, Debug, PartialEq, Eq, Hash)]
+pub enum Node {
+    Constant(bool),
+
+    /// The bit of the choice with this number.
+    Input(usize),
+    Not(Gate),
+    And(Gate, Gate),
+    Xor(Gate, Gate),
+
+    /// The second gate where the first holds, else the third.
+    Mux(Gate, Gate, Gate),
+}
+
+/// A net of gates. A clause sees it as the list of its nodes.
+#[derive(Drop)]
+pub struct Net {
+    alloc: Global,
+    nodes: IndexSet<Node>,
+}
+
+impl Model for Net {
+    ghost use Rattle.std.specs.Prelude.{List};
+    ghost use Rattle.bit_net.specs.declared.nodes.Node.{Node as Nodes};
+    ghost use Rattle.bit_net.specs.Circuit.{IsCircuit};
+
+    ghost Value = { List Nodes };
+
+    ghost view = { λ n. n.nodes.keys };
+
+    ghost invariant = { λ n. IsCircuit n.nodes.keys };
+}
+
+impl Net {
+    /// A net of the two constants and of `inputs` inputs.
+    pub fn new(alloc: Global, inputs: usize) -> Result<Net, OutOfMemory>
+        ensures nodes { IfOk result (λ net. net ≡ first_nodes inputs) }
+        ensures count { IfOk result (λ net. input_count net ≡ inputs) }
+        ensures len { IfOk result (λ net. length net ≡ 2 + inputs) }
+    {
+        let mut nodes = IndexSet::new(alloc);
+        nodes.insert_full(Node::Constant(false))?;
+        nodes.insert_full(Node::Constant(true))?;
+        for k in 0..inputs {
+            nodes.insert_full(Node::Input(k))?;
+        }
+        Ok(Net { alloc, nodes })
+    }
+
+    /// The allocator that the net was made with.
+    pub fn alloc(&self) -> Global {
+        self.alloc
+    }
+
+    /// The number of gates.
+    pub fn len(&self) -> usize
+        ensures { result ≡ length self.now }
+    {
+        self.nodes.len()
+    }
+
+    /// Every net has the constants, and so it is never empty.
+    pub fn is_empty(&self) -> bool
+        ensures { IsTrue result ↔ (length self.now ≡ 0) }
+    {
+        self.nodes.is_empty()
+    }
+
+    /// What a gate computes.
+    pub fn node(&self, gate: Gate) -> Node
+        requires { gate.at < length self.now }
+        ensures { slice_get self.now gate.at ≡ Some result }
+    {
+        self.nodes.as_slice()[gate.at]
+    }
+
+    /// Tells a caller's proof what holds of every net.
+    pub fn sound(&self)
+        ensures { IsCircuit self.now }
+    {
+        let _nodes = &self.nodes;
+    }
+
+    /// The gate of an input: the bit of the choice with this number.
+    pub fn input(&self, k: usize) -> Gate
+        requires { k < input_count self.now }
+        ensures { Gives self.now result.at (λ choice v. choice k) }
+    {
+        let _gates = self.len();
+        self.sound();
+        Gate { at: 2 + k }
+    }
+
+    /// The gate of a constant.
+    pub fn constant(&self, b: bool) -> Gate
+        ensures { Gives self.now result.at (λ choice v. b) }
+    {
+        self.sound();
+        if b { Gate { at: 1 } } else { Gate { at: 0 } }
+    }
+
+    /// Holds where both gates hold.
+    pub fn and(&mut self, a: Gate, b: Gate) -> Result<Gate, OutOfMemory>
+        requires a { a.at < length self.old }
+        requires b { b.at < length self.old }
+        ensures grown { Grown self.old self.new }
+        ensures ok { IfOk result (λ r. Gives self.new r.at (λ choice v. v a.at && v b.at)) }
+        ensures err { OnErr result (self.new ≡ self.old) }
+    {
+        match self.folded_and(a, b) {
+            Some(gate) => Ok(gate),
+            None if a.at < b.at => self.gate_of(Node::And(a, b)),
+            None => self.gate_of(Node::And(b, a)),
+        }
+    }
+
+    /// Holds where just one of the gates holds.
+    pub fn xor(&mut self, a: Gate, b: Gate) -> Result<Gate, OutOfMemory>
+        requires a { a.at < length self.old }
+        requires b { b.at < length self.old }
+        ensures grown { Grown self.old self.new }
+        ensures ok { IfOk result (λ r. Gives self.new r.at (λ choice v. xor (v a.at) (v b.at))) }
+        ensures err { OnErr result (self.new ≡ self.old) }
+    {
+        if self.known(a) == Some(true) {
+            return self.not(b);
+        }
+        if self.known(b) == Some(true) {
+            return self.not(a);
+        }
+        match self.folded_xor(a, b) {
+            Some(gate) => Ok(gate),
+            None if a.at < b.at => self.gate_of(Node::Xor(a, b)),
+            None => self.gate_of(Node::Xor(b, a)),
+        }
+    }
+
+    /// Holds where the gate does not.
+    pub fn not(&mut self, a: Gate) -> Result<Gate, OutOfMemory>
+        requires { a.at < length self.old }
+        ensures grown { Grown self.old self.new }
+        ensures ok { IfOk result (λ r. Gives self.new r.at (λ choice v. not (v a.at))) }
+        ensures err { OnErr result (self.new ≡ self.old) }
+    {
+        match self.known_opposite(a) {
+            Some(opposite) => Ok(opposite),
+            None => self.gate_of(Node::Not(a)),
+        }
+    }
+
+    /// Has the value of `a` where `c` holds, else that of `b`.
+    pub fn mux(&mut self, c: Gate, a: Gate, b: Gate) -> Result<Gate, OutOfMemory>
+        requires c { c.at < length self.old }
+        requires a { a.at < length self.old }
+        requires b { b.at < length self.old }
+        ensures grown { Grown self.old self.new }
+        ensures ok { IfOk result (λ r. Gives self.new r.at (λ choice v. if v c.at then v a.at else v b.at)) }
+        ensures err { OnErr result (self.new ≡ self.old) }
+    {
+        if let Some(gate) = self.folded_mux(c, a, b) {
+            return Ok(gate);
+        }
+        match (self.known(a), self.known(b)) {
+            (Some(false), Some(true)) => self.not(c),
+            (_, Some(false)) => self.and(c, a),
+            _ => self.gate_of(Node::Mux(c, a, b)),
+        }
+    }
+
+    /// Writes the value of each gate, where the inputs have the values of `choice`.
+    pub fn values_into(&self, choice: &[bool], room: &mut [bool])
+        requires inputs { length choice.now ≡ input_count self.now }
+        requires gates { length room.old ≡ length self.now }
+        ensures { room.new ≡ values (bit_at choice.now) self.now }
+    {
+        let nodes = self.nodes.as_slice();
+        for g in 0..nodes.len() {
+            room[g] = value_of(&nodes[g], choice, &room[..g]);
+        }
+    }
+
+    /// The gate of a node, which is added where no gate has it yet.
+    fn gate_of(&mut self, node: Node) -> Result<Gate, OutOfMemory>
+        requires { ReadsBelow (length self.old) 0 node }
+        ensures grown { Grown self.old self.new }
+        ensures ok { IfOk result (λ r. Gives self.new r.at (λ choice v. table choice v node)) }
+        ensures err { OnErr result (self.new ≡ self.old) }
+    {
+        let (at, _) = self.nodes.insert_full(node)?;
+        Ok(Gate { at })
+    }
+
+    /// The constant that the gate is, where it is one.
+    fn known(&self, gate: Gate) -> Option<bool>
+        requires { gate.at < length self.now }
+        ensures { IfSome result (λ b. Always self.now (λ choice v. v gate.at ≡ b)) }
+    {
+        self.sound();
+        match self.node(gate) {
+            Node::Constant(b) => Some(b),
+            _ => None,
+        }
+    }
+
+    /// An earlier gate that holds just where this one does not, if the gate itself shows one.
+    fn known_opposite(&self, gate: Gate) -> Option<Gate>
+        requires { gate.at < length self.now }
+        ensures { IfSome result (λ r. Gives self.now r.at (λ choice v. not (v gate.at))) }
+    {
+        self.sound();
+        match self.node(gate) {
+            Node::Constant(b) => Some(self.constant(!b)),
+            Node::Not(inner) => Some(inner),
+            _ => None,
+        }
+    }
+
+    /// Whether one of the two gates is seen to be made as the opposite of the other.
+    fn are_opposite(&self, a: Gate, b: Gate) -> bool
+        requires a { a.at < length self.now }
+        requires b { b.at < length self.now }
+        ensures { IsTrue result → Always self.now (λ choice v. v a.at ≡ not (v b.at)) }
+    {
+        match self.known_opposite(b) {
+            Some(opposite) if opposite.at == a.at => true,
+            _ => self.is_opposite_of(a, b),
+        }
+    }
+
+    /// Whether b is seen to be the opposite of a.
+    fn is_opposite_of(&self, a: Gate, b: Gate) -> bool
+        requires { a.at < length self.now }
+        ensures { IsTrue result → Always self.now (λ choice v. v a.at ≡ not (v b.at)) }
+    {
+        match self.known_opposite(a) {
+            Some(opposite) => opposite.at == b.at,
+            None => false,
+        }
+    }
+
+    /// A gate that is there already and holds where both gates hold, as far as the operands show one.
+    fn folded_and(&self, a: Gate, b: Gate) -> Option<Gate>
+        requires a { a.at < length self.now }
+        requires b { b.at < length self.now }
+        ensures { IfSome result (λ r. Gives self.now r.at (λ choice v. v a.at && v b.at)) }
+    {
+        match (self.known(a), self.known(b)) {
+            (Some(false), _) => Some(a),
+            (Some(true), _) => Some(b),
+            (_, Some(false)) => Some(b),
+            (_, Some(true)) => Some(a),
+            _ if a.at == b.at => Some(a),
+            _ if self.are_opposite(a, b) => Some(self.constant(false)),
+            _ => None,
+        }
+    }
+
+    /// A gate that is there already and holds where just one of the gates holds, as far as the operands show one.
+    fn folded_xor(&self, a: Gate, b: Gate) -> Option<Gate>
+        requires a { a.at < length self.now }
+        requires b { b.at < length self.now }
+        ensures { IfSome result (λ r. Gives self.now r.at (λ choice v. xor (v a.at) (v b.at))) }
+    {
+        match (self.known(a), self.known(b)) {
+            (Some(false), _) => Some(b),
+            (_, Some(false)) => Some(a),
+            _ if a.at == b.at => Some(self.constant(false)),
+            _ if self.are_opposite(a, b) => Some(self.constant(true)),
+            _ => None,
+        }
+    }
+
+    /// A gate that is there already and has the value of `a` where `c` holds, else that of `b`, as far as the operands show one.
+    fn folded_mux(&self, c: Gate, a: Gate, b: Gate) -> Option<Gate>
+        requires a { a.at < length self.now }
+        requires b { b.at < length self.now }
+        requires c { c.at < length self.now }
+        ensures { IfSome result (λ r. Gives self.now r.at (λ choice v. if v c.at then v a.at else v b.at)) }
+    {
+        match self.known(c) {
+            Some(true) => Some(a),
+            Some(false) => Some(b),
+            None if a.at == b.at => Some(a),
+            None => None,
+        }
+    }
+}
+
+/// The value of a node, from the values of the gates before it.
+#[tactic(auto, unfolding(crate::specs::Value::bit_at))]
+fn value_of(node: &Node, choice: &[bool], seen: &[bool]) -> bool
+    requires { ReadsBelow (length seen.now) (length choice.now) node.now }
+    ensures { result ≡ table (bit_at choice.now) (bit_at seen.now) node.now }
+{
+    match *node {
+        Node::Constant(b) => b,
+        Node::Input(k) => choice[k],
+        Node::Not(a) => !seen[a.at],
+        Node::And(a, b) => seen[a.at] && seen[b.at],
+        Node::Xor(a, b) => seen[a.at] != seen[b.at],
+        Node::Mux(c, a, b) => if seen[c.at] { seen[a.at] } else { seen[b.at] },
+    }
+}

@@ -1,0 +1,60 @@
+//! The value of each kind of gate at a choice, what is folded, and a choice read by every input.
+ghost use Rattle.std.specs.Prelude.{◌≡◌, ◌<◌, length};
+ghost use Rattle.bit_net.specs.Circuit.{input_count};
+
+use crate::{Gate, Net, Node, OutOfMemory, runs_fit_tables, values_are_runs};
+use std::process::Abort;
+use std::test::Fail;
+
+/// The value of one gate of a net of two inputs and of at most 16 gates.
+fn value(rt: &impl Abort, net: &Net, choice: [bool; 2], gate: Gate) -> bool
+    requires inputs { input_count net.now ≡ 2 }
+    requires gate { gate.at < length net.now }
+{
+    let mut room = [false; 16];
+    let gates = net.len();
+    assert!(rt; gates <= 16);
+    net.values_into(&choice, &mut room[..gates]);
+    room[gate.at]
+}
+
+#[test]
+fn gates_of_two_inputs(rt: HostRuntime) -> Result<(), Fail> {
+    let mut net = Net::new(rt.alloc(), 2)?;
+    let p = net.input(0);
+    let q = net.input(1);
+    let both = net.and(p, q)?;
+    let differ = net.xor(p, q)?;
+    let opposite = net.not(p)?;
+    let chosen = net.mux(p, q, net.constant(false))?;
+    let choice = [true, false];
+    assert_eq!(rt; value(&rt, &net, choice, both), false);
+    assert_eq!(rt; value(&rt, &net, choice, differ), true);
+    assert_eq!(rt; value(&rt, &net, choice, opposite), false);
+    assert_eq!(rt; value(&rt, &net, choice, chosen), false);
+    Ok(())
+}
+
+/// No gate is made where the operands show the value, or where the same gate was made before.
+#[test]
+fn folds_and_shares(rt: HostRuntime) -> Result<(), OutOfMemory> {
+    let mut net = Net::new(rt.alloc(), 2)?;
+    let p = net.input(0);
+    let q = net.input(1);
+    let both = net.and(p, q)?;
+    let opposite = net.not(p)?;
+    let gates = net.len();
+    let always = net.constant(true);
+    assert_eq!(rt; net.and(q, p)?, both);
+    assert_eq!(rt; net.not(opposite)?, p);
+    assert_eq!(rt; net.and(p, opposite)?, net.constant(false));
+    assert_eq!(rt; net.xor(opposite, p)?, always);
+    assert_eq!(rt; net.xor(always, p)?, opposite);
+    assert_eq!(rt; net.mux(always, p, q)?, p);
+    assert_eq!(rt; net.len(), gates);
+    assert_eq!(rt; net.node(p), Node::Input(0));
+    assert!(rt; !net.is_empty());
+    values_are_runs();
+    runs_fit_tables();
+    Ok(())
+}
