@@ -1,9 +1,9 @@
 -- The events that applied, seen at one function: they are what its mark says.
 
-use Rattle.std.proofs.Common.{◌≡◌, ℕ, ◌<◌, ◌≤◌, ◌==◌, Bool, true, false, cond, List, [], ◌∷◌, ◌++◌, length, filter, replicate, slice_set, get_or-set_same, get_or-set_other, append-nil, append_assoc, length-set, refl, sym, subst, ap, ◌∙◌, ⊎_elim, ◌⊎◌, inl, inr, arith}
+use Rattle.std.proofs.Common.{◌≡◌, ℕ, ◌<◌, ◌≤◌, true, false, cond, List, [], ◌∷◌, ◌++◌, length, slice_set, get_or-set_same, get_or-set_other, append-nil, length-set, refl, sym, subst, ap, ◌∙◌, ⊎_elim, ◌⊎◌, inl, inr, arith}
 use Rattle.std.proofs.lemmas.List.{get_or_past, get_or-replicate, length-replicate}
 use Rattle.std.proofs.lemmas.List.Elements.{filter-append}
-use Rattle.std.proofs.lemmas.Bool.{cases_eq, cases_lt, cases_Bool, eqb-true, eq-eqb, ne_eqb, and_parts, false≢true}
+use Rattle.std.proofs.lemmas.Bool.{cases_eq, cases_lt, eqb-true, eq-eqb, ne_eqb, and_parts, false≢true}
 use Rattle.plan_core.specs.declared.mark.Mark.{Mark}
 use Rattle.plan_core.specs.declared.mark.Mark.TheVariants.{Free, Claimed, Published}
 use Rattle.plan_core.specs.Graph.{callees}

@@ -1,13 +1,13 @@
 -- What holds after every list of events, by recursion on the list.
 
-use Rattle.std.proofs.Common.{◌≡◌, ℕ, Bool, true, false, cond, List, [], ◌∷◌, ◌++◌, length, append-nil, append_assoc, refl, sym, subst, ap, ◌∙◌, ⊎_elim, arith}
+use Rattle.std.proofs.Common.{◌≡◌, ℕ, true, false, cond, List, [], ◌∷◌, ◌++◌, length, append-nil, append_assoc, refl, sym, subst, ap, ◌∙◌, ⊎_elim, arith}
 use Rattle.std.proofs.lemmas.List.{get_or_past, get_or-replicate}
 use Rattle.std.proofs.lemmas.Bool.{cases_lt, and_parts, cond_both, true≢false}
 use Rattle.std.specs.List.{Contains}
 use Rattle.plan_core.specs.declared.mark.Mark.{Mark}
 use Rattle.plan_core.specs.declared.mark.Mark.TheVariants.{Free, Published}
 use Rattle.plan_core.specs.Graph.{callees, IsPlan}
-use Rattle.plan_core.specs.Core.{mark_of, is_free, is_published, all_published, may_claim, start, Event, Claim, Publish, applies, changed, after, run, applied, IsSound, IsDone, IsOnce, CalleesFirst}
+use Rattle.plan_core.specs.Core.{mark_of, is_free, is_published, all_published, start, Event, Claim, Publish, applies, changed, after, run, applied, IsSound, IsDone, IsOnce, CalleesFirst}
 use Rattle.plan_core.proofs.Marks.{claim_sound, publish_sound, list_all-contains}
 use Rattle.plan_core.proofs.Histories.{IsTold, told_after, told_start, once_from, done_from}
 

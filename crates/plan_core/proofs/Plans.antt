@@ -1,15 +1,15 @@
 -- The plan of a call graph is well formed: above all, its kept edges have no cycle.
 
-use Rattle.std.proofs.Common.{◌≡◌, ℕ, zero, suc, ◌+◌, ◌^◌, ◌<◌, ◌≤◌, ◌&&◌, not, Bool, true, false, List, [], length, map, filter, leb, get_or, refl, sym, subst, ap, ◌∙◌, ⊎_elim, arith}
+use Rattle.std.proofs.Common.{◌≡◌, ℕ, ◌+◌, ◌^◌, ◌<◌, ◌≤◌, ◌&&◌, not, Bool, true, false, List, [], length, map, filter, leb, sym, subst, ◌∙◌, ⊎_elim, arith}
 use Rattle.std.proofs.lemmas.List.{get_or_past}
 use Rattle.std.proofs.lemmas.List.FromFn.{get_or-map-range_with_len, length-map-range_with_len, length-range_with_len, get_or-range_with_len}
 use Rattle.std.proofs.lemmas.List.Elements.{All-contains, filter_passes}
 use Rattle.std.proofs.lemmas.List.Kept.{IsStrictlyIncreasing-filter}
-use Rattle.std.proofs.lemmas.Bool.{cases_lt, cases_Bool, and_parts, and_cases, and_from, not-true, leb-true, leb-false, le-leb, true≢false}
+use Rattle.std.proofs.lemmas.Bool.{cases_lt, and_parts, and_cases, and_from, not-true, leb-true, leb-false, le-leb, true≢false}
 use Rattle.std.specs.List.{Contains, range_with_len}
 use Rattle.std.specs.List.Sorted.{IsStrictlyIncreasing}
-use Rattle.plan_core.specs.Graph.{callees, calls, Walk, one, more, Reaches, IsCut, reaches, is_cut, functions, kept_callees, plan_of, IsGraph, IsPlan}
-use Rattle.plan_core.proofs.Reaching.{inside_from_call, contains_from_calls, reaches_before_call, reaches_join, reaches_walk, reach_from_test, test_from_reach}
+use Rattle.plan_core.specs.Graph.{callees, calls, Walk, one, more, IsCut, reaches, is_cut, functions, kept_callees, plan_of, IsGraph, IsPlan}
+use Rattle.plan_core.proofs.Reaching.{inside_from_call, contains_from_calls, reaches_before_call, reaches_join, reach_from_test, test_from_reach}
 
 pub IsCut_from_test : (rows : List (List ℕ)) (f g : ℕ) → is_cut rows f g ≡ true → IsCut rows f g
 IsCut_from_test rows f g does =

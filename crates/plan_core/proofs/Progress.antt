@@ -1,8 +1,8 @@
 -- Where no function is claimed and some function is free, some function may be claimed: else one
 -- could go from a free function to an open callee without end, and never meet a function again.
 
-use Rattle.std.proofs.Common.{◌≡◌, ℕ, zero, suc, ◌+◌, ◌<◌, ◌≤◌, Bool, true, false, List, [], ◌∷◌, length, eqb, refl, sym, subst, ap, ◌∙◌, ⊎_elim, arith}
-use Rattle.std.proofs.lemmas.Bool.{cases_Bool, and_cases, or_cases, or_parts, eqb-true, true_from_ne_false, false≢true, true≢false}
+use Rattle.std.proofs.Common.{◌≡◌, ℕ, zero, suc, ◌+◌, ◌<◌, ◌≤◌, Bool, true, false, List, [], ◌∷◌, length, eqb, refl, sym, subst, ◌∙◌, ⊎_elim, arith}
+use Rattle.std.proofs.lemmas.Bool.{cases_Bool, and_cases, or_cases, or_parts, eqb-true, false≢true, true≢false}
 use Rattle.std.proofs.lemmas.Map.Steps.{length-le_from_distinct_below}
 use Rattle.std.specs.List.{list_all, list_any, Contains, IsDistinct, AllByRecursion}
 use Rattle.plan_core.specs.declared.mark.Mark.{Mark}
