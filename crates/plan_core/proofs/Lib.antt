@@ -1,0 +1,6 @@
+pub mod Marks
+pub mod Progress
+pub mod Histories
+pub mod Orders
+pub mod Reaching
+pub mod Plans
