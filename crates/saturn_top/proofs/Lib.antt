@@ -1,4 +1,5 @@
 pub mod Transfers
+pub mod Answered
 pub mod Basics
 pub mod Turns
 pub mod Items
