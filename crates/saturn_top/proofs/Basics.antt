@@ -41,6 +41,10 @@ after_is front bytes rest e =
     let same : take (length front) bytes ≡ front = (bytes_eq-Decides (take (length front) bytes) front).0 t.0 in
     sym (take-append-drop (length front) bytes) ∙ ap (λ (s : List ℕ). s ++ drop (length front) bytes) same ∙ ap (λ (s : List ℕ). front ++ s) t.1
 
+-- what stands behind a front, as it is spelled
+pub behind : (front bytes a b : List ℕ) → bytes ≡ front ++ a → a ≡ b → bytes ≡ front ++ b
+behind front bytes a b e same = e ∙ ap (λ (s : List ℕ). front ++ s) same
+
 pub after_again : (front rest : List ℕ) → after front (front ++ rest) ≡ Some rest
 after_again front rest =
     let t = take_at front rest (length front) refl in

@@ -5,7 +5,7 @@ use Rattle.sc_tree.specs.declared.first.ParamKind.TheVariants as kinds
 use Rattle.sc_tree.specs.Tree.{Code, Codes, Block, Lock, Unlock, If, IfElse, Return, Done, Then, Formal}
 use Rattle.saturn_top.specs.Spelling.{name_of, kind_of, spelled, all_spelled, takes_else, IsGood, AreGood, height, all_height}
 use Rattle.saturn_top.specs.Reading.{◌>>=◌, chosen, after, place_at, lock_at, block_at, choice_at, statement_step, statement_at}
-use Rattle.saturn_top.proofs.Basics.{bind_is, chosen_is, some_is, after_is}
+use Rattle.saturn_top.proofs.Basics.{bind_is, chosen_is, some_is, after_is, behind}
 use Rattle.saturn_top.proofs.Items.{place_is}
 
 -- A statement stands at the front of the bytes, and no `else` that it would take comes next.
@@ -15,11 +15,17 @@ pub record Reads (ps : List Formal) (depth : ℕ) (bytes : List ℕ) (c : Code) 
   pub low : height c ≤ depth
   pub nearest : takes_else c ≡ true → after (codes "else ") rest ≡ None
 
+read_so : (ps : List Formal) (depth : ℕ) (bytes : List ℕ) (c : Code) (rest : List ℕ) (x : Code × List ℕ) → Some (c, rest) ≡ Some x → Reads ps depth bytes c rest → Reads ps depth bytes x.0 x.1
+read_so ps depth bytes c rest x e it = subst (λ (y : Code × List ℕ). Reads ps depth bytes y.0 y.1) (some_is (c, rest) x e) it
+
 -- The statements of a block stand at the front, with the brace that ends it.
 pub record ReadsAll (ps : List Formal) (depth : ℕ) (bytes : List ℕ) (cs : Codes) (rest : List ℕ) : Type 0 where
   pub spelling : bytes ≡ all_spelled ps cs ++ (codes "}" ++ rest)
   pub good : AreGood ps cs
   pub low : all_height cs ≤ depth
+
+all_read_so : (ps : List Formal) (depth : ℕ) (bytes : List ℕ) (cs : Codes) (rest : List ℕ) (x : Codes × List ℕ) → Some (cs, rest) ≡ Some x → ReadsAll ps depth bytes cs rest → ReadsAll ps depth bytes x.0 x.1
+all_read_so ps depth bytes cs rest x e it = subst (λ (y : Codes × List ℕ). ReadsAll ps depth bytes y.0 y.1) (some_is (cs, rest) x e) it
 
 not_true : {A : Type 0} → false ≡ true → A
 not_true e = absurd cc
@@ -47,7 +53,7 @@ module _ (ps : List Formal) (depth : ℕ) (one : List ℕ → Option (Code × Li
       elim (chosen_is (after (codes "}") bytes) (λ rest. Some (Done, rest)) (one bytes >>= item) x e) [
         | inl w ↦
             let it : ReadsAll ps depth bytes Done w.0 = record { spelling = after_is (codes "}") bytes w.0 w.1; good = tt; low = omega arith } in
-            subst (λ (y : Codes × List ℕ). ReadsAll ps depth bytes y.0 y.1) (some_is (Done, w.0) x w.2) it
+            all_read_so ps depth bytes Done w.0 x w.2 it
         | inr w ↦
             let a = bind_is (one bytes) item x w.1 in
             let b = bind_is (block_at one turns a.0.1) (λ cs. Some (Then a.0.0 cs.0, cs.1)) x a.2 in
@@ -58,8 +64,33 @@ module _ (ps : List Formal) (depth : ℕ) (one : List ℕ → Option (Code × Li
               good = (c.good, cs.good);
               low = omega (arith, c.low, cs.low);
             } in
-            subst (λ (y : Codes × List ℕ). ReadsAll ps depth bytes y.0 y.1) (some_is (Then a.0.0 b.0.0, b.0.1) x b.2) it
+            all_read_so ps depth bytes (Then a.0.0 b.0.0) b.0.1 x b.2 it
       ]
+
+  -- an if with no else behind it
+  without_else : (bytes : List ℕ) (at : ℕ) (c : Code) (rest : List ℕ) → bytes ≡ name_of ps at ++ (codes ")" ++ (spelled ps c ++ rest)) → kind_of ps at ≡ Some kinds.Flag → IsGood ps c → height c ≤ depth
+      → after (codes "else ") rest ≡ None → Reads ps (suc depth) (codes "if(" ++ bytes) (If at c) rest
+  without_else bytes at c rest e kind good low last = record {
+    spelling = ap (λ (s : List ℕ). codes "if(" ++ s) (e ∙ sym (append_assoc (name_of ps at) (codes ")" ++ spelled ps c) rest));
+    good = (kind, good);
+    low = omega arith;
+    nearest = λ _. last;
+  }
+
+  -- an if, and the else that is nearest to it
+  with_else : (bytes : List ℕ) (at : ℕ) (c d : Code) (rest : List ℕ) → bytes ≡ name_of ps at ++ (codes ")" ++ (spelled ps c ++ (codes "else " ++ (spelled ps d ++ rest)))) → kind_of ps at ≡ Some kinds.Flag
+      → takes_else c ≡ false → IsGood ps c → height c ≤ depth → (source : List ℕ) → Reads ps depth source d rest → Reads ps (suc depth) (codes "if(" ++ bytes) (IfElse at c d) rest
+  with_else bytes at c d rest e kind nothing good low source other =
+      let name = name_of ps at in
+      let inner = codes "else " ++ spelled ps d in
+      let flat : (name ++ (codes ")" ++ (spelled ps c ++ inner))) ++ rest ≡ name ++ (codes ")" ++ (spelled ps c ++ (inner ++ rest))) =
+      rw (append_assoc name (codes ")" ++ (spelled ps c ++ inner)) rest, append_assoc (spelled ps c) inner rest) refl in
+      record {
+        spelling = ap (λ (s : List ℕ). codes "if(" ++ s) (e ∙ sym flat);
+        good = (kind, nothing, good, other.good);
+        low = omega (arith, other.low);
+        nearest = other.nearest;
+      }
 
   choice_is : (bytes : List ℕ) (x : Code × List ℕ) → choice_at one ps bytes ≡ Some x → Reads ps (suc depth) (codes "if(" ++ bytes) x.0 x.1
   unfolding choice_at
@@ -70,33 +101,20 @@ module _ (ps : List Formal) (depth : ℕ) (one : List ℕ → Option (Code × Li
       let b = bind_is (after (codes ")") a.0.1) (λ branch. one branch >>= ending at) x a.2 in
       let c = bind_is (one b.0) (ending at) x b.2 in
       let flag = place_is kinds.Flag ps bytes a.0 a.1 in
-      let close = after_is (codes ")") a.0.1 b.0 b.1 in
       let branch = one_is b.0 c.0 c.1 in
-      let name = name_of ps at in
-      let front : bytes ≡ name ++ (codes ")" ++ (spelled ps c.0.0 ++ c.0.1)) = flag.0 ∙ ap (λ (s : List ℕ). name ++ s) (close ∙ ap (λ (s : List ℕ). codes ")" ++ s) branch.spelling) in
+      let front : (s : List ℕ) → c.0.1 ≡ s → bytes ≡ name_of ps at ++ (codes ")" ++ (spelled ps c.0.0 ++ s)) = λ s same.
+      behind (name_of ps at) bytes a.0.1 (codes ")" ++ (spelled ps c.0.0 ++ s)) flag.0 (behind (codes ")") a.0.1 b.0 (spelled ps c.0.0 ++ s) (after_is (codes ")") a.0.1 b.0 b.1) (behind (spelled ps c.0.0) b.0 c.0.1 s branch.spelling same)) in
       elim (chosen_is (after (codes "else ") c.0.1) (λ rest. one rest >>= λ d. Some (IfElse at c.0.0 d.0, d.1)) (Some (If at c.0.0, c.0.1)) x c.2) [
         | inl w ↦
             let d = bind_is (one w.0) (λ d. Some (IfElse at c.0.0 d.0, d.1)) x w.2 in
             let other = one_is w.0 d.0 d.1 in
-            let behind : c.0.1 ≡ codes "else " ++ (spelled ps d.0.0 ++ d.0.1) = after_is (codes "else ") c.0.1 w.0 w.1 ∙ ap (λ (s : List ℕ). codes "else " ++ s) other.spelling in
-            let inner = codes "else " ++ spelled ps d.0.0 in
-            let flat : (name ++ (codes ")" ++ (spelled ps c.0.0 ++ inner))) ++ d.0.1 ≡ name ++ (codes ")" ++ (spelled ps c.0.0 ++ (inner ++ d.0.1))) =
-            append_assoc name (codes ")" ++ (spelled ps c.0.0 ++ inner)) d.0.1 ∙ ap (λ (s : List ℕ). name ++ (codes ")" ++ s)) (append_assoc (spelled ps c.0.0) inner d.0.1) in
-            let it : Reads ps (suc depth) (codes "if(" ++ bytes) (IfElse at c.0.0 d.0.0) d.0.1 = record {
-              spelling = ap (λ (s : List ℕ). codes "if(" ++ s) (front ∙ ap (λ (s : List ℕ). name ++ (codes ")" ++ (spelled ps c.0.0 ++ s))) behind ∙ sym flat);
-              good = (flag.1, not_both (takes_else c.0.0) (after (codes "else ") c.0.1) w.0 branch.nearest w.1, branch.good, other.good);
-              low = omega (arith, branch.low, other.low);
-              nearest = other.nearest;
-            } in
-            subst (λ (y : Code × List ℕ). Reads ps (suc depth) (codes "if(" ++ bytes) y.0 y.1) (some_is (IfElse at c.0.0 d.0.0, d.0.1) x d.2) it
+            let last = behind (codes "else ") c.0.1 w.0 (spelled ps d.0.0 ++ d.0.1) (after_is (codes "else ") c.0.1 w.0 w.1) other.spelling in
+            let nothing = not_both (takes_else c.0.0) (after (codes "else ") c.0.1) w.0 branch.nearest w.1 in
+            let it = with_else bytes at c.0.0 d.0.0 d.0.1 (front (codes "else " ++ (spelled ps d.0.0 ++ d.0.1)) last) flag.1 nothing branch.good branch.low w.0 other in
+            read_so ps (suc depth) (codes "if(" ++ bytes) (IfElse at c.0.0 d.0.0) d.0.1 x d.2 it
         | inr w ↦
-            let it : Reads ps (suc depth) (codes "if(" ++ bytes) (If at c.0.0) c.0.1 = record {
-              spelling = ap (λ (s : List ℕ). codes "if(" ++ s) (front ∙ sym (append_assoc name (codes ")" ++ spelled ps c.0.0) c.0.1));
-              good = (flag.1, branch.good);
-              low = omega (arith, branch.low);
-              nearest = λ _. w.0;
-            } in
-            subst (λ (y : Code × List ℕ). Reads ps (suc depth) (codes "if(" ++ bytes) y.0 y.1) (some_is (If at c.0.0, c.0.1) x w.1) it
+            let it = without_else bytes at c.0.0 c.0.1 (front c.0.1 refl) flag.1 branch.good branch.low w.0 in
+            read_so ps (suc depth) (codes "if(" ++ bytes) (If at c.0.0) c.0.1 x w.1 it
       ]
 
   -- a call, read behind its opening bracket
@@ -115,7 +133,7 @@ module _ (ps : List Formal) (depth : ℕ) (one : List ℕ → Option (Code × Li
         low = omega (arith, low at);
         nearest = λ t. not_true (sym (nothing at) ∙ t);
       } in
-      subst (λ (y : Code × List ℕ). Reads ps (suc depth) bytes y.0 y.1) (some_is (make at, a.0.1) x a.2) it
+      read_so ps (suc depth) bytes (make at) a.0.1 x a.2 it
 
   -- what is tried at each place of the order
   abbrev returning : List ℕ → Option (Code × List ℕ)
@@ -135,7 +153,7 @@ module _ (ps : List Formal) (depth : ℕ) (one : List ℕ → Option (Code × Li
       elim (chosen_is (after (codes "return;") bytes) (λ rest. Some (Return, rest)) None x e) [
         | inl w ↦
             let it : Reads ps (suc depth) bytes Return w.0 = record { spelling = after_is (codes "return;") bytes w.0 w.1; good = tt; low = omega arith; nearest = λ t. not_true t } in
-            subst (λ (y : Code × List ℕ). Reads ps (suc depth) bytes y.0 y.1) (some_is (Return, w.0) x w.2) it
+            read_so ps (suc depth) bytes Return w.0 x w.2 it
         | inr w ↦ absurd cc
       ]
 
@@ -174,7 +192,7 @@ module _ (ps : List Formal) (depth : ℕ) (one : List ℕ → Option (Code × Li
               low = omega (arith, cs.low);
               nearest = λ t. not_true t;
             } in
-            subst (λ (y : Code × List ℕ). Reads ps (suc depth) bytes y.0 y.1) (some_is (Block a.0.0, a.0.1) x a.2) it
+            read_so ps (suc depth) bytes (Block a.0.0) a.0.1 x a.2 it
         | inr w ↦ locking_is bytes x w.1
       ]
 

@@ -7,7 +7,7 @@ use Rattle.std.proofs.lemmas.Slice.Eq.{bytes_eq-Decides}
 use Rattle.sc_tree.specs.Tree.{Code, Codes, Block, Formal, Form}
 use Rattle.saturn_top.specs.Spelling.{is_name, names_of, are_different, AreParams, params_text, spelled, all_spelled, IsGood, AreGood, height, all_height, form_text, IsGoodForm, IsFirst}
 use Rattle.saturn_top.specs.Reading.{◌>>=◌, after, name_at, params_at, block_at, statement_at, head_at, is_end, body_at, whole_at, form_at}
-use Rattle.saturn_top.proofs.Basics.{bind_is, test_is, some_is, after_is}
+use Rattle.saturn_top.proofs.Basics.{bind_is, test_is, some_is, after_is, behind}
 use Rattle.saturn_top.proofs.Items.{name_is, name_again, params_is, params_again, AreNamed}
 use Rattle.saturn_top.proofs.Spelled.{statements_are}
 use Rattle.saturn_top.proofs.Again.{statement_again, body_again}
@@ -34,6 +34,17 @@ pub record ReadsHead (bytes name : List ℕ) (ps : List Formal) (rest : List ℕ
 abbrev Heads : Type 0
 Heads = List ℕ × List Formal × List ℕ
 
+head_so : (bytes name : List ℕ) (ps : List Formal) (rest : List ℕ) (x : Heads) → (name, ps, rest) ≡ x → ReadsHead bytes name ps rest → ReadsHead bytes x.0 x.1 x.2
+head_so bytes name ps rest x e it = subst (λ (y : Heads). ReadsHead bytes y.0 y.1 y.2) e it
+
+-- the parts of a head, one behind the other
+head_flat : (bytes start name list params : List ℕ) (ps : List Formal) (close rest : List ℕ) → bytes ≡ start_text ++ start → start ≡ name ++ list → list ≡ codes "(" ++ params → params ≡ params_text ps ++ close → close ≡ codes ")" ++ rest
+    → bytes ≡ start_text ++ (name ++ (codes "(" ++ (params_text ps ++ (codes ")" ++ rest))))
+head_flat bytes start name list params ps close rest a b c d e =
+    let listed = behind (params_text ps) params close (codes ")" ++ rest) d e in
+    let opened = behind (codes "(") list params (params_text ps ++ (codes ")" ++ rest)) c listed in
+    behind start_text bytes start (name ++ (codes "(" ++ (params_text ps ++ (codes ")" ++ rest)))) a (behind name start list (codes "(" ++ (params_text ps ++ (codes ")" ++ rest))) b opened)
+
 head_is : (bytes : List ℕ) (x : Heads) → head_at bytes ≡ Some x → ReadsHead bytes x.0 x.1 x.2
 unfolding head_at
 head_is bytes x e =
@@ -49,14 +60,13 @@ head_is bytes x e =
     let t = test_is (are_different (names_of ps)) (name, ps, f.0) x f.2 in
     let named = name_is a.0 b.0 b.1 in
     let list = params_is 3 c.0 d.0 d.1 in
-    let behind : c.0 ≡ params_text ps ++ (codes ")" ++ f.0) = list.spelling ∙ ap (λ (s : List ℕ). params_text ps ++ s) (after_is (codes ")") d.0.1 f.0 f.1) in
-    let inner : a.0 ≡ name ++ (codes "(" ++ (params_text ps ++ (codes ")" ++ f.0))) = named.1 ∙ ap (λ (s : List ℕ). name ++ s) (after_is (codes "(") b.0.1 c.0 c.1 ∙ ap (λ (s : List ℕ). codes "(" ++ s) behind) in
+    let flat = head_flat bytes a.0 name b.0.1 c.0 ps d.0.1 f.0 (after_is start_text bytes a.0 a.1) named.1 (after_is (codes "(") b.0.1 c.0 c.1) list.spelling (after_is (codes ")") d.0.1 f.0 f.1) in
     let it : ReadsHead bytes name ps f.0 = record {
-      spelling = after_is start_text bytes a.0 a.1 ∙ ap (λ (s : List ℕ). start_text ++ s) inner;
+      spelling = flat;
       named = named.0;
       params = record { some = list.some; few = list.few; named = list.named; different = t.0 };
     } in
-    subst (λ (y : Heads). ReadsHead bytes y.0 y.1 y.2) t.1 it
+    head_so bytes name ps f.0 x t.1 it
 
 pub record ReadsBody (ps : List Formal) (bytes : List ℕ) (cs : Codes) : Type 0 where
   pub rest : List ℕ
@@ -76,7 +86,7 @@ body_is ps bytes cs e =
     let it : ReadsBody ps bytes b.0.0 = record {
       rest = b.0.1;
       ended = t.0;
-      spelling = after_is (codes "{") bytes a.0 a.1 ∙ ap (λ (s : List ℕ). codes "{" ++ s) body.spelling;
+      spelling = behind (codes "{") bytes a.0 (all_spelled ps b.0.0 ++ (codes "}" ++ b.0.1)) (after_is (codes "{") bytes a.0 a.1) body.spelling;
       good = body.good;
       low = body.low;
     } in
