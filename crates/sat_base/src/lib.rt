@@ -1,13 +1,22 @@
-// A library with one function.
+// Boolean satisfiability: literals and clauses, what a solver is (`Solver`), and `Plain`, a small
+// solver that splits on one variable after the other. The faster solver of this repository and
+// the questions that are asked of either stand on the trait alone; `Plain` is what tests hold the
+// faster one against.
 #![tactic(auto)]
 
-ghost use Rattle.std.specs.Prelude.{◌≡◌};
-ghost use Rattle.sat_base.specs.Echo.{echo_of};
+pub mod clause;
+pub mod fault;
+pub mod literal;
+pub mod plain;
+pub mod propagate;
+pub mod solver;
+pub mod split;
 
-// The `ensures` clause is the contract: what `echo` returns is `echo_of` of its argument, a definition
-// in `specs/Echo.antt`, which a caller's clause can cite too.
-pub fn echo(x: usize) -> usize
-    ensures { result ≡ echo_of x }
-{
-    x
-}
+pub use clause::Clause;
+pub use fault::OutOfMemory;
+pub use literal::Lit;
+pub use plain::Plain;
+pub use solver::{Answer, Solver};
+
+#[cfg(test)]
+mod tests;

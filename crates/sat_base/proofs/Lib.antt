@@ -1,0 +1,5 @@
+pub mod Marking
+pub mod Scanning
+pub mod Passing
+pub mod Splitting
+pub mod Assuming
