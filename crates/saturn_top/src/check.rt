@@ -18,6 +18,9 @@ use std::alloc::Global;
 /// Reading ends at this byte: a first form has at most one fewer.
 const READ_LIMIT: usize = 4097;
 
+/// The words: the program's name and the file's.
+const WORD_COUNT: usize = 2;
+
 // Writes the bytes, and answers the status that is due with them.
 fn say<S: Sink>(sink: &mut S, due: Status, bytes: &[u8]) -> Status
     ensures { Went due Status.WriteFault result (record { faults_before = S.faults sink.old; faults_after = S.faults sink.new; before = S.taken sink.old; after = S.taken sink.new }) bytes.now }
@@ -118,8 +121,11 @@ pub fn check_main<F: Files, O: Sink, E: Sink>(
     // Nothing was written to the output with an answer that has no text.
     ensures quiet { has_text result ≡ false → Keeps (O.taken out.old) (O.taken out.new) }
 {
-    if words.len() != 2 {
+    if words.len() != WORD_COUNT {
         return say(err, Status::BadWords, b"saturn_check: bad words\n");
     }
     check_file(alloc, &words[1], files, out, err)
 }
+
+#[cfg(test)]
+mod tests;

@@ -4,15 +4,15 @@ use Rattle.saturn_top.specs.Answer.{bad_words}
 use Rattle.saturn_top.proofs.Answered.{answered_line, Keeps-itself, two_words, causes}
 use Rattle.saturn_top.proofs.check.check_main.Goals as goal
 
-pub returns-then-len-ne2-clause-answers : goal.returns-then-len-ne2-clause-answers
-returns-then-len-ne2-clause-answers g c =
+pub returns-then-len-ne-WORD_COUNT-clause-answers : goal.returns-then-len-ne-WORD_COUNT-clause-answers
+returns-then-len-ne-WORD_COUNT-clause-answers g c =
     let not_two : length (map string_bytes c.args.words.now.items) ≢ 2 =
-    λ two. c.if-len-ne2.true (omega (arith, c.len.ensures, length-map c.args.words.now.items string_bytes, two)) in
+    λ two. c.if-len-ne-WORD_COUNT.true (omega (arith, c.len.ensures, length-map c.args.words.now.items string_bytes, two)) in
     answered_line _ _ _ _ _ _ _ _ (bad_words _ _ not_two) refl c.say.ensures (Keeps-itself _)
 
 pub returns-clause-answers : goal.returns-clause-answers
 returns-clause-answers g c =
-    let two : length c.args.words.now.items ≡ 2 = omega (arith, c.len.ensures, c.if-len-ne2.false) in
+    let two : length c.args.words.now.items ≡ 2 = omega (arith, c.len.ensures, c.if-len-ne-WORD_COUNT.false) in
     let words = two_words c.args.words.now.items c.index.result.now c.deref.result.now two c.index.ensures c.deref.ensures in
     rw (words.1) (c.check_file.ensures words.0)
 
