@@ -1,0 +1,4 @@
+pub mod NumberLemmas
+pub mod NetLemmas
+pub mod StepLemmas
+pub mod LoopLemmas

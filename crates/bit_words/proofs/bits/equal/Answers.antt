@@ -1,0 +1,23 @@
+use Rattle.std.proofs.Common.{arith, rules, ap, ◌∙◌, refl, sym}
+use Rattle.std.proofs.lemmas.Grind.{common_steps}
+use Rattle.bit_words.proofs.NumberLemmas.{bound_laws}
+use Rattle.bit_words.proofs.NetLemmas.{Grown-trans}
+use Rattle.bit_words.proofs.LoopLemmas.{equal_none, equal_step}
+use Rattle.bit_words.proofs.bits.equal.Goals as goal
+
+pub loop-i-init : goal.loop-i-init
+loop-i-init c = record {
+  grown = search rules;
+  below = c.constant-all.ensures.below;
+  value = record { holds = λ choice v r. equal_none v c.constant-all.result.at (c.constant-all.ensures.value choice v r) };
+}
+
+pub loop-i-preserved : goal.loop-i-preserved
+loop-i-preserved c =
+    let grown = c.in_ok-more.ensures.grown in
+    record {
+      grown = Grown-trans _ _ _ c.loop-i.invariant.grown grown;
+      below = c.in_ok-more.ensures.ok.below;
+      value = record { holds = λ choice v r.
+        equal_step v c.args.a.now c.args.b.now _ c.loop-i.all.at c.in_ok-more.more.at c.loop-i.i c.requires.same c.loop-i-test.true (c.loop-i.invariant.value.holds choice v (grown.runs choice v r)) (c.in_ok-more.ensures.ok.value choice v r) };
+    }

@@ -1,0 +1,14 @@
+use Rattle.std.proofs.Common.{◌≡◌, ℕ, ◌+◌, ◌-◌, ◌*◌, ◌^◌, ◌<◌, ◌≤◌, if◌then◌else◌, nat_eq, nat_lt, length, take, drop, reverse}
+use Rattle.bit_net.specs.Runs.{Grown, Always}
+
+use Rattle.bit_words.specs.Number.{bit, number, top}
+use Rattle.bit_words.proofs.bits.select.Given as goal
+
+-- the bits so far are those of the word that is chosen
+abbrev pub invariant-loop-i : goal.invariant-loop-i
+invariant-loop-i l = record {
+  grown : Grown l.fn.net l.net;
+  wide : length l.bits.items ≡ l.i;
+  bits : top l.bits.items ≤ length l.net;
+  value : Always l.net (λ choice v. number v l.bits.items ≡ (if v l.fn.c.at then number v (take l.i l.fn.a) else number v (take l.i l.fn.b)));
+}
