@@ -2,3 +2,6 @@ pub mod NumberLemmas
 pub mod NetLemmas
 pub mod StepLemmas
 pub mod LoopLemmas
+pub mod SpellLemmas
+pub mod SignLemmas
+pub mod ProductLemmas

@@ -91,6 +91,10 @@ top-take gs k = omega (arith, top-append (take k gs) (drop k gs), ap top (take-a
 
 pub top-drop : (gs : List Gate) (k : ℕ) → top (drop k gs) ≤ top gs
 top-drop gs k = omega (arith, top-append (take k gs) (drop k gs), ap top (take-append-drop k gs))
+-- a word without its high bits
+pub top-tail : (gs : List Gate) (j k : ℕ) → top (take k (drop j gs)) ≤ top gs
+top-tail gs j k = omega (arith, top-take (drop j gs) k, top-drop gs j)
+
 -- the low bits of a word are a remainder, the high bits a quotient
 cut : (v : ℕ → Bool) (gs : List Gate) (k : ℕ) → k ≤ length gs → number v gs ≡ number v (take k gs) * 2 ^ (length gs - k) + number v (drop k gs)
 cut v gs k h =
@@ -124,6 +128,6 @@ top-replicate zero n g h = omega (arith, top-nil)
 top-replicate (suc k) n g h = omega (arith, top-cons g (replicate k g), top-replicate k n g h)
 
 -- what keeps the gates of a word within the net
-pub ruleset bound_laws = (top-nil, top-push, top-reverse, gate_below_top, top-take, top-drop, top-append, top-cons, top-replicate, length-replicate)
+pub ruleset bound_laws = (top-nil, top-push, top-reverse, gate_below_top, top-take, top-drop, top-tail, top-append, top-cons, top-replicate, length-replicate)
 
 pub ruleset number_replicate = (number-replicate)

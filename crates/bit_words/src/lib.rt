@@ -12,6 +12,10 @@ ghost use Rattle.bit_words.specs.Spells.{Spells};
 
 mod adding;
 mod bits;
+mod converting;
+mod dividing;
+mod multiplying;
+mod shifting;
 
 use bit_net::{Gate, Net, OutOfMemory};
 
