@@ -5,3 +5,4 @@ pub mod LoopLemmas
 pub mod SpellLemmas
 pub mod SignLemmas
 pub mod ProductLemmas
+pub mod MoveLemmas

@@ -38,12 +38,12 @@ pub sum_step : (v : ℕ → Bool) (a b bits new : List Gate) (g d : Gate) (carry
     → number v (reverse new) + bit (v carry) * 2 ^ (i + 1) ≡ number v (drop (length a - (i + 1)) a) + number v (drop (length b - (i + 1)) b) + bit (v first)
 sum_step v a b bits new g d carry carry_in first i same low wide e before here =
     let here' : bit (v g.at) + 2 * bit (v carry) ≡ bit (v (get_or a (length a - 1 - i) d).at) + bit (v (get_or b (length b - 1 - i) d).at) + bit (v carry_in) =
-        subst (λ (k : ℕ). bit (v g.at) + 2 * bit (v carry) ≡ bit (v (get_or a (length a - 1 - i) d).at) + bit (v (get_or b (k - 1 - i) d).at) + bit (v carry_in)) same here in
+    subst (λ (k : ℕ). bit (v g.at) + 2 * bit (v carry) ≡ bit (v (get_or a (length a - 1 - i) d).at) + bit (v (get_or b (k - 1 - i) d).at) + bit (v carry_in)) same here in
     let low' : i < length b = omega arith in
     let built : number v (reverse new) ≡ bit (v g.at) * 2 ^ i + number v (reverse bits) = ap (λ (l : List Gate). number v (reverse l)) e ∙ number-reverse_push v bits g ∙ ap (λ k. bit (v g.at) * 2 ^ k + number v (reverse bits)) wide in
     rw (built, number-drop_more v a i d low, number-drop_more v b i d low', ← double i)
-      (sum_more (2 ^ i) (bit (v g.at)) (number v (reverse bits)) (bit (v carry)) (bit (v (get_or a (length a - 1 - i) d).at)) (bit (v (get_or b (length b - 1 - i) d).at))
-        (number v (drop (length a - i) a)) (number v (drop (length b - i) b)) (bit (v carry_in)) (bit (v first)) before here')
+    (sum_more (2 ^ i) (bit (v g.at)) (number v (reverse bits)) (bit (v carry)) (bit (v (get_or a (length a - 1 - i) d).at)) (bit (v (get_or b (length b - 1 - i) d).at))
+    (number v (drop (length a - i) a)) (number v (drop (length b - i) b)) (bit (v carry_in)) (bit (v first)) before here')
 
 pub flip_none : (v : ℕ → Bool) (a bits : List Gate) (by : ℕ) → bits ≡ [] → number v bits ≡ (if v by then 1 - 1 - number v [] else number v [])
 flip_none v a bits by e = ap (number v) e ∙ number-nil v ∙ cases (v by)
@@ -57,7 +57,7 @@ pub flip_step : (v : ℕ → Bool) (a bits new : List Gate) (g d : Gate) (by i :
     → number v new ≡ (if v by then 2 ^ (i + 1) - 1 - number v (take (i + 1) a) else number v (take (i + 1) a))
 flip_step v a bits new g d by i low e before here =
     ap (number v) e ∙ number-push v bits g ∙ rw (here, number-take v a i d low, ← double i)
-      (flip_more (v by) (v (get_or a i d).at) (2 ^ i) (number v (take i a)) (number v bits) (front_below v a i (omega arith)) before)
+    (flip_more (v by) (v (get_or a i d).at) (2 ^ i) (number v (take i a)) (number v bits) (front_below v a i (omega arith)) before)
 
 pub select_none : (v : ℕ → Bool) (a b bits : List Gate) (c : ℕ) → bits ≡ [] → number v bits ≡ (if v c then number v [] else number v [])
 select_none v a b bits c e = ap (number v) e ∙ cases (v c)
@@ -72,7 +72,7 @@ pub select_step : (v : ℕ → Bool) (a b bits new : List Gate) (g d : Gate) (c 
 select_step v a b bits new g d c i same low e before here =
     let low' : i < length b = omega arith in
     ap (number v) e ∙ number-push v bits g ∙ rw (here, number-take v a i d low, number-take v b i d low')
-      (select_more (v c) (v (get_or a i d).at) (v (get_or b i d).at) (number v (take i a)) (number v (take i b)) (number v bits) before)
+    (select_more (v c) (v (get_or a i d).at) (v (get_or b i d).at) (number v (take i a)) (number v (take i b)) (number v bits) before)
 
 pub equal_step : (v : ℕ → Bool) (a b : List Gate) (d : Gate) (all new i : ℕ) → length a ≡ length b → i < length a
     → v all ≡ nat_eq (number v (take i a)) (number v (take i b)) → v new ≡ (v all && not (xor (v (get_or a i d).at) (v (get_or b i d).at)))
@@ -80,7 +80,7 @@ pub equal_step : (v : ℕ → Bool) (a b : List Gate) (d : Gate) (all new i : �
 equal_step v a b d all new i same low before here =
     let low' : i < length b = omega arith in
     here ∙ rw (before, number-take v a i d low, number-take v b i d low')
-      (equal_more (v (get_or a i d).at) (v (get_or b i d).at) (number v (take i a)) (number v (take i b)))
+    (equal_more (v (get_or a i d).at) (v (get_or b i d).at) (number v (take i a)) (number v (take i b)))
 
 pub less_none : (v : ℕ → Bool) (a b : List Gate) (less : ℕ) → v less ≡ false → v less ≡ nat_lt (number v (drop (length a - 0) a)) (number v (drop (length b - 0) b))
 less_none v a b less e = e ∙ rw (no_back v a, no_back v b) refl
@@ -92,10 +92,10 @@ pub less_step : (v : ℕ → Bool) (a b : List Gate) (d : Gate) (less new i : �
 less_step v a b d less new i same low before here =
     let low' : i < length b = omega arith in
     let here' : v new ≡ (if xor (v (get_or a (length a - 1 - i) d).at) (v (get_or b (length b - 1 - i) d).at) then v (get_or b (length b - 1 - i) d).at else v less) =
-        subst (λ (k : ℕ). v new ≡ (if xor (v (get_or a (length a - 1 - i) d).at) (v (get_or b (k - 1 - i) d).at) then v (get_or b (k - 1 - i) d).at else v less)) same here in
+    subst (λ (k : ℕ). v new ≡ (if xor (v (get_or a (length a - 1 - i) d).at) (v (get_or b (k - 1 - i) d).at) then v (get_or b (k - 1 - i) d).at else v less)) same here in
     here' ∙ rw (before, number-drop_more v a i d low, number-drop_more v b i d low')
-      (less_more (v (get_or a (length a - 1 - i) d).at) (v (get_or b (length b - 1 - i) d).at) (2 ^ i) (number v (drop (length a - i) a)) (number v (drop (length b - i) b))
-        (back_below v a i (omega arith)) (back_below v b i (omega arith)))
+    (less_more (v (get_or a (length a - 1 - i) d).at) (v (get_or b (length b - 1 - i) d).at) (2 ^ i) (number v (drop (length a - i) a)) (number v (drop (length b - i) b))
+    (back_below v a i (omega arith)) (back_below v b i (omega arith)))
 
 pub equal_none : (v : ℕ → Bool) (all : ℕ) → v all ≡ true → v all ≡ nat_eq (number v []) (number v [])
 equal_none v all e = e ∙ sym (eq-eqb (number v []) (number v []) refl)
@@ -119,4 +119,4 @@ pub combine_step : (v : ℕ → Bool) (operator : Bitwise) (a b bits new : List 
 combine_step v operator a b bits new g d i same low e before here =
     let low' : i < length b = omega arith in
     ap (number v) e ∙ number-push v bits g ∙ rw (here, before, number-take v a i d low, number-take v b i d low')
-      (combine_more operator (v (get_or a i d).at) (v (get_or b i d).at) (number v (take i a)) (number v (take i b)))
+    (combine_more operator (v (get_or a i d).at) (v (get_or b i d).at) (number v (take i a)) (number v (take i b)))

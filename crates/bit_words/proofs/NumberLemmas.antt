@@ -45,7 +45,6 @@ number-below v (g ∷ gs) = by (v g.at) (number-below v gs)
 pub number-take : (v : ℕ → Bool) (gs : List Gate) (i : ℕ) (d : Gate) → i < length gs → number v (take (i + 1) gs) ≡ 2 * number v (take i gs) + bit (v (get_or gs i d).at)
 number-take v gs i d low = ap (number v) (take_more gs i d low) ∙ number-push v (take i gs) (get_or gs i d)
 
-
 -- one more bit from the back, of a word and of a word that is built from its low end
 pub number-drop_more : (v : ℕ → Bool) (gs : List Gate) (i : ℕ) (d : Gate) → i < length gs
     → number v (drop (length gs - (i + 1)) gs) ≡ bit (v (get_or gs (length gs - 1 - i) d).at) * 2 ^ i + number v (drop (length gs - i) gs)
@@ -91,6 +90,7 @@ top-take gs k = omega (arith, top-append (take k gs) (drop k gs), ap top (take-a
 
 pub top-drop : (gs : List Gate) (k : ℕ) → top (drop k gs) ≤ top gs
 top-drop gs k = omega (arith, top-append (take k gs) (drop k gs), ap top (take-append-drop k gs))
+
 -- a word without its high bits
 pub top-tail : (gs : List Gate) (j k : ℕ) → top (take k (drop j gs)) ≤ top gs
 top-tail gs j k = omega (arith, top-take (drop j gs) k, top-drop gs j)

@@ -62,27 +62,27 @@ DivideStep-is n1 n2 ns rest divisor longer longer' wide wide' gone kept kept_lon
     let gone_wide : length gone ≡ length rest + 1 = diff.wide ∙ longer_wide in
     let kept_wide : length kept ≡ length rest = ap length k ∙ length-drop 1 gone ∙ (let back : length gone - 1 ≡ length rest = omega arith in back) in
     let divisor_is : (choice v : ℕ → Bool) → Runs n1 choice v → number v wide' ≡ number v divisor = λ choice v r.
-          ap (number v) (f' ∙ f) ∙ number-cons v none divisor ∙ (let off : bit (v none.at) ≡ 0 = ap bit (none_value choice v r) in ap (λ b. b * 2 ^ length divisor + number v divisor) off ∙ (let z : 0 * 2 ^ length divisor + number v divisor ≡ number v divisor = omega arith in z)) in
+    ap (number v) (f' ∙ f) ∙ number-cons v none divisor ∙ (let off : bit (v none.at) ≡ 0 = ap bit (none_value choice v r) in ap (λ b. b * 2 ^ length divisor + number v divisor) off ∙ (let z : 0 * 2 ^ length divisor + number v divisor ≡ number v divisor = omega arith in z)) in
     let longer_is : (v : ℕ → Bool) → number v longer' ≡ 2 * number v rest + bit (v next.at) = λ (v : ℕ → Bool). ap (number v) (e' ∙ e) ∙ number-push v rest next in
     let goes_is : (choice v : ℕ → Bool) → Runs ns choice v → v goes ≡ (nat_le (number v divisor) (2 * number v rest + bit (v next.at)) && v divides) = λ choice v r.
-          (let r2 = grown2.runs choice v r in let r1 = grown1.runs choice v r2 in
-           goes_value choice v r2 ∙ ap (λ b. b && v divides) ((difference_value n1 gone longer' wide' carry widths diff choice v r1).0 ∙ ap (λ n. nat_le n (number v longer')) (divisor_is choice v r1) ∙ ap (nat_le (number v divisor)) (longer_is v))) in
+    (let r2 = grown2.runs choice v r in let r1 = grown1.runs choice v r2 in
+    goes_value choice v r2 ∙ ap (λ b. b && v divides) ((difference_value n1 gone longer' wide' carry widths diff choice v r1).0 ∙ ap (λ n. nat_le n (number v longer')) (divisor_is choice v r1) ∙ ap (nat_le (number v divisor)) (longer_is v))) in
     record {
       wide = s.wide ∙ kept_wide;
       goes_below = omega (arith, inside, grown2.longer);
       left_below = s.below;
       goes_is = goes_is;
       left_is = λ choice v r.
-        (let r2 = grown2.runs choice v r in let r1 = grown1.runs choice v r2 in
-         let n = 2 * number v rest + bit (v next.at) in
-         let d = number v divisor in
-         let kept_is : number v kept ≡ number v gone % 2 ^ length rest = ap (number v) k ∙ drop_high v gone (length rest) gone_wide in
-         let kept_longer_is : number v kept_longer ≡ n % 2 ^ length rest = ap (number v) l ∙ drop_high v longer (length rest) (ap length (sym e') ∙ longer_wide) ∙ ap (λ m. m % 2 ^ length rest) (ap (number v) (sym e') ∙ longer_is v) in
-         let gone_is : number v gone ≡ difference (length longer') n d = (difference_value n1 gone longer' wide' carry widths diff choice v r1).1
-               ∙ ap (λ m. difference (length longer') m (number v wide')) (longer_is v) ∙ ap (difference (length longer') n) (divisor_is choice v r1) in
-         let gone_low : number v gone < 2 ^ length longer' = subst (λ (i : ℕ). number v gone < 2 ^ i) diff.wide (number-below v gone) in
-         let n_low : n < 2 ^ length longer' = subst (λ (m : ℕ). m < 2 ^ length longer') (longer_is v) (number-below v longer') in
-         s.value choice v r ∙ kept_is_exact (v goes) (v divides) (2 ^ length longer') (2 ^ length rest) (number v kept) (number v kept_longer) (number v gone) n d (goes_is choice v r) kept_is kept_longer_is gone_is gone_low n_low);
+          (let r2 = grown2.runs choice v r in let r1 = grown1.runs choice v r2 in
+          let n = 2 * number v rest + bit (v next.at) in
+          let d = number v divisor in
+          let kept_is : number v kept ≡ number v gone % 2 ^ length rest = ap (number v) k ∙ drop_high v gone (length rest) gone_wide in
+          let kept_longer_is : number v kept_longer ≡ n % 2 ^ length rest = ap (number v) l ∙ drop_high v longer (length rest) (ap length (sym e') ∙ longer_wide) ∙ ap (λ m. m % 2 ^ length rest) (ap (number v) (sym e') ∙ longer_is v) in
+          let gone_is : number v gone ≡ difference (length longer') n d = (difference_value n1 gone longer' wide' carry widths diff choice v r1).1
+          ∙ ap (λ m. difference (length longer') m (number v wide')) (longer_is v) ∙ ap (difference (length longer') n) (divisor_is choice v r1) in
+          let gone_low : number v gone < 2 ^ length longer' = subst (λ (i : ℕ). number v gone < 2 ^ i) diff.wide (number-below v gone) in
+          let n_low : n < 2 ^ length longer' = subst (λ (m : ℕ). m < 2 ^ length longer') (longer_is v) (number-below v longer') in
+          s.value choice v r ∙ kept_is_exact (v goes) (v divides) (2 ^ length longer') (2 ^ length rest) (number v kept) (number v kept_longer) (number v gone) n d (goes_is choice v r) kept_is kept_longer_is gone_is gone_low n_low);
     }
 
 -- one turn of the division
@@ -100,13 +100,11 @@ division_step v a divisor rest rest' left result new g d divides i same low wide
     let n_is : 2 * number v rest' + bit x ≡ 2 * number v rest + bit x = ap (λ m. 2 * m + bit x) rest_same in
     let goes' : v g.at ≡ (nat_le (number v divisor) (2 * number v rest + bit x) && not (nat_eq (number v divisor) 0)) = goes_is ∙ ap (λ n. nat_le (number v divisor) n && v divides) n_is ∙ ap (λ b. nat_le (number v divisor) (2 * number v rest + bit x) && b) nz in
     let left' : number v left ≡ (if v g.at then 2 * number v rest + bit x - number v divisor else 2 * number v rest + bit x) % 2 ^ length a =
-        left_is ∙ ap (λ n. (if v g.at then n - number v divisor else n) % 2 ^ length rest') n_is ∙ ap (λ j. (if v g.at then 2 * number v rest + bit x - number v divisor else 2 * number v rest + bit x) % 2 ^ j) (ap length e ∙ wide) in
+    left_is ∙ ap (λ n. (if v g.at then n - number v divisor else n) % 2 ^ length rest') n_is ∙ ap (λ j. (if v g.at then 2 * number v rest + bit x - number v divisor else 2 * number v rest + bit x) % 2 ^ j) (ap length e ∙ wide) in
     let both = divide_more x (v g.at) (number v (take i a)) (number v divisor) (length a) i (number v rest) (number v left) (number v result) low small divisor_low rest_is result_is goes' left' in
     let longer = number-take v a i d low in
     let pushed : number v new ≡ 2 * number v result + bit (v g.at) = ap (number v) f ∙ number-push v result g in
     (both.0 ∙ ap (λ t. remainder t (number v divisor)) (sym longer), pushed ∙ both.1 ∙ ap (λ t. quotient t (number v divisor)) (sym longer))
-
-
 
 pub division_none : (v : ℕ → Bool) (rest result divisor : List Gate) → number v rest ≡ 0 → result ≡ []
     → (number v rest ≡ remainder (number v []) (number v divisor)) × (number v result ≡ quotient (number v []) (number v divisor))
@@ -115,7 +113,7 @@ division_none v rest result divisor e f = (e ∙ by (cases_eq (number v divisor)
     by : (number v divisor ≡ 0) ⊎ (number v divisor ≡ 0 → ⊥) → 0 ≡ remainder (number v []) (number v divisor)
     by (inl z) = rw (eq-eqb (number v divisor) 0 z) (sym (number-nil v))
     by (inr nz) = rw (ne_eqb (number v divisor) 0 nz, number-nil v) (sym (zero-mod (number v divisor)))
+
     by' : (number v divisor ≡ 0) ⊎ (number v divisor ≡ 0 → ⊥) → 0 ≡ quotient (number v []) (number v divisor)
     by' (inl z) = rw (eq-eqb (number v divisor) 0 z) refl
     by' (inr nz) = rw (ne_eqb (number v divisor) 0 nz, number-nil v) (sym (zero-div (number v divisor)))
-pub ruleset product_laws = (product_none, product_step, DivideStep-is, division_step, division_none)

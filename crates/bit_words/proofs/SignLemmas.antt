@@ -213,5 +213,3 @@ widen_is true w m n s h =
     let copies : 2 ^ (m - w) - 1 + 1 ≡ 2 ^ (m - w) = omega arith in
     let spread : (2 ^ (m - w) - 1) * 2 ^ w + 2 ^ w ≡ 2 ^ m = omega (arith, ap (λ i. i * 2 ^ w) copies, whole) in
     rw (signed_minus w n s, mod-eq_of_lt low) (omega (arith, s.below, spread))
-
-pub ruleset sign_laws = (head_and_tail, sign_of_word, signed_quotient_is, signed_remainder_is, signed_less_is, moved_is, cut_is, widen_is)

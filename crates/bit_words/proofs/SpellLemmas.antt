@@ -41,7 +41,7 @@ Spells-sum old ns sum a a' b b' carry first s e f grown none =
       wide = t.wide;
       below = t.sum_below;
       value = λ choice v r. sum_value ns sum a b carry first t choice v r
-        ∙ ap (λ n. n % 2 ^ length a) (let add : number v a + number v b + bit (v first) ≡ number v a + number v b = rw (none choice v (grown.runs choice v r)) (omega arith) in add);
+          ∙ ap (λ n. n % 2 ^ length a) (let add : number v a + number v b + bit (v first) ≡ number v a + number v b = rw (none choice v (grown.runs choice v r)) (omega arith) in add);
     }
 
 -- the sum with the inverted word and a carry is the difference
@@ -52,13 +52,13 @@ Difference-sum old ns d a b inverse inverse' carry always same s e grown inv hol
   below = s.sum_below;
   carry_below = s.carry_below;
   value = λ choice v r.
-    (let on : v always ≡ true = holds choice v (grown.runs choice v r) in
-     let sum : number v d + bit (v carry) * 2 ^ length a ≡ number v a + number v inverse' + bit (v always) = s.value choice v r in
-     let turned : number v inverse' ≡ 2 ^ length b - 1 - number v b = ap (number v) e ∙ inv.value choice v (grown.runs choice v r) ∙ rw on refl in
-     let one : bit (v always) ≡ 1 = ap bit on in
-     let small : number v b < 2 ^ length b = number-below v b in
-     let widths : 2 ^ length a ≡ 2 ^ length b = ap (λ k. 2 ^ k) same in
-     omega arith);
+      (let on : v always ≡ true = holds choice v (grown.runs choice v r) in
+      let sum : number v d + bit (v carry) * 2 ^ length a ≡ number v a + number v inverse' + bit (v always) = s.value choice v r in
+      let turned : number v inverse' ≡ 2 ^ length b - 1 - number v b = ap (number v) e ∙ inv.value choice v (grown.runs choice v r) ∙ rw on refl in
+      let one : bit (v always) ≡ 1 = ap bit on in
+      let small : number v b < 2 ^ length b = number-below v b in
+      let widths : 2 ^ length a ≡ 2 ^ length b = ap (λ k. 2 ^ k) same in
+      omega arith);
 }
 
 -- a word taken from zero where a gate holds
@@ -72,11 +72,11 @@ Spells-negated n1 n2 ns sum a turned turned' none none' carry when never s e f g
       wide = s.wide ∙ wide;
       below = s.sum_below;
       value = λ choice v r.
-        (let r2 = grown2.runs choice v r in
-         let r1 = grown1.runs choice v r2 in
-         let nothing : number v none' ≡ 0 = ap (number v) f ∙ z.value choice v r1 ∙ rw (off choice v r1) refl in
-         let flipped : number v turned' ≡ (if v when then 2 ^ length a - 1 - number v a else number v a) = ap (number v) e ∙ t.value choice v r2 in
-         sum_value ns sum turned' none' carry when s choice v r ∙ ap (λ k. (number v turned' + number v none' + bit (v when)) % 2 ^ k) wide ∙ by (v when) (2 ^ length a) (number v a) (number v turned') (number v none') flipped nothing (number-below v a));
+          (let r2 = grown2.runs choice v r in
+          let r1 = grown1.runs choice v r2 in
+          let nothing : number v none' ≡ 0 = ap (number v) f ∙ z.value choice v r1 ∙ rw (off choice v r1) refl in
+          let flipped : number v turned' ≡ (if v when then 2 ^ length a - 1 - number v a else number v a) = ap (number v) e ∙ t.value choice v r2 in
+          sum_value ns sum turned' none' carry when s choice v r ∙ ap (λ k. (number v turned' + number v none' + bit (v when)) % 2 ^ k) wide ∙ by (v when) (2 ^ length a) (number v a) (number v turned') (number v none') flipped nothing (number-below v a));
     }
   where
     by : (c : Bool) (p n t z : ℕ) → t ≡ (if c then p - 1 - n else n) → z ≡ 0 → n < p → (t + z + bit c) % p ≡ (if c then (p - n) % p else n)
@@ -92,12 +92,12 @@ Spells-sum_where n1 n2 ns sum a b counted counted' none none' carry when never s
   wide = s.wide;
   below = s.sum_below;
   value = λ choice v r.
-    (let r2 = grown2.runs choice v r in
-     let r1 = grown1.runs choice v r2 in
-     let nothing : number v none' ≡ 0 = ap (number v) f ∙ z.value choice v r1 ∙ rw (off choice v r1) refl in
-     let chosen : number v counted' ≡ (if v when then number v b else 0) = ap (number v) e ∙ t.value choice v r2 ∙ ap (λ n. if v when then number v b else n) nothing in
-     let zero_bit : bit (v never) ≡ 0 = ap bit (off choice v r1) in
-     sum_value ns sum a counted' carry never s choice v r ∙ ap (λ k. k % 2 ^ length a) (let whole : number v a + number v counted' + bit (v never) ≡ number v a + (if v when then number v b else 0) = rw (chosen, zero_bit) (omega arith) in whole));
+      (let r2 = grown2.runs choice v r in
+      let r1 = grown1.runs choice v r2 in
+      let nothing : number v none' ≡ 0 = ap (number v) f ∙ z.value choice v r1 ∙ rw (off choice v r1) refl in
+      let chosen : number v counted' ≡ (if v when then number v b else 0) = ap (number v) e ∙ t.value choice v r2 ∙ ap (λ n. if v when then number v b else n) nothing in
+      let zero_bit : bit (v never) ≡ 0 = ap bit (off choice v r1) in
+      sum_value ns sum a counted' carry never s choice v r ∙ ap (λ k. k % 2 ^ length a) (let whole : number v a + number v counted' + bit (v never) ≡ number v a + (if v when then number v b else 0) = rw (chosen, zero_bit) (omega arith) in whole));
 }
 
 -- what the carry and the bits of a difference say
@@ -105,6 +105,15 @@ pub difference_value : (ns : List Node) (d a b : List Gate) (carry : ℕ) → le
     → (v carry ≡ nat_le (number v b) (number v a)) × (number v d ≡ difference (length a) (number v a) (number v b))
 difference_value ns d a b carry same s choice v r =
     let small_d = word_below v d (length a) s.wide in
-    let small_b = word_below v b (length a) (sym same) in
-    (no_borrow (v carry) (2 ^ length a) (number v d) (number v a) (number v b) small_d (number-below v a) small_b (s.value choice v r),
-     difference_low (v carry) (2 ^ length a) (number v d) (number v a) (number v b) small_d (number-below v a) small_b (s.value choice v r))
+    let small_b = word_below v b (length a) (sym same) in (
+      no_borrow (v carry) (2 ^ length a) (number v d) (number v a) (number v b) small_d (number-below v a) small_b (s.value choice v r),
+      difference_low (v carry) (2 ^ length a) (number v d) (number v a) (number v b) small_d (number-below v a) small_b (s.value choice v r),
+    )
+
+-- the bits of a difference
+pub Spells-difference : (ns : List Node) (d a a' b b' : List Gate) (carry : ℕ) → length a ≡ length b → IsDifference ns d carry a' b' → a' ≡ a → b' ≡ b
+    → Spells ns d (length a) (λ v. difference (length a) (number v a) (number v b))
+Spells-difference ns d a a' b b' carry same s e f =
+    let s' = subst (λ (x : List Gate). IsDifference ns d carry x b') e s in
+    let t : IsDifference ns d carry a b = subst (λ (y : List Gate). IsDifference ns d carry a y) f s' in
+    record { wide = t.wide; below = t.below; value = λ choice v r. (difference_value ns d a b carry same t choice v r).1 }

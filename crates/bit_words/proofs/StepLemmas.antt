@@ -107,16 +107,18 @@ difference_exact p n a b h k l e =
 pub divide_rest : (t d n r q : ℕ) → n ≡ 2 * (t % d) + r → r < 2 → 0 < d → (d ≤ n → (2 * t + r) % d ≡ n - d) × (n < d → (2 * t + r) % d ≡ n)
 divide_rest t d n r q e h pos' =
     let low : t % d < d = mod-lt t pos' in
-    let whole : 2 * t + r ≡ 2 * (t / d) * d + n = omega (arith, ap (λ k. 2 * k) (div-add-mod' t d)) in
-    ((λ over. (let turned : 2 * t + r ≡ (2 * (t / d) + 1) * d + (n - d) = omega arith in ap (λ k. k % d) turned ∙ mod-mul-add (2 * (t / d) + 1) d (n - d) (omega arith))),
-     (λ under. ap (λ k. k % d) whole ∙ mod-mul-add (2 * (t / d)) d n under))
+    let whole : 2 * t + r ≡ 2 * (t / d) * d + n = omega (arith, ap (λ k. 2 * k) (div-add-mod' t d)) in (
+      (λ over. (let turned : 2 * t + r ≡ (2 * (t / d) + 1) * d + (n - d) = omega arith in ap (λ k. k % d) turned ∙ mod-mul-add (2 * (t / d) + 1) d (n - d) (omega arith))),
+      (λ under. ap (λ k. k % d) whole ∙ mod-mul-add (2 * (t / d)) d n under),
+    )
 
 pub divide_quotient : (t d n r q : ℕ) → n ≡ 2 * (t % d) + r → r < 2 → 0 < d → (d ≤ n → (2 * t + r) / d ≡ 2 * (t / d) + 1) × (n < d → (2 * t + r) / d ≡ 2 * (t / d))
 divide_quotient t d n r q e h pos' =
     let low : t % d < d = mod-lt t pos' in
-    let whole : 2 * t + r ≡ 2 * (t / d) * d + n = omega (arith, ap (λ k. 2 * k) (div-add-mod' t d)) in
-    ((λ over. (let turned : 2 * t + r ≡ (2 * (t / d) + 1) * d + (n - d) = omega arith in ap (λ k. k / d) turned ∙ div-mul-add (2 * (t / d) + 1) d (n - d) (omega arith))),
-     (λ under. ap (λ k. k / d) whole ∙ div-mul-add (2 * (t / d)) d n under))
+    let whole : 2 * t + r ≡ 2 * (t / d) * d + n = omega (arith, ap (λ k. 2 * k) (div-add-mod' t d)) in (
+      (λ over. (let turned : 2 * t + r ≡ (2 * (t / d) + 1) * d + (n - d) = omega arith in ap (λ k. k / d) turned ∙ div-mul-add (2 * (t / d) + 1) d (n - d) (omega arith))),
+      (λ under. ap (λ k. k / d) whole ∙ div-mul-add (2 * (t / d)) d n under),
+    )
 
 bit-small : (b : Bool) → bit b < 2
 bit-small true = omega arith
@@ -145,22 +147,25 @@ divide_more x q t d w i rest new quot deep small below e f g h = by (cases_eq d 
   where
     one_bit : bit x < 2
     one_bit = bit-small x
+
     by : (d ≡ 0) ⊎ (d ≡ 0 → ⊥) → (2 * rest + bit x < d) ⊎ (d ≤ 2 * rest + bit x) → (new ≡ remainder (2 * t + bit x) d) × (2 * quot + bit q ≡ quotient (2 * t + bit x) d)
     by (inl z) _ =
         let off : q ≡ false = g ∙ rw (eq-eqb d 0 z) (and-false (nat_le d (2 * rest + bit x))) in
         let same : rest ≡ t = e ∙ remainder-zero t d z in
         let fits : 2 * rest + bit x < 2 ^ w = omega (arith, one_bit, pow-suc 2 i, pow-le w (suc i) deep) in
-        let now : new ≡ 2 * rest + bit x = h ∙ rw off (mod-eq_of_lt fits) in
-        (now ∙ ap (λ k. 2 * k + bit x) same ∙ sym (remainder-zero (2 * t + bit x) d z),
-         rw (off, f, quotient-zero t d z) (sym (quotient-zero (2 * t + bit x) d z)))
+        let now : new ≡ 2 * rest + bit x = h ∙ rw off (mod-eq_of_lt fits) in (
+          now ∙ ap (λ k. 2 * k + bit x) same ∙ sym (remainder-zero (2 * t + bit x) d z),
+          rw (off, f, quotient-zero t d z) (sym (quotient-zero (2 * t + bit x) d z)),
+        )
     by (inr nz) (inl under) =
         let pos' : 0 < d = omega arith in
         let off : q ≡ false = g ∙ rw (lt-leb d (2 * rest + bit x) under) refl in
         let same : rest ≡ t % d = e ∙ remainder-pos t d pos' in
         let n_is : 2 * rest + bit x ≡ 2 * (t % d) + bit x = ap (λ k. 2 * k + bit x) same in
-        let now : new ≡ 2 * rest + bit x = h ∙ rw off (mod-eq_of_lt (let fits : 2 * rest + bit x < 2 ^ w = omega arith in fits)) in
-        (now ∙ sym ((divide_rest t d (2 * rest + bit x) (bit x) 0 n_is one_bit pos').1 under) ∙ sym (remainder-pos (2 * t + bit x) d pos'),
-         rw (off, f, quotient-pos t d pos') (omega (arith, (divide_quotient t d (2 * rest + bit x) (bit x) 0 n_is one_bit pos').1 under, quotient-pos (2 * t + bit x) d pos')))
+        let now : new ≡ 2 * rest + bit x = h ∙ rw off (mod-eq_of_lt (let fits : 2 * rest + bit x < 2 ^ w = omega arith in fits)) in (
+          now ∙ sym ((divide_rest t d (2 * rest + bit x) (bit x) 0 n_is one_bit pos').1 under) ∙ sym (remainder-pos (2 * t + bit x) d pos'),
+          rw (off, f, quotient-pos t d pos') (omega (arith, (divide_quotient t d (2 * rest + bit x) (bit x) 0 n_is one_bit pos').1 under, quotient-pos (2 * t + bit x) d pos')),
+        )
     by (inr nz) (inr over) =
         let pos' : 0 < d = omega arith in
         let on : q ≡ true = g ∙ rw (le-leb d (2 * rest + bit x) over, ne_eqb d 0 nz) refl in
@@ -168,9 +173,10 @@ divide_more x q t d w i rest new quot deep small below e f g h = by (cases_eq d 
         let low : t % d < d = mod-lt t pos' in
         let n_is : 2 * rest + bit x ≡ 2 * (t % d) + bit x = ap (λ k. 2 * k + bit x) same in
         let fits : 2 * rest + bit x - d < 2 ^ w = omega (arith, one_bit) in
-        let now : new ≡ 2 * rest + bit x - d = h ∙ rw on (mod-eq_of_lt fits) in
-        (now ∙ sym ((divide_rest t d (2 * rest + bit x) (bit x) 0 n_is one_bit pos').0 over) ∙ sym (remainder-pos (2 * t + bit x) d pos'),
-         rw (on, f, quotient-pos t d pos') (omega (arith, (divide_quotient t d (2 * rest + bit x) (bit x) 0 n_is one_bit pos').0 over, quotient-pos (2 * t + bit x) d pos')))
+        let now : new ≡ 2 * rest + bit x - d = h ∙ rw on (mod-eq_of_lt fits) in (
+          now ∙ sym ((divide_rest t d (2 * rest + bit x) (bit x) 0 n_is one_bit pos').0 over) ∙ sym (remainder-pos (2 * t + bit x) d pos'),
+          rw (on, f, quotient-pos t d pos') (omega (arith, (divide_quotient t d (2 * rest + bit x) (bit x) 0 n_is one_bit pos').0 over, quotient-pos (2 * t + bit x) d pos')),
+        )
 
 -- a function of numbers that goes bit by bit
 block : (f : ℕ → ℕ → ℕ) (g : Bool → Bool → Bool) → ((a b r s : ℕ) → r < 2 ^ 1 → s < 2 ^ 1 → f (a * 2 ^ 1 + r) (b * 2 ^ 1 + s) ≡ f a b * 2 ^ 1 + f r s) → ((x y : Bool) → bit (g x y) ≡ f (bit x) (bit y))
@@ -209,5 +215,3 @@ or_more x y m n = block bit_or (λ p q. p || q) (or_block 1) or_bits x y m n
 
 pub xor_more : (x y : Bool) (m n : ℕ) → 2 * bit_xor m n + bit (xor x y) ≡ bit_xor (2 * m + bit x) (2 * n + bit y)
 xor_more x y m n = block bit_xor xor (xor_block 1) xor_bits x y m n
-
-pub ruleset step_laws = (sum_more, flip_more, select_more, equal_more, less_more, mul_more, sum_low, no_borrow, difference_low, difference_exact, divide_more, and_more, or_more, xor_more)

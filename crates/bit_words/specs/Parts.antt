@@ -52,7 +52,7 @@ pub record IsDivideStep (ns : List Node) (goes : ℕ) (left rest : List Gate) (n
   pub left_below : top left ≤ length ns
   pub goes_is : (choice v : ℕ → Bool) → Runs ns choice v → v goes ≡ (nat_le (number v divisor) (2 * number v rest + bit (v next)) && v divides)
   pub left_is : (choice v : ℕ → Bool) → Runs ns choice v
-    → number v left ≡ (if v goes then 2 * number v rest + bit (v next) - number v divisor else 2 * number v rest + bit (v next)) % 2 ^ length rest
+      → number v left ≡ (if v goes then 2 * number v rest + bit (v next) - number v divisor else 2 * number v rest + bit (v next)) % 2 ^ length rest
 
 -- the quotient and the remainder of two words of one width
 pub record IsDivision (ns : List Node) (result left a divisor : List Gate) : Type 0 where
@@ -75,9 +75,9 @@ pub record IsDivisionOfMagnitudes (ns : List Node) (result left a b : List Gate)
   pub result_below : top result ≤ length ns
   pub left_below : top left ≤ length ns
   pub result_is : (choice v : ℕ → Bool) → Runs ns choice v
-    → number v result ≡ quotient (magnitude (v (first a)) (2 ^ length a) (number v a)) (magnitude (v (first b)) (2 ^ length a) (number v b))
+      → number v result ≡ quotient (magnitude (v (first a)) (2 ^ length a) (number v a)) (magnitude (v (first b)) (2 ^ length a) (number v b))
   pub left_is : (choice v : ℕ → Bool) → Runs ns choice v
-    → number v left ≡ remainder (magnitude (v (first a)) (2 ^ length a) (number v a)) (magnitude (v (first b)) (2 ^ length a) (number v b))
+      → number v left ≡ remainder (magnitude (v (first a)) (2 ^ length a) (number v a)) (magnitude (v (first b)) (2 ^ length a) (number v b))
 
 -- the bits of a number of `width` bits moved by k places, with zeros in the places that become free
 abbrev pub moved : Direction → (width n k : ℕ) → ℕ
@@ -90,4 +90,4 @@ pub record IsShiftStep (ns : List Node) (new : List Gate) (new_beyond : ℕ) (di
   pub below : top new ≤ length ns
   pub beyond_below : new_beyond < length ns
   pub value : (choice v : ℕ → Bool) → Runs ns choice v
-    → (if v new_beyond then 0 else number v new) ≡ moved direction (length word) (if v beyond then 0 else number v word) (if v bit then by else 0)
+      → (if v new_beyond then 0 else number v new) ≡ moved direction (length word) (if v beyond then 0 else number v word) (if v bit then by else 0)

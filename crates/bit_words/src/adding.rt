@@ -86,7 +86,12 @@ pub fn negated(net: &mut Net, a: &[Gate], when: Gate) -> Result<Vec<Gate>, OutOf
 }
 
 /// The sum of two words of one width, the second of which counts only where `when` holds.
-pub fn add_where(net: &mut Net, a: &[Gate], b: &[Gate], when: Gate) -> Result<Vec<Gate>, OutOfMemory>
+pub fn add_where(
+    net: &mut Net,
+    a: &[Gate],
+    b: &[Gate],
+    when: Gate,
+) -> Result<Vec<Gate>, OutOfMemory>
     requires same { length a.now ≡ length b.now }
     requires a { top a.now ≤ length net.old }
     requires b { top b.now ≤ length net.old }

@@ -1,8 +1,8 @@
 //! Circuits that go over the bits of words one by one: inverting, choosing, bitwise operators, tests.
-ghost use Rattle.std.specs.Prelude.{◌≡◌, ℕ, ◌+◌, ◌-◌, ◌^◌, ◌<◌, ◌≤◌, not, ◌&&◌, if◌then◌else◌, nat_eq, nat_lt, length, IfOk};
+ghost use Rattle.std.specs.Prelude.{◌≡◌, ℕ, ◌+◌, ◌-◌, ◌^◌, ◌<◌, ◌≤◌, not, ◌&&◌, if◌then◌else◌, nat_eq, nat_lt, int_lt, length, IfOk};
 ghost use Rattle.bit_net.specs.Value.{xor};
 ghost use Rattle.bit_net.specs.Runs.{Grown, Gives};
-ghost use Rattle.bit_words.specs.Number.{number, top};
+ghost use Rattle.bit_words.specs.Number.{number, top, signed};
 ghost use Rattle.bit_words.specs.Parts.{bit_of, number_of};
 ghost use Rattle.bit_words.specs.Spells.{Spells};
 
@@ -78,7 +78,12 @@ pub fn apply(net: &mut Net, operator: Bitwise, a: Gate, b: Gate) -> Result<Gate,
 
 /// A bitwise operator on two words (C11 6.5.10 to 6.5.12).
 #[tactic(auto, using(crate::proofs::NumberLemmas::bound_laws))]
-pub fn combine(net: &mut Net, operator: Bitwise, a: &[Gate], b: &[Gate]) -> Result<Vec<Gate>, OutOfMemory>
+pub fn combine(
+    net: &mut Net,
+    operator: Bitwise,
+    a: &[Gate],
+    b: &[Gate],
+) -> Result<Vec<Gate>, OutOfMemory>
     requires same { length a.now ≡ length b.now }
     requires a { top a.now ≤ length net.old }
     requires b { top b.now ≤ length net.old }
@@ -151,4 +156,18 @@ pub fn less(net: &mut Net, a: &[Gate], b: &[Gate]) -> Result<Gate, OutOfMemory>
         less = more;
     }
     Ok(less)
+}
+
+/// Holds where the signed number of `a` is below that of `b`: the sign bits decide, the other way round, and else the bits below.
+#[tactic(auto, using(crate::proofs::NumberLemmas::bound_laws))]
+pub fn less_signed(net: &mut Net, a: &[Gate], b: &[Gate]) -> Result<Gate, OutOfMemory>
+    requires some { 0 < length a.now }
+    requires same { length a.now ≡ length b.now }
+    requires a { top a.now ≤ length net.old }
+    requires b { top b.now ≤ length net.old }
+    ensures grown { Grown net.old net.new }
+    ensures ok { IfOk result (λ r. Gives net.new r.at (λ choice v. int_lt (signed (length a.now) (number v a.now)) (signed (length a.now) (number v b.now)))) }
+{
+    let below = less(net, &a[1..], &b[1..])?;
+    less_bit(net, b[0], a[0], below)
 }

@@ -5,7 +5,6 @@ ghost use Rattle.bit_words.specs.Number.{number, top, signed_quotient, signed_re
 ghost use Rattle.bit_words.specs.Parts.{IsDivideStep, IsDivision, IsDivisionOfMagnitudes};
 ghost use Rattle.bit_words.specs.Spells.{Spells};
 
-
 use crate::{adding, bits};
 use bit_net::{Gate, Net, OutOfMemory};
 
@@ -36,7 +35,13 @@ fn nonzero(net: &mut Net, a: &[Gate]) -> Result<Gate, OutOfMemory>
 
 #[tactic(auto, using(crate::proofs::NumberLemmas::bound_laws))]
 /// What is left so far with one bit more behind it: takes the divisor away where it goes into that and `divides` holds.
-fn divide_step(net: &mut Net, rest: &[Gate], bit: Gate, divisor: &[Gate], divides: Gate) -> Result<DivideStep, OutOfMemory>
+fn divide_step(
+    net: &mut Net,
+    rest: &[Gate],
+    bit: Gate,
+    divisor: &[Gate],
+    divides: Gate,
+) -> Result<DivideStep, OutOfMemory>
     requires same { length rest.now ≡ length divisor.now }
     requires rest { top rest.now ≤ length net.old }
     requires bit { bit.at < length net.old }

@@ -2,12 +2,12 @@
 //! of the operands.
 //!
 //! A word is a list of gates, high bit first, of 1 to 64 bits. `specs/Number.antt` says which number a word spells, unsigned and
-//! signed, and what each call makes of numbers.
+//! signed, and what each call makes of numbers. After `OutOfMemory` the net may have more gates; earlier gates keep their values.
 #![tactic(auto)]
 
-ghost use Rattle.std.specs.Prelude.{◌≡◌, ℕ, ◌+◌, ◌≤◌, ◌%◌, ◌^◌, length, IfOk};
-ghost use Rattle.bit_net.specs.Runs.{Grown};
-ghost use Rattle.bit_words.specs.Number.{number, top, difference};
+ghost use Rattle.std.specs.Prelude.{◌≡◌, ℕ, ◌+◌, ◌*◌, ◌/◌, ◌%◌, ◌^◌, ◌<◌, ◌≤◌, length, IfOk, nat_eq, nat_lt, int_lt, bit_and, bit_or, bit_xor};
+ghost use Rattle.bit_net.specs.Runs.{Grown, Gives};
+ghost use Rattle.bit_words.specs.Number.{number, top, signed, wrapped, difference, quotient, remainder, signed_quotient, signed_remainder, moved_down, converted};
 ghost use Rattle.bit_words.specs.Spells.{Spells};
 
 mod adding;
@@ -16,8 +16,12 @@ mod converting;
 mod dividing;
 mod multiplying;
 mod shifting;
+#[cfg(test)]
+mod tests;
 
 use bit_net::{Gate, Net, OutOfMemory};
+use bits::Bitwise;
+use shifting::Direction;
 
 /// A word: its bits, the high one first.
 #[derive(Drop)]
@@ -25,16 +29,219 @@ pub struct Word {
     pub bits: Vec<Gate>,
 }
 
-/// The sum of two words of one width, modulo 2 to the width (C11 6.2.5).
+/// The sum of two words of one width, modulo 2 to the width (C11 6.2.5, 6.5.6).
 pub fn add(net: &mut Net, a: &Word, b: &Word) -> Result<Word, OutOfMemory>
     requires same { length a.now.bits.items ≡ length b.now.bits.items }
     requires a { top a.now.bits.items ≤ length net.old }
     requires b { top b.now.bits.items ≤ length net.old }
     ensures grown { Grown net.old net.new }
-    ensures ok { IfOk result (λ r. Spells net.new r.bits.items (length a.now.bits.items)
-        (λ v. (number v a.now.bits.items + number v b.now.bits.items) % 2 ^ length a.now.bits.items)) }
+    ensures ok { IfOk result (λ r. Spells net.new r.bits.items (length a.now.bits.items) (λ v. (number v a.now.bits.items + number v b.now.bits.items) % 2 ^ length a.now.bits.items)) }
 {
     let none = net.constant(false);
     let sum = adding::sum_of(net, &a.bits, &b.bits, none)?;
     Ok(Word { bits: sum.bits })
+}
+
+/// The difference of two words of one width, modulo 2 to the width (C11 6.5.6).
+pub fn sub(net: &mut Net, a: &Word, b: &Word) -> Result<Word, OutOfMemory>
+    requires same { length a.now.bits.items ≡ length b.now.bits.items }
+    requires a { top a.now.bits.items ≤ length net.old }
+    requires b { top b.now.bits.items ≤ length net.old }
+    ensures grown { Grown net.old net.new }
+    ensures ok { IfOk result (λ r. Spells net.new r.bits.items (length a.now.bits.items) (λ v. difference (length a.now.bits.items) (number v a.now.bits.items) (number v b.now.bits.items))) }
+{
+    let difference = adding::difference_of(net, &a.bits, &b.bits)?;
+    Ok(Word {
+        bits: difference.bits,
+    })
+}
+
+/// The product of two words of one width, modulo 2 to the width (C11 6.5.5).
+pub fn mul(net: &mut Net, a: &Word, b: &Word) -> Result<Word, OutOfMemory>
+    requires same { length a.now.bits.items ≡ length b.now.bits.items }
+    requires a { top a.now.bits.items ≤ length net.old }
+    requires b { top b.now.bits.items ≤ length net.old }
+    ensures grown { Grown net.old net.new }
+    ensures ok { IfOk result (λ r. Spells net.new r.bits.items (length a.now.bits.items) (λ v. (number v a.now.bits.items * number v b.now.bits.items) % 2 ^ length a.now.bits.items)) }
+{
+    let bits = multiplying::product(net, &a.bits, &b.bits)?;
+    Ok(Word { bits })
+}
+
+/// The bitwise and of two words (C11 6.5.10).
+pub fn and_words(net: &mut Net, a: &Word, b: &Word) -> Result<Word, OutOfMemory>
+    requires same { length a.now.bits.items ≡ length b.now.bits.items }
+    requires a { top a.now.bits.items ≤ length net.old }
+    requires b { top b.now.bits.items ≤ length net.old }
+    ensures grown { Grown net.old net.new }
+    ensures ok { IfOk result (λ r. Spells net.new r.bits.items (length a.now.bits.items) (λ v. bit_and (number v a.now.bits.items) (number v b.now.bits.items))) }
+{
+    let bits = bits::combine(net, Bitwise::And, &a.bits, &b.bits)?;
+    Ok(Word { bits })
+}
+
+/// The bitwise inclusive or of two words (C11 6.5.12).
+pub fn or_words(net: &mut Net, a: &Word, b: &Word) -> Result<Word, OutOfMemory>
+    requires same { length a.now.bits.items ≡ length b.now.bits.items }
+    requires a { top a.now.bits.items ≤ length net.old }
+    requires b { top b.now.bits.items ≤ length net.old }
+    ensures grown { Grown net.old net.new }
+    ensures ok { IfOk result (λ r. Spells net.new r.bits.items (length a.now.bits.items) (λ v. bit_or (number v a.now.bits.items) (number v b.now.bits.items))) }
+{
+    let bits = bits::combine(net, Bitwise::Or, &a.bits, &b.bits)?;
+    Ok(Word { bits })
+}
+
+/// The bitwise exclusive or of two words (C11 6.5.11).
+pub fn xor_words(net: &mut Net, a: &Word, b: &Word) -> Result<Word, OutOfMemory>
+    requires same { length a.now.bits.items ≡ length b.now.bits.items }
+    requires a { top a.now.bits.items ≤ length net.old }
+    requires b { top b.now.bits.items ≤ length net.old }
+    ensures grown { Grown net.old net.new }
+    ensures ok { IfOk result (λ r. Spells net.new r.bits.items (length a.now.bits.items) (λ v. bit_xor (number v a.now.bits.items) (number v b.now.bits.items))) }
+{
+    let bits = bits::combine(net, Bitwise::Xor, &a.bits, &b.bits)?;
+    Ok(Word { bits })
+}
+
+/// The quotient of two unsigned words (C11 6.5.5); 0 for a zero divisor.
+pub fn div_u(net: &mut Net, a: &Word, b: &Word) -> Result<Word, OutOfMemory>
+    requires same { length a.now.bits.items ≡ length b.now.bits.items }
+    requires a { top a.now.bits.items ≤ length net.old }
+    requires b { top b.now.bits.items ≤ length net.old }
+    ensures grown { Grown net.old net.new }
+    ensures ok { IfOk result (λ r. Spells net.new r.bits.items (length a.now.bits.items) (λ v. quotient (number v a.now.bits.items) (number v b.now.bits.items))) }
+{
+    let division = dividing::divide(net, &a.bits, &b.bits)?;
+    Ok(Word {
+        bits: division.quotient,
+    })
+}
+
+/// The quotient of two signed words, rounded toward zero (C11 6.5.5); 0 for a zero divisor, and the least number divided by -1
+/// wraps to itself.
+pub fn div_s(net: &mut Net, a: &Word, b: &Word) -> Result<Word, OutOfMemory>
+    requires some { 0 < length a.now.bits.items }
+    requires same { length a.now.bits.items ≡ length b.now.bits.items }
+    requires a { top a.now.bits.items ≤ length net.old }
+    requires b { top b.now.bits.items ≤ length net.old }
+    ensures grown { Grown net.old net.new }
+    ensures ok { IfOk result (λ r. Spells net.new r.bits.items (length a.now.bits.items) (λ v. signed_quotient (length a.now.bits.items) (number v a.now.bits.items) (number v b.now.bits.items))) }
+{
+    let bits = dividing::quotient_signed(net, &a.bits, &b.bits)?;
+    Ok(Word { bits })
+}
+
+/// The remainder of two unsigned words; the dividend for a zero divisor.
+pub fn rem_u(net: &mut Net, a: &Word, b: &Word) -> Result<Word, OutOfMemory>
+    requires same { length a.now.bits.items ≡ length b.now.bits.items }
+    requires a { top a.now.bits.items ≤ length net.old }
+    requires b { top b.now.bits.items ≤ length net.old }
+    ensures grown { Grown net.old net.new }
+    ensures ok { IfOk result (λ r. Spells net.new r.bits.items (length a.now.bits.items) (λ v. remainder (number v a.now.bits.items) (number v b.now.bits.items))) }
+{
+    let division = dividing::divide(net, &a.bits, &b.bits)?;
+    Ok(Word {
+        bits: division.rest,
+    })
+}
+
+/// The remainder of two signed words, with the sign of the dividend (C11 6.5.5); the dividend for a zero divisor.
+pub fn rem_s(net: &mut Net, a: &Word, b: &Word) -> Result<Word, OutOfMemory>
+    requires some { 0 < length a.now.bits.items }
+    requires same { length a.now.bits.items ≡ length b.now.bits.items }
+    requires a { top a.now.bits.items ≤ length net.old }
+    requires b { top b.now.bits.items ≤ length net.old }
+    ensures grown { Grown net.old net.new }
+    ensures ok { IfOk result (λ r. Spells net.new r.bits.items (length a.now.bits.items) (λ v. signed_remainder (length a.now.bits.items) (number v a.now.bits.items) (number v b.now.bits.items))) }
+{
+    let bits = dividing::remainder_signed(net, &a.bits, &b.bits)?;
+    Ok(Word { bits })
+}
+
+/// The word moved to higher places by the number of `b` (C11 6.5.7); a count that is not below the width gives 0.
+pub fn shl(net: &mut Net, a: &Word, b: &Word) -> Result<Word, OutOfMemory>
+    requires small { length a.now.bits.items ≤ 64 }
+    requires same { length a.now.bits.items ≡ length b.now.bits.items }
+    requires a { top a.now.bits.items ≤ length net.old }
+    requires b { top b.now.bits.items ≤ length net.old }
+    ensures grown { Grown net.old net.new }
+    ensures ok { IfOk result (λ r. Spells net.new r.bits.items (length a.now.bits.items) (λ v. (number v a.now.bits.items * 2 ^ number v b.now.bits.items) % 2 ^ length a.now.bits.items)) }
+{
+    let bits = shifting::shift(net, Direction::Up, &a.bits, &b.bits)?;
+    Ok(Word { bits })
+}
+
+/// The unsigned word moved to lower places by the number of `b` (C11 6.5.7); a count that is not below the width gives 0.
+pub fn shr_u(net: &mut Net, a: &Word, b: &Word) -> Result<Word, OutOfMemory>
+    requires small { length a.now.bits.items ≤ 64 }
+    requires same { length a.now.bits.items ≡ length b.now.bits.items }
+    requires a { top a.now.bits.items ≤ length net.old }
+    requires b { top b.now.bits.items ≤ length net.old }
+    ensures grown { Grown net.old net.new }
+    ensures ok { IfOk result (λ r. Spells net.new r.bits.items (length a.now.bits.items) (λ v. number v a.now.bits.items / 2 ^ number v b.now.bits.items)) }
+{
+    let bits = shifting::shift(net, Direction::Down, &a.bits, &b.bits)?;
+    Ok(Word { bits })
+}
+
+/// The signed word moved to lower places by the number of `b`, with copies of the sign bit above it (C11 6.5.7); a count that is
+/// not below the width leaves copies of the sign bit alone.
+pub fn shr_s(net: &mut Net, a: &Word, b: &Word) -> Result<Word, OutOfMemory>
+    requires some { 0 < length a.now.bits.items }
+    requires small { length a.now.bits.items ≤ 64 }
+    requires same { length a.now.bits.items ≡ length b.now.bits.items }
+    requires a { top a.now.bits.items ≤ length net.old }
+    requires b { top b.now.bits.items ≤ length net.old }
+    ensures grown { Grown net.old net.new }
+    ensures ok { IfOk result (λ r. Spells net.new r.bits.items (length a.now.bits.items) (λ v. wrapped (length a.now.bits.items) (moved_down (signed (length a.now.bits.items) (number v a.now.bits.items)) (number v b.now.bits.items)))) }
+{
+    let bits = shifting::shift_signed(net, &a.bits, &b.bits)?;
+    Ok(Word { bits })
+}
+
+/// Holds where the unsigned number of `a` is below that of `b` (C11 6.5.8).
+pub fn less_u(net: &mut Net, a: &Word, b: &Word) -> Result<Gate, OutOfMemory>
+    requires same { length a.now.bits.items ≡ length b.now.bits.items }
+    requires a { top a.now.bits.items ≤ length net.old }
+    requires b { top b.now.bits.items ≤ length net.old }
+    ensures grown { Grown net.old net.new }
+    ensures ok { IfOk result (λ r. Gives net.new r.at (λ choice v. nat_lt (number v a.now.bits.items) (number v b.now.bits.items))) }
+{
+    bits::less(net, &a.bits, &b.bits)
+}
+
+/// Holds where the signed number of `a` is below that of `b` (C11 6.5.8).
+pub fn less_s(net: &mut Net, a: &Word, b: &Word) -> Result<Gate, OutOfMemory>
+    requires some { 0 < length a.now.bits.items }
+    requires same { length a.now.bits.items ≡ length b.now.bits.items }
+    requires a { top a.now.bits.items ≤ length net.old }
+    requires b { top b.now.bits.items ≤ length net.old }
+    ensures grown { Grown net.old net.new }
+    ensures ok { IfOk result (λ r. Gives net.new r.at (λ choice v. int_lt (signed (length a.now.bits.items) (number v a.now.bits.items)) (signed (length a.now.bits.items) (number v b.now.bits.items)))) }
+{
+    bits::less_signed(net, &a.bits, &b.bits)
+}
+
+/// Holds where the two words are equal (C11 6.5.9).
+pub fn equal(net: &mut Net, a: &Word, b: &Word) -> Result<Gate, OutOfMemory>
+    requires same { length a.now.bits.items ≡ length b.now.bits.items }
+    requires a { top a.now.bits.items ≤ length net.old }
+    requires b { top b.now.bits.items ≤ length net.old }
+    ensures grown { Grown net.old net.new }
+    ensures ok { IfOk result (λ r. Gives net.new r.at (λ choice v. nat_eq (number v a.now.bits.items) (number v b.now.bits.items))) }
+{
+    bits::equal(net, &a.bits, &b.bits)
+}
+
+/// The word of `width` bits that a conversion makes of `a` (C11 6.3.1.3): its low bits, or copies of its sign bit above it where it is
+/// signed, or zeros. It makes no gate.
+pub fn convert(net: &mut Net, a: &Word, signed: bool, width: usize) -> Result<Word, OutOfMemory>
+    requires some { 0 < length a.now.bits.items }
+    requires a { top a.now.bits.items ≤ length net.old }
+    ensures grown { net.new ≡ net.old }
+    ensures ok { IfOk result (λ r. Spells net.new r.bits.items width (λ v. converted signed (length a.now.bits.items) width (number v a.now.bits.items))) }
+{
+    let bits = converting::converted_to(net, &a.bits, signed, width)?;
+    Ok(Word { bits })
 }

@@ -34,7 +34,12 @@ fn joined(alloc: Global, high: &[Gate], low: &[Gate]) -> Result<Vec<Gate>, Alloc
 }
 
 /// The word moved by a number of places, zeros in the places that become free.
-fn moved_by(net: &Net, direction: Direction, a: &[Gate], by: usize) -> Result<Vec<Gate>, OutOfMemory>
+fn moved_by(
+    net: &Net,
+    direction: Direction,
+    a: &[Gate],
+    by: usize,
+) -> Result<Vec<Gate>, OutOfMemory>
     requires by { by ≤ length a.now }
     requires a { top a.now ≤ length net.now }
     ensures { IfOk result (λ r. Spells net.now r.items (length a.now) (λ v. moved direction (length a.now) (number v a.now) by)) }
@@ -54,7 +59,13 @@ fn moved_by(net: &Net, direction: Direction, a: &[Gate], by: usize) -> Result<Ve
 
 /// The word moved by `by` places where `bit` holds.
 #[tactic(auto, using(crate::proofs::NumberLemmas::bound_laws))]
-fn shift_once(net: &mut Net, direction: Direction, shifted: Shifted, by: usize, bit: Gate) -> Result<Shifted, OutOfMemory>
+fn shift_once(
+    net: &mut Net,
+    direction: Direction,
+    shifted: Shifted,
+    by: usize,
+    bit: Gate,
+) -> Result<Shifted, OutOfMemory>
     requires word { top shifted.word.items ≤ length net.old }
     requires beyond { shifted.beyond.at < length net.old }
     requires bit { bit.at < length net.old }
@@ -64,16 +75,27 @@ fn shift_once(net: &mut Net, direction: Direction, shifted: Shifted, by: usize, 
     if by < shifted.word.len() {
         let moved = moved_by(net, direction, &shifted.word, by)?;
         let word = bits::select(net, bit, &moved, &shifted.word)?;
-        Ok(Shifted { word, beyond: shifted.beyond })
+        Ok(Shifted {
+            word,
+            beyond: shifted.beyond,
+        })
     } else {
         let beyond = bits::apply(net, Bitwise::Or, shifted.beyond, bit)?;
-        Ok(Shifted { word: shifted.word, beyond })
+        Ok(Shifted {
+            word: shifted.word,
+            beyond,
+        })
     }
 }
 
 /// The word moved by as many places as the count says; a count that is not below the width leaves zero.
 #[tactic(auto, using(crate::proofs::NumberLemmas::bound_laws))]
-pub fn shift(net: &mut Net, direction: Direction, a: &[Gate], count: &[Gate]) -> Result<Vec<Gate>, OutOfMemory>
+pub fn shift(
+    net: &mut Net,
+    direction: Direction,
+    a: &[Gate],
+    count: &[Gate],
+) -> Result<Vec<Gate>, OutOfMemory>
     requires small { length count.now ≤ 64 }
     requires a { top a.now ≤ length net.old }
     requires count { top count.now ≤ length net.old }

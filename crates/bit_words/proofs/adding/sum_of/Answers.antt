@@ -22,7 +22,9 @@ loop-i-preserved c =
       wide = grind (arith, common_steps, bound_laws);
       bits = grind (arith, common_steps, bound_laws);
       carry = c.in_ok-next.ensures.ok.carry_below;
-      value = record { holds = λ choice v r.
-        sum_step v c.args.a.now c.args.b.now c.loop-i.bits.items _ c.in_ok-next.next.sum _ c.in_ok-next.next.carry.at c.loop-i.carry.at c.args.first.at c.loop-i.i
-          c.requires.same c.loop-i-test.true c.loop-i.invariant.wide c.in_ok-push.ensures.items (c.loop-i.invariant.value.holds choice v (grown.runs choice v r)) (c.in_ok-next.ensures.ok.value choice v r) };
+      value = record {
+        holds = λ choice v r.
+            sum_step v c.args.a.now c.args.b.now c.loop-i.bits.items _ c.in_ok-next.next.sum _ c.in_ok-next.next.carry.at c.loop-i.carry.at c.args.first.at c.loop-i.i
+            c.requires.same c.loop-i-test.true c.loop-i.invariant.wide c.in_ok-push.ensures.items (c.loop-i.invariant.value.holds choice v (grown.runs choice v r)) (c.in_ok-next.ensures.ok.value choice v r);
+      };
     }

@@ -11,5 +11,5 @@ invariant-loop-i l = record {
   bits : top l.bits.items ≤ length l.net;
   carry : l.carry.at < length l.net;
   value : Always l.net (λ choice v. number v (reverse l.bits.items) + bit (v l.carry.at) * 2 ^ l.i
-    ≡ number v (drop (length l.fn.a - l.i) l.fn.a) + number v (drop (length l.fn.b - l.i) l.fn.b) + bit (v l.fn.first.at));
+      ≡ number v (drop (length l.fn.a - l.i) l.fn.a) + number v (drop (length l.fn.b - l.i) l.fn.b) + bit (v l.fn.first.at));
 }

@@ -20,6 +20,8 @@ loop-i-preserved c =
       grown = Grown-trans _ _ _ c.loop-i.invariant.grown grown;
       wide = grind (arith, common_steps, bound_laws);
       bits = grind (arith, common_steps, bound_laws);
-      value = record { holds = λ choice v r.
-        combine_step v c.args.operator c.args.a.now c.args.b.now c.loop-i.bits.items _ c.in_ok-bit.bit _ c.loop-i.i c.requires.same c.loop-i-test.true c.in_ok-push.ensures.items (c.loop-i.invariant.value.holds choice v (grown.runs choice v r)) (c.in_ok-bit.ensures.ok.value choice v r) };
+      value = record {
+        holds = λ choice v r.
+            combine_step v c.args.operator c.args.a.now c.args.b.now c.loop-i.bits.items _ c.in_ok-bit.bit _ c.loop-i.i c.requires.same c.loop-i-test.true c.in_ok-push.ensures.items (c.loop-i.invariant.value.holds choice v (grown.runs choice v r)) (c.in_ok-bit.ensures.ok.value choice v r);
+      };
     }

@@ -18,6 +18,8 @@ loop-i-preserved c =
     record {
       grown = Grown-trans _ _ _ c.loop-i.invariant.grown grown;
       below = c.in_ok-more.ensures.ok.below;
-      value = record { holds = λ choice v r.
-        less_step v c.args.a.now c.args.b.now _ c.loop-i.less.at c.in_ok-more.more.at c.loop-i.i c.requires.same c.loop-i-test.true (c.loop-i.invariant.value.holds choice v (grown.runs choice v r)) (c.in_ok-more.ensures.ok.value choice v r) };
+      value = record {
+        holds = λ choice v r.
+            less_step v c.args.a.now c.args.b.now _ c.loop-i.less.at c.in_ok-more.more.at c.loop-i.i c.requires.same c.loop-i-test.true (c.loop-i.invariant.value.holds choice v (grown.runs choice v r)) (c.in_ok-more.ensures.ok.value choice v r);
+      };
     }

@@ -1,6 +1,5 @@
 use Rattle.std.proofs.Common.{◌≡◌, ℕ, ◌+◌, ◌-◌, ◌*◌, ◌^◌, ◌<◌, ◌≤◌, if◌then◌else◌, nat_eq, nat_lt, length, take, drop, reverse}
 use Rattle.bit_net.specs.Runs.{Grown, Always}
-
 use Rattle.bit_words.specs.Number.{bit, number, top}
 use Rattle.bit_words.proofs.bits.select.Given as goal
 

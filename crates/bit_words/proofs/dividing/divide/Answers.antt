@@ -27,13 +27,13 @@ loop-i-init c = record {
 
 stepped : (c : goal.After-drop-rest-in-loop-i) (choice v : ℕ → Bool) → Runs c.divide_step.new.net choice v
     → (number v c.in_ok-step.step.rest.items ≡ remainder (number v (take (c.loop-i.i + 1) c.args.a.now)) (number v c.args.divisor.now))
-      × (number v c.push.new.self.items ≡ quotient (number v (take (c.loop-i.i + 1) c.args.a.now)) (number v c.args.divisor.now))
+    × (number v c.push.new.self.items ≡ quotient (number v (take (c.loop-i.i + 1) c.args.a.now)) (number v c.args.divisor.now))
 stepped c choice v r =
     let before = c.in_ok-step.ensures.grown.runs choice v r in
     division_step v c.args.a.now c.args.divisor.now c.loop-i.rest.items c.deref.result.now c.in_ok-step.step.rest.items c.loop-i.quotient.items c.push.new.self.items c.in_ok-step.step.bit _
-      c.in_ok-divides.divides.at c.loop-i.i c.requires.same c.loop-i-test.true c.loop-i.invariant.rest_wide c.deref.ensures.value c.in_ok-push.ensures.items
-      (c.loop-i.invariant.divides.holds choice v before) (c.loop-i.invariant.left.holds choice v before) (c.loop-i.invariant.result.holds choice v before)
-      (c.in_ok-step.ensures.ok.goes_is choice v r) (c.in_ok-step.ensures.ok.left_is choice v r)
+    c.in_ok-divides.divides.at c.loop-i.i c.requires.same c.loop-i-test.true c.loop-i.invariant.rest_wide c.deref.ensures.value c.in_ok-push.ensures.items
+    (c.loop-i.invariant.divides.holds choice v before) (c.loop-i.invariant.left.holds choice v before) (c.loop-i.invariant.result.holds choice v before)
+    (c.in_ok-step.ensures.ok.goes_is choice v r) (c.in_ok-step.ensures.ok.left_is choice v r)
 
 pub loop-i-preserved : goal.loop-i-preserved
 loop-i-preserved c =

@@ -21,9 +21,11 @@ loop-i-preserved c =
       grown = Grown-trans _ _ _ c.loop-i.invariant.grown grown;
       wide = grind (arith, common_steps, bound_laws);
       below = c.in_ok-next.ensures.ok.below;
-      value = record { holds = λ choice v r.
-        product_step v c.args.a.now c.args.b.now c.loop-i.product.items c.push.new.self.items c.deref.result.now _ c.in_ok-next.next.items c.constant-no.result _ c.loop-i.i
-          c.requires.same c.loop-i-test.true c.loop-i.invariant.wide c.in_ok-push.ensures.items c.deref.ensures.value (take_rest c.args.a.now _)
-          (c.loop-i.invariant.value.holds choice v (grown.runs choice v r)) (c.constant-no.ensures.value choice v (c.loop-i.invariant.grown.runs choice v (grown.runs choice v r)))
-          (c.in_ok-next.ensures.ok.value choice v r) };
+      value = record {
+        holds = λ choice v r.
+            product_step v c.args.a.now c.args.b.now c.loop-i.product.items c.push.new.self.items c.deref.result.now _ c.in_ok-next.next.items c.constant-no.result _ c.loop-i.i
+            c.requires.same c.loop-i-test.true c.loop-i.invariant.wide c.in_ok-push.ensures.items c.deref.ensures.value (take_rest c.args.a.now _)
+            (c.loop-i.invariant.value.holds choice v (grown.runs choice v r)) (c.constant-no.ensures.value choice v (c.loop-i.invariant.grown.runs choice v (grown.runs choice v r)))
+            (c.in_ok-next.ensures.ok.value choice v r);
+      };
     }
