@@ -1,5 +1,5 @@
 -- An answer that is due, given: the parts of a run of the checker put together.
-use Rattle.std.proofs.Common.{◌≡◌, ◌≢◌, ◌⊎◌, ◌||◌, ◌∙◌, ℕ, Bool, true, false, List, [], ◌∷◌, length, get_or, arith, Option, Some, None, refl, sym, subst, inl, inr, map, string_bytes, String}
+use Rattle.std.proofs.Common.{◌≡◌, ◌≢◌, ◌⊎◌, ◌||◌, ◌∙◌, ℕ, Bool, true, false, List, [], ◌∷◌, length, get_or, arith, Option, Some, None, refl, sym, subst, inl, inr, ⊎_elim, map, string_bytes, String}
 use Rattle.std.specs.declared.alloc.Global.{Global}
 use Rattle.std.proofs.lemmas.Cmp.{nat_list_eq_equiv}
 use Rattle.std.specs.Str.{bytes_eq}
@@ -8,7 +8,7 @@ use Rattle.sc_base.specs.Held.{is_named}
 use Rattle.sc_base.specs.Taken.{SinkChange, Keeps, Went}
 use Rattle.saturn_top.specs.declared.status.Status.{Status}
 use Rattle.saturn_top.specs.declared.status.Status.TheVariants.{Clean, Reports, Refused, BadWords, ReadFault, WriteFault, Memory, Helped}
-use Rattle.saturn_top.specs.Answer.{Due, Text, Line, Source, IsDue, IsDueFor, IsAnswered, Answers, spelled, not_spelled, bad_words, unread, read, status_of, has_text}
+use Rattle.saturn_top.specs.Answer.{Due, Text, Line, Source, IsDue, IsDueFor, IsAnswered, Answers, spelled, not_spelled, bad_words, unread, read, status_of, has_text, is_finding}
 use Rattle.saturn_top.specs.Summary.{has_reports}
 
 -- a sink that nothing was written to has what it had
@@ -44,6 +44,7 @@ pub record HasCauses (words : List (List ℕ)) (source : Source) (answer : Statu
   pub not_firm : answer ≡ ReadFault → (name : List ℕ) × (is_named name words ≡ true) × (is_named name source.firm ≡ false)
   pub write_fault : answer ≡ WriteFault → Rose out.faults_before out.faults_after ⊎ Rose err.faults_before err.faults_after
   pub no_help : answer ≢ Helped
+  pub complete : length words ≡ 2 → ¬ Rose source.faults_before source.faults_after → ¬ Rose out.faults_before out.faults_after → ¬ Rose err.faults_before err.faults_after → is_finding answer ≡ true
   pub quiet : has_text answer ≡ false → Keeps out.before out.after
 
 -- of an answer other than the four with causes of their own, given with a text
@@ -54,6 +55,7 @@ of_text words source answer out err (inl clean) = record {
   not_firm = λ is. absurd (let e : Clean ≡ ReadFault = sym clean ∙ is in (cc));
   write_fault = λ is. absurd (let e : Clean ≡ WriteFault = sym clean ∙ is in (cc));
   no_help = λ is. let e : Clean ≡ Helped = sym clean ∙ is in (cc);
+  complete = λ two files to_out to_err. rw clean refl;
   quiet = λ none. absurd (let e : true ≡ false = rw clean at none in (cc));
 }
 of_text words source answer out err (inr reports) = record {
@@ -62,6 +64,7 @@ of_text words source answer out err (inr reports) = record {
   not_firm = λ is. absurd (let e : Reports ≡ ReadFault = sym reports ∙ is in (cc));
   write_fault = λ is. absurd (let e : Reports ≡ WriteFault = sym reports ∙ is in (cc));
   no_help = λ is. let e : Reports ≡ Helped = sym reports ∙ is in (cc);
+  complete = λ two files to_out to_err. rw reports refl;
   quiet = λ none. absurd (let e : true ≡ false = rw reports at none in (cc));
 }
 
@@ -73,6 +76,7 @@ of_fault words source answer out err fault rose = record {
   not_firm = λ is. absurd (let e : WriteFault ≡ ReadFault = sym fault ∙ is in (cc));
   write_fault = λ is. rose;
   no_help = λ is. let e : WriteFault ≡ Helped = sym fault ∙ is in (cc);
+  complete = λ two files to_out to_err. absurd (⊎_elim to_out to_err rose);
   quiet = λ none. absurd (let e : true ≡ false = rw fault at none in (cc));
 }
 
@@ -84,6 +88,7 @@ of_refusal words source answer out err (inl refused) kept = record {
   not_firm = λ is. absurd (let e : Refused ≡ ReadFault = sym refused ∙ is in (cc));
   write_fault = λ is. absurd (let e : Refused ≡ WriteFault = sym refused ∙ is in (cc));
   no_help = λ is. let e : Refused ≡ Helped = sym refused ∙ is in (cc);
+  complete = λ two files to_out to_err. rw refused refl;
   quiet = λ none. kept;
 }
 of_refusal words source answer out err (inr memory) kept = record {
@@ -92,6 +97,7 @@ of_refusal words source answer out err (inr memory) kept = record {
   not_firm = λ is. absurd (let e : Memory ≡ ReadFault = sym memory ∙ is in (cc));
   write_fault = λ is. absurd (let e : Memory ≡ WriteFault = sym memory ∙ is in (cc));
   no_help = λ is. let e : Memory ≡ Helped = sym memory ∙ is in (cc);
+  complete = λ two files to_out to_err. rw memory refl;
   quiet = λ none. kept;
 }
 
@@ -102,6 +108,7 @@ of_bad_words words source answer out err not_two bad kept = record {
   not_firm = λ is. absurd (let e : BadWords ≡ ReadFault = sym bad ∙ is in (cc));
   write_fault = λ is. absurd (let e : BadWords ≡ WriteFault = sym bad ∙ is in (cc));
   no_help = λ is. let e : BadWords ≡ Helped = sym bad ∙ is in (cc);
+  complete = λ two files to_out to_err. absurd (not_two two);
   quiet = λ none. kept;
 }
 
@@ -116,6 +123,7 @@ of_unread program name source answer out err rose unnamed failed kept = record {
   not_firm = λ is. (name, second_is_named program name, unnamed);
   write_fault = λ is. absurd (let e : ReadFault ≡ WriteFault = sym failed ∙ is in (cc));
   no_help = λ is. let e : ReadFault ≡ Helped = sym failed ∙ is in (cc);
+  complete = λ two files to_out to_err. absurd (files rose);
   quiet = λ none. kept;
 }
 

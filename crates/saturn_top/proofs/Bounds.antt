@@ -1,14 +1,13 @@
 -- How many rows a first form can have: at most eight entries, and six rows for each entry and lock.
-use Rattle.std.proofs.Common.{◌≡◌, ℕ, ◌+◌, ◌*◌, ◌^◌, ◌<◌, ◌≤◌, Bool, true, false, cond, List, [], ◌∷◌, ◌++◌, length, map, filter, slice_set, sum_by, refl, arith, length-append}
-use Rattle.std.specs.List.{flat_map, range_with_len}
+use Rattle.std.proofs.Common.{◌≡◌, ℕ, ◌+◌, ◌*◌, ◌^◌, ◌<◌, ◌≤◌, Bool, true, false, cond, List, [], ◌∷◌, length, map, filter, slice_set, sum_by, refl, arith, length-append}
+use Rattle.std.specs.List.{flat_map}
 use Rattle.std.proofs.Math.Pow.{pow_mono}
 use Rattle.std.proofs.lemmas.List.{length-map}
 use Rattle.std.proofs.lemmas.List.Sums.{sum_by-cons}
 use Rattle.std.proofs.lemmas.List.FromFn.{length-range_with_len}
 use Rattle.sc_tree.specs.Tree.{Form, Formal}
-use Rattle.saturn_top.specs.declared.first.rows.LockRow.{LockRow}
 use Rattle.saturn_top.specs.declared.first.summary.Section.{Section}
-use Rattle.saturn_top.specs.Rows.{choices_from, all_false, entry_choices, exit_rows, is_listed, possible_rows, lock_rows, stands, row_stands}
+use Rattle.saturn_top.specs.Rows.{choices_from, all_false, entry_choices, is_listed, possible_rows, lock_rows, stands, row_stands}
 use Rattle.saturn_top.specs.declared.first.rows.Question.TheVariants.{Exits}
 use Rattle.saturn_top.specs.Summary.{numbers, section_of, summary_of, row_count}
 

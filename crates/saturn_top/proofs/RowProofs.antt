@@ -1,21 +1,19 @@
 -- Rows stand exactly where runs have them, and stand in order.
-use Rattle.std.proofs.Common.{◌≡◌, ℕ, zero, suc, ◌+◌, ◌*◌, ◌<◌, ◌≤◌, ◌↔◌, Bool, true, false, cond, ◌&&◌, ◌||◌, ◌⊎◌, inl, inr, List, [], ◌∷◌, ◌++◌, length, map, filter, Contains, Option, Some, None, get_or, refl, sym, ap, ◌∙◌, subst, arith, ⊎_elim}
-use Rattle.std.specs.List.{flat_map, list_any, list_all}
-use Rattle.std.specs.List.Sorted.{IsStrictlyIncreasing}
+use Rattle.std.proofs.Common.{◌≡◌, ℕ, zero, suc, ◌<◌, ◌↔◌, Bool, true, false, ◌&&◌, List, Contains, Option, Some, None, get_or, refl, sym, ap, subst, arith}
+use Rattle.std.specs.List.{flat_map}
 use Rattle.std.proofs.lemmas.Bool.{false≢true}
-use Rattle.sc_tree.specs.Tree.{Formal, Form}
+use Rattle.sc_tree.specs.Tree.{Form}
 use Rattle.saturn_top.specs.declared.first.run.Outcome.{Outcome}
 use Rattle.saturn_top.specs.declared.first.run.Outcome.TheVariants.{Exit, Error, Aside}
-use Rattle.saturn_top.specs.declared.first.run.Locks.{Locks}
 use Rattle.saturn_top.specs.declared.first.rows.State.{State}
 use Rattle.saturn_top.specs.declared.first.rows.State.TheVariants.{Unlocked, Locked, Bad}
 use Rattle.saturn_top.specs.declared.first.rows.LockRow.{LockRow}
 use Rattle.saturn_top.specs.declared.first.rows.Question.TheVariants.{Exits, Ends}
 use Rattle.saturn_top.specs.Run.{bit, run}
-use Rattle.saturn_top.specs.Rows.{entry_choices, lock_choices, state_of, is_state, is_exit, state_after, is_some_state, says, run_says, stands, exit_rows, possible_rows, row_stands, lock_rows}
+use Rattle.saturn_top.specs.Rows.{entry_choices, lock_choices, state_of, is_state, is_exit, state_after, is_some_state, run_says, stands, exit_rows, possible_rows, row_stands, lock_rows}
 use Rattle.saturn_top.specs.Reports.{is_double, errs_from_both}
 use Rattle.saturn_top.specs.RowLaws.{ExitsOn, HasRow}
-use Rattle.saturn_top.proofs.Members.{and_out, and_in, first_is_in, rest_is_in, cons_cases, nothing_in, filter_out, filter_in, any_out, any_in, flat_out, flat_in}
+use Rattle.saturn_top.proofs.Members.{and_out, and_in, filter_out, filter_in, any_out, any_in, flat_out, flat_in}
 
 -- tests
 

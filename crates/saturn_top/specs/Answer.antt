@@ -78,3 +78,15 @@ has_text Refused = false
 has_text BadWords = false
 has_text ReadFault = false
 has_text Memory = false
+
+-- The answers that say what the file is, or that memory was refused: those that come without a fault and
+-- with good words.
+abbrev pub is_finding : Status → Bool
+is_finding Clean = true
+is_finding Reports = true
+is_finding Refused = true
+is_finding Memory = true
+is_finding BadWords = false
+is_finding ReadFault = false
+is_finding WriteFault = false
+is_finding Helped = false

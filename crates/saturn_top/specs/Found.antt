@@ -1,5 +1,5 @@
 -- What the code of the top call finds for a file, as the answer that is due.
-use Rattle.std.specs.Prelude.{ℕ, List, Option, None, Some, codes}
+use Rattle.std.specs.Prelude.{Option, None, Some, codes}
 use Rattle.saturn_top.specs.declared.first.text.FirstText.{FirstText}
 use Rattle.saturn_top.specs.declared.status.Status.TheVariants.{Refused}
 use Rattle.saturn_top.specs.Answer.{Due, Text, Line, status_of}

@@ -1,12 +1,12 @@
 -- What the rows and the reports of a first form say of its runs, without the search that finds them.
-use Rattle.std.specs.Prelude.{◌≡◌, ℕ, ◌+◌, ◌*◌, Bool, true, false, List, length, map, Contains, Some, if◌then◌else◌}
+use Rattle.std.specs.Prelude.{◌≡◌, ℕ, ◌+◌, ◌*◌, Bool, true, List, length, map, Contains, Some, if◌then◌else◌}
 use Rattle.sc_tree.specs.Tree.{Formal, Form}
 use Rattle.saturn_top.specs.declared.first.run.Outcome.TheVariants.{Exit}
 use Rattle.saturn_top.specs.declared.first.rows.State.{State}
 use Rattle.saturn_top.specs.declared.first.rows.State.TheVariants.{Unlocked, Locked, Bad}
 use Rattle.saturn_top.specs.declared.first.rows.LockRow.{LockRow}
 use Rattle.saturn_top.specs.Run.{bit, run}
-use Rattle.saturn_top.specs.Rows.{is_lock, entry_choices, lock_choices, state_of, state_after, lock_rows}
+use Rattle.saturn_top.specs.Rows.{is_lock, lock_choices, state_of, state_after}
 
 -- Three bits, of which only those in free places are true.
 pub record IsChoice (free bits : List Bool) : Type 0 where

@@ -9,7 +9,7 @@ use Rattle.std.specs.Prelude.{◌≡◌, ℕ, ◌+◌, Bool, true, false, List, 
 use Rattle.std.specs.List.{list_any, flat_map}
 use Rattle.sc_tree.specs.declared.first.ParamKind.{ParamKind}
 use Rattle.sc_tree.specs.declared.first.ParamKind.TheVariants as kind
-use Rattle.sc_tree.specs.Tree.{Codes, Formal, Form}
+use Rattle.sc_tree.specs.Tree.{Formal, Form}
 use Rattle.saturn_top.specs.declared.first.run.Outcome.{Outcome}
 use Rattle.saturn_top.specs.declared.first.run.Outcome.TheVariants.{Exit, Error, Aside}
 use Rattle.saturn_top.specs.declared.first.run.Locks.{Locks}

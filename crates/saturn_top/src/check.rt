@@ -5,7 +5,7 @@ ghost use Rattle.std.specs.Prelude.{◌≡◌, ◌≢◌, ◌⊎◌, List, ℕ, 
 ghost use Rattle.sc_base.specs.Causes.{Rose};
 ghost use Rattle.sc_base.specs.Held.{is_named};
 ghost use Rattle.sc_base.specs.Taken.{Went, Keeps};
-ghost use Rattle.saturn_top.specs.Answer.{IsDueFor, Answers, has_text, status_of, cannot_read};
+ghost use Rattle.saturn_top.specs.Answer.{IsDueFor, Answers, has_text, is_finding, status_of, cannot_read};
 ghost use Rattle.saturn_top.specs.Found.{due_of};
 
 use crate::first::read::read_first;
@@ -117,6 +117,9 @@ pub fn check_main<F: Files, O: Sink, E: Sink>(
     ensures not_firm { result ≡ Status.ReadFault → (name : List ℕ) × (is_named name (map string_bytes words.now.items) ≡ true) × (is_named name (F.firm files.old) ≡ false) }
     ensures write_fault { result ≡ Status.WriteFault → Rose (O.faults out.old) (O.faults out.new) ⊎ Rose (E.faults err.old) (E.faults err.new) }
     ensures no_help { result ≢ Status.Helped }
+    // With two words and no fault the answer says what the file is, or that memory was refused.
+    ensures complete { length words.now.items ≡ 2 → ¬ Rose (F.faults files.old) (F.faults files.new) → ¬ Rose (O.faults out.old) (O.faults out.new)
+        → ¬ Rose (E.faults err.old) (E.faults err.new) → is_finding result ≡ true }
 
     // Nothing was written to the output with an answer that has no text.
     ensures quiet { has_text result ≡ false → Keeps (O.taken out.old) (O.taken out.new) }

@@ -1,4 +1,4 @@
-use Rattle.std.proofs.Common.{refl, ◌∙◌, arith, length, map, string_bytes, ◌≡◌, ◌≢◌, get_or}
+use Rattle.std.proofs.Common.{refl, ◌∙◌, arith, length, map, string_bytes, ◌≡◌, ◌≢◌}
 use Rattle.std.proofs.lemmas.List.{length-map}
 use Rattle.saturn_top.specs.Answer.{bad_words}
 use Rattle.saturn_top.proofs.Answered.{answered_line, Keeps-itself, two_words, causes}
@@ -30,6 +30,9 @@ returns-clause-write_fault g c = (causes _ _ _ _ _ (returns-clause-answers g c))
 
 pub returns-clause-no_help : goal.returns-clause-no_help
 returns-clause-no_help g c = (causes _ _ _ _ _ (returns-clause-answers g c)).no_help
+
+pub returns-clause-complete : goal.returns-clause-complete
+returns-clause-complete g c two = (causes _ _ _ _ _ (returns-clause-answers g c)).complete (length-map c.args.words.now.items string_bytes ∙ two)
 
 pub returns-clause-quiet : goal.returns-clause-quiet
 returns-clause-quiet g c = (causes _ _ _ _ _ (returns-clause-answers g c)).quiet

@@ -1,4 +1,3 @@
-use Rattle.std.proofs.Common.{◌≡◌}
 use Rattle.saturn_top.proofs.Transfers.{HasWritten-more}
 use Rattle.saturn_top.proofs.transfer.write_all.Goals as goal
 
