@@ -1,0 +1,4 @@
+pub mod Clauses
+pub mod Tables
+pub mod Places
+pub mod Values
