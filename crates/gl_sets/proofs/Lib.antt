@@ -1,0 +1,4 @@
+mod BoolLemmas
+mod GuardLemmas
+mod PointLemmas
+mod JoinLemmas
