@@ -1,10 +1,10 @@
 -- Blocks and the list in which they lie.
 
-use Rattle.std.proofs.Common.{◌≡◌, ◌≢◌, ℕ, zero, suc, ◌+◌, ◌-◌, ◌<◌, ◌≤◌, Bool, true, false, if◌then◌else◌, List, [], ◌∷◌, ◌++◌, length, take, drop, get_or, set, Option, None, Some, IsSome, nat_lt, refl, sym, subst, ap, ◌∙◌, arith, length-append, append_assoc, append-nil, zero-add}
+use Rattle.std.proofs.Common.{◌≡◌, ◌≢◌, ℕ, zero, suc, ◌+◌, ◌-◌, ◌≤◌, Bool, true, false, if◌then◌else◌, List, [], ◌∷◌, ◌++◌, length, drop, set, Option, None, Some, IsSome, nat_lt, refl, sym, subst, ap, ◌∙◌, arith, length-append, append_assoc, append-nil, zero-add}
 use Rattle.std.proofs.lemmas.Bool.{ltb-false, le-ltb, false≢true}
 use Rattle.std.proofs.Math.Seq.{take-append_seam, drop-append_seam, get_or-append_seam, set-append_seam, drop-append-add}
 use Rattle.sat_base.specs.declared.literal.Lit.{Lit}
-use Rattle.sat_pool.specs.Region.{Block, size, reads, kill, live, moved, width_kept}
+use Rattle.sat_pool.specs.Region.{Block, size, reads, kill}
 use Rattle.sat_pool.specs.Layout.{header, flat, blocks_in, blocks, cell, HasBlock, lits_at}
 
 pub length-flat : (bs : List Block) → length (flat bs) ≡ size bs

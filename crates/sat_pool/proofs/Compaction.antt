@@ -1,12 +1,12 @@
 -- Copying the live blocks, one block after another.
 
-use Rattle.std.proofs.Common.{◌≡◌, ◌≢◌, ℕ, zero, suc, ◌+◌, ◌-◌, ◌<◌, ◌≤◌, ◌⊎◌, inl, inr, Bool, true, false, if◌then◌else◌, List, [], ◌∷◌, ◌++◌, length, length-take, length-set, take, drop, get_or, set, Option, None, Some, nat_lt, slice_index, slice_range, refl, sym, subst, ap, ◌∙◌, arith, length-append, append_assoc, append-nil, zero-add, get_or-set_other, get_or-set_same}
+use Rattle.std.proofs.Common.{◌≡◌, ◌≢◌, ℕ, zero, suc, ◌+◌, ◌-◌, ◌<◌, ◌≤◌, ◌⊎◌, inl, inr, Bool, true, false, if◌then◌else◌, List, [], ◌∷◌, ◌++◌, length, length-take, length-set, drop, set, Option, None, Some, nat_lt, slice_index, slice_range, refl, sym, subst, ap, ◌∙◌, arith, append_assoc, append-nil, get_or-set_other, get_or-set_same}
 use Rattle.std.proofs.lemmas.Bool.{ltb-true, ltb-false, le-ltb, lt-ltb}
 use Rattle.std.proofs.Math.Seq.{take-append_seam, drop-append_seam, get_or-append_seam}
 use Rattle.sat_base.specs.declared.literal.Lit.{Lit}
 use Rattle.sat_pool.specs.Region.{Block, size, reads, live, moved, width_kept, IsTable}
 use Rattle.sat_pool.specs.Layout.{header, flat, blocks, cell, HasBlock, end_of, live_part, noted}
-use Rattle.sat_pool.proofs.Blocks.{Located, located, length-flat, flat-append, size-append, flat-seam, has_block_seam, reads-seam}
+use Rattle.sat_pool.proofs.Blocks.{located, length-flat, flat-append, size-append, flat-seam, has_block_seam, reads-seam}
 
 pub live-append : (xs ys : List Block) → live (xs ++ ys) ≡ live xs ++ live ys
 live-append [] ys = refl

@@ -1,7 +1,7 @@
 -- How blocks lie in one list of literals: a header, which is a literal whose variable is the length
 -- and whose sign says whether the block is dropped, and then the literals of the clause.
 
-use Rattle.std.specs.Prelude.{◌≡◌, ℕ, zero, suc, ◌+◌, ◌<◌, ◌≤◌, Bool, false, List, [], ◌∷◌, ◌++◌, length, take, drop, if◌then◌else◌, slice_index_or, slice_range, slice_set}
+use Rattle.std.specs.Prelude.{ℕ, zero, suc, ◌+◌, ◌<◌, ◌≤◌, false, List, [], ◌∷◌, ◌++◌, length, take, drop, if◌then◌else◌, slice_index_or, slice_range, slice_set}
 use Rattle.sat_base.specs.declared.literal.Lit.{Lit}
 use Rattle.sat_pool.specs.Region.{Block}
 

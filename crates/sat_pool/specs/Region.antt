@@ -1,7 +1,7 @@
 -- A region as the list of its blocks. A reference is the number of places before a block: each
 -- block takes one place for its header and one for each literal.
 
-use Rattle.std.specs.Prelude.{◌≡◌, ℕ, zero, suc, ◌+◌, ◌-◌, ◌≤◌, Bool, true, false, if◌then◌else◌, List, [], ◌∷◌, length, Option, None, Some, nat_lt, slice_index}
+use Rattle.std.specs.Prelude.{◌≡◌, ℕ, zero, suc, ◌+◌, ◌-◌, ◌≤◌, Bool, true, if◌then◌else◌, List, [], ◌∷◌, length, Option, None, Some, nat_lt, slice_index}
 use Rattle.sat_base.specs.declared.literal.Lit.{Lit}
 
 -- a clause, and whether it was dropped

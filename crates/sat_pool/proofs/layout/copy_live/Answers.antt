@@ -1,8 +1,7 @@
 -- Each block in turn.
-use Rattle.std.proofs.Common.{◌≡◌, ◌+◌, ◌++◌, length, sym, subst, ap, ◌∙◌, arith, length-append}
-use Rattle.sat_pool.specs.Layout.{blocks, live_part, end_of}
-use Rattle.sat_pool.specs.Region.{IsTable}
-use Rattle.sat_pool.proofs.Compaction.{block_more, copied_none, copied_all, length-live_part, length-noted, copied_all_in}
+use Rattle.std.proofs.Common.{length, ap, ◌∙◌, arith, length-append}
+use Rattle.sat_pool.specs.Layout.{live_part}
+use Rattle.sat_pool.proofs.Compaction.{block_more, length-live_part, length-noted, copied_all_in}
 use Rattle.sat_pool.proofs.layout.copy_live.Goals as goal
 
 pub copy_block-at-requires-clause-block : goal.copy_block-at-requires-clause-block

@@ -1,6 +1,6 @@
 -- The copy takes the place of the list.
-use Rattle.std.proofs.Common.{◌≡◌, length, slice_index, subst, sym, ap, ◌∙◌, arith}
-use Rattle.sat_pool.specs.Region.{reads, live, size, moved, IsTable}
+use Rattle.std.proofs.Common.{length, slice_index, subst, sym, ap, ◌∙◌, arith}
+use Rattle.sat_pool.specs.Region.{reads, live, IsTable}
 use Rattle.sat_pool.specs.Layout.{flat, blocks}
 use Rattle.sat_pool.proofs.Blocks.{whole_of, view_of, length_of}
 use Rattle.sat_pool.proofs.Compaction.{reads-moved}

@@ -1,7 +1,6 @@
 -- One header is marked.
-use Rattle.std.proofs.Common.{◌≡◌, sym, ap, ◌∙◌}
-use Rattle.sat_pool.specs.Region.{kill, reads, size}
-use Rattle.sat_pool.specs.Layout.{HasBlock}
+use Rattle.std.proofs.Common.{ap, ◌∙◌}
+use Rattle.sat_pool.specs.Region.{reads, size}
 use Rattle.sat_pool.proofs.Blocks.{whole_of, view_of, marked_in, killed_in, has_block_in}
 use Rattle.sat_pool.proofs.pool.Pool.drop_clause.Goals as goal
 

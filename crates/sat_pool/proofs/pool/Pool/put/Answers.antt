@@ -1,5 +1,5 @@
 -- One block more.
-use Rattle.std.proofs.Common.{[], ◌∷◌, ◌++◌, ap, ◌∙◌}
+use Rattle.std.proofs.Common.{[], ap, ◌∙◌}
 use Rattle.sat_pool.specs.Region.{reads}
 use Rattle.sat_pool.proofs.Blocks.{whole_of, view_of, put_flat, length_of, reads-seam, reads-append}
 use Rattle.sat_pool.proofs.pool.Pool.put.Goals as goal

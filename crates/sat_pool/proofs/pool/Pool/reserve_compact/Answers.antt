@@ -1,5 +1,5 @@
 -- Room for the whole list.
-use Rattle.std.proofs.Common.{◌≡◌, length, arith}
+use Rattle.std.proofs.Common.{arith}
 use Rattle.sat_pool.proofs.Blocks.{length_of}
 use Rattle.sat_pool.proofs.pool.Pool.reserve_compact.Goals as goal
 
