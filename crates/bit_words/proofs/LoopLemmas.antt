@@ -1,8 +1,6 @@
 -- One turn of each loop over the bits of words: what is known of the bits so far, and one bit more.
-use Rattle.std.proofs.Common.{◌≡◌, ℕ, zero, suc, ◌+◌, ◌-◌, ◌*◌, ◌/◌, ◌%◌, ◌^◌, ◌<◌, ◌≤◌, Bool, true, false, not, ◌&&◌, ◌||◌, if◌then◌else◌, nat_eq, nat_lt, List, [], ◌∷◌, ◌++◌, length, take, drop, reverse, get_or, refl, sym, ◌∙◌, ap, subst, arith, add-one, length-take, length-drop}
-use Rattle.std.specs.Prelude.{bit_and, bit_or, bit_xor}
+use Rattle.std.proofs.Common.{◌≡◌, ℕ, ◌+◌, ◌-◌, ◌*◌, ◌^◌, ◌<◌, ◌≤◌, Bool, true, false, not, ◌&&◌, if◌then◌else◌, nat_eq, nat_lt, List, [], ◌∷◌, ◌++◌, length, take, drop, reverse, get_or, refl, sym, ◌∙◌, ap, subst, arith, add-one, length-take, length-drop}
 use Rattle.std.proofs.Math.Nat.{pow-suc}
-use Rattle.std.proofs.lemmas.Nat.{pow_pos}
 use Rattle.std.proofs.lemmas.List.{drop_all}
 use Rattle.std.proofs.lemmas.Bool.{eq-eqb}
 use Rattle.bit_net.specs.declared.nodes.Gate.{Gate}
@@ -10,9 +8,9 @@ use Rattle.bit_net.specs.Value.{xor}
 use Rattle.bit_words.specs.declared.bits.Bitwise.{Bitwise}
 use Rattle.bit_words.specs.declared.bits.Bitwise.TheVariants.{And, Or, Xor}
 use Rattle.bit_words.specs.Parts.{bit_of, number_of}
-use Rattle.bit_words.specs.Number.{bit, number, quotient, remainder}
-use Rattle.bit_words.proofs.NumberLemmas.{number-nil, number-push, number-take, number-below, number-drop, number-drop_more, number-reverse_push}
-use Rattle.bit_words.proofs.StepLemmas.{sum_more, flip_more, select_more, equal_more, less_more, mul_more, divide_more, and_more, or_more, xor_more}
+use Rattle.bit_words.specs.Number.{bit, number}
+use Rattle.bit_words.proofs.NumberLemmas.{number-nil, number-push, number-take, number-below, number-drop_more, number-reverse_push}
+use Rattle.bit_words.proofs.StepLemmas.{sum_more, flip_more, select_more, equal_more, less_more, and_more, or_more, xor_more}
 
 -- 2 ^ (i + 1), in the order of the steps
 double : (i : ℕ) → 2 ^ i * 2 ≡ 2 ^ (i + 1)

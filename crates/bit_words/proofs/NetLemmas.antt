@@ -1,7 +1,7 @@
 -- A net that grows twice has grown.
-use Rattle.std.proofs.Common.{◌≡◌, ℕ, ◌<◌, ◌≤◌, Bool, List, length, sym, ◌∙◌, arith}
+use Rattle.std.proofs.Common.{List, ◌∙◌, arith}
 use Rattle.bit_net.specs.declared.nodes.Node.{Node}
-use Rattle.bit_net.specs.Runs.{Runs, Grown}
+use Rattle.bit_net.specs.Runs.{Grown}
 
 pub Grown-trans : (a b c : List Node) → Grown a b → Grown b c → Grown a c
 Grown-trans a b c g h = record {

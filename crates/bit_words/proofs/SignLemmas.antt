@@ -1,16 +1,15 @@
 -- Signed numbers by their sign bit: what the circuits compute on magnitudes is what the definitions say of signed numbers.
-use Rattle.std.proofs.Common.{◌≡◌, ℕ, zero, suc, ◌+◌, ◌-◌, ◌*◌, ◌/◌, ◌%◌, ◌^◌, ◌<◌, ◌≤◌, Bool, true, false, not, ◌&&◌, if◌then◌else◌, nat_eq, nat_lt, List, [], ◌∷◌, ◌++◌, length, take, drop, get_or, refl, sym, ◌∙◌, ap, subst, arith, ◌⊎◌, inl, inr}
-use Rattle.std.specs.Prelude.{nat_le, ℤ, pos, negsuc, ◌-ℤ◌, neg_ℤ, int_div, int_rem, int_lt}
+use Rattle.std.proofs.Common.{◌≡◌, ℕ, zero, suc, ◌+◌, ◌-◌, ◌*◌, ◌/◌, ◌%◌, ◌^◌, ◌<◌, ◌≤◌, Bool, true, false, if◌then◌else◌, nat_lt, List, [], ◌∷◌, length, drop, get_or, refl, sym, ◌∙◌, ap, subst, arith, ◌⊎◌, inl, inr}
+use Rattle.std.specs.Prelude.{pos, negsuc, neg_ℤ, int_div, int_rem, int_lt}
 use Rattle.std.proofs.Math.Nat.{pow-suc, pow-le-pow_right, mod-eq_of_lt, mod_self, zero-mod, div-le_self, mod-le, mod-lt, div-add-mod', add-mul}
 use Rattle.std.proofs.lemmas.Nat.{pow_pos, pow-add, mod-mul-add, div_below}
 use Rattle.std.proofs.lemmas.Int.{ints}
-use Rattle.std.proofs.lemmas.Bool.{cases_lt, cases_eq, lt-ltb, le-ltb, eq-eqb, ne_eqb, le-leb, lt-leb}
-use Rattle.std.proofs.lemmas.List.{drop_more}
+use Rattle.std.proofs.lemmas.Bool.{cases_lt, cases_eq, lt-ltb, le-ltb, eq-eqb, ne_eqb}
 use Rattle.bit_net.specs.declared.nodes.Gate.{Gate}
 use Rattle.bit_net.specs.Value.{xor}
-use Rattle.bit_words.specs.Number.{bit, number, signed, wrapped, quotient, remainder, signed_quotient, signed_remainder, moved_down, converted}
+use Rattle.bit_words.specs.Number.{bit, number, signed, wrapped, quotient, remainder, signed_quotient, signed_remainder, moved_down}
 use Rattle.bit_words.specs.Parts.{magnitude}
-use Rattle.bit_words.proofs.NumberLemmas.{number-cons, number-below, number-drop}
+use Rattle.bit_words.proofs.NumberLemmas.{number-cons, number-below}
 
 -- s is the sign bit of the number n of w bits
 pub record SignOf (w : ℕ) (s : Bool) (n : ℕ) : Type 0 where

@@ -1,12 +1,11 @@
 -- From the parts of a circuit to the number that its result spells.
-use Rattle.std.proofs.Common.{◌≡◌, ℕ, zero, suc, ◌+◌, ◌-◌, ◌*◌, ◌/◌, ◌%◌, ◌^◌, ◌<◌, ◌≤◌, Bool, true, false, not, ◌&&◌, if◌then◌else◌, nat_eq, nat_lt, List, [], ◌∷◌, ◌++◌, length, Result, Ok, Err, refl, sym, ◌∙◌, ap, subst, arith}
+use Rattle.std.proofs.Common.{◌≡◌, ℕ, ◌+◌, ◌-◌, ◌*◌, ◌%◌, ◌^◌, ◌<◌, Bool, true, false, if◌then◌else◌, List, length, Result, Ok, Err, refl, sym, ◌∙◌, ap, subst, arith}
 use Rattle.std.specs.Prelude.{IfOk, nat_le}
 use Rattle.std.proofs.Math.Nat.{mod-eq_of_lt}
-use Rattle.std.proofs.lemmas.Nat.{pow_pos}
 use Rattle.bit_net.specs.declared.nodes.Gate.{Gate}
 use Rattle.bit_net.specs.declared.nodes.Node.{Node}
 use Rattle.bit_net.specs.Runs.{Runs, Grown}
-use Rattle.bit_words.specs.Number.{bit, number, top, difference}
+use Rattle.bit_words.specs.Number.{bit, number, difference}
 use Rattle.bit_words.specs.Parts.{IsSum, IsDifference}
 use Rattle.bit_words.specs.Spells.{Spells}
 use Rattle.bit_words.proofs.NumberLemmas.{number-below}

@@ -1,12 +1,12 @@
 -- One bit more, in each of the circuits: facts over plain bits and numbers.
-use Rattle.std.proofs.Common.{◌≡◌, ℕ, zero, suc, ◌+◌, ◌-◌, ◌*◌, ◌/◌, ◌%◌, ◌^◌, ◌<◌, ◌≤◌, Bool, true, false, not, ◌&&◌, ◌||◌, if◌then◌else◌, nat_eq, nat_lt, refl, sym, ◌∙◌, ap, subst, arith, add-one, ◌⊎◌, inl, inr}
+use Rattle.std.proofs.Common.{◌≡◌, ℕ, suc, ◌+◌, ◌-◌, ◌*◌, ◌/◌, ◌%◌, ◌^◌, ◌<◌, ◌≤◌, Bool, true, false, not, ◌&&◌, ◌||◌, if◌then◌else◌, nat_eq, nat_lt, refl, sym, ◌∙◌, ap, subst, arith, ◌⊎◌, inl, inr}
 use Rattle.std.specs.Prelude.{bit_and, bit_or, bit_xor, nat_le}
-use Rattle.std.proofs.Math.Nat.{pow-suc, pow-le-pow_right, mod-eq_of_lt, mul-add-mod_self_right, add-mod, mod-mod, div-add-mod', mod-lt}
-use Rattle.std.proofs.lemmas.Nat.{pow_pos, mod-mul-add, div-mul-add, and_block, or_block, xor_block, mul-mod_first, mul-mod_second, pow-add, shr-shr}
-use Rattle.std.proofs.lemmas.Bool.{cases_lt, cases_eq, lt-ltb, le-ltb, eq-eqb, ne_eqb, le-leb, lt-leb, ltb-true, ltb-false, eqb-true, eqb-false}
+use Rattle.std.proofs.Math.Nat.{pow-suc, pow-le-pow_right, mod-eq_of_lt, add-mod, mod-mod, div-add-mod', mod-lt}
+use Rattle.std.proofs.lemmas.Nat.{mod-mul-add, div-mul-add, and_block, or_block, xor_block}
+use Rattle.std.proofs.lemmas.Bool.{cases_lt, cases_eq, lt-ltb, le-ltb, eq-eqb, ne_eqb, le-leb, lt-leb}
 use Rattle.std.proofs.Math.Bool.{and-false}
 use Rattle.bit_net.specs.Value.{xor}
-use Rattle.bit_words.specs.Number.{bit, quotient, remainder, difference}
+use Rattle.bit_words.specs.Number.{bit, quotient, remainder}
 
 -- a sum so far, of weight p, and one bit more
 pub sum_more : (p sum low carry a b front_a front_b carry_in first : ℕ) → low + carry_in * p ≡ front_a + front_b + first → sum + 2 * carry ≡ a + b + carry_in

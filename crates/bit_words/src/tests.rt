@@ -57,16 +57,17 @@ const OPERATIONS: [Operation; 20] = [
     Operation::NarrowS,
 ];
 
-/// The word of the inputs from `from` on.
+/// The word of the inputs from `from` on, as far as `end`.
 #[tactic(auto, using(crate::proofs::NumberLemmas::bound_laws))]
-fn input_word(net: &Net, from: usize, width: usize) -> Result<Word, OutOfMemory>
-    requires { from + width ≤ input_count net.now }
-    ensures wide { IfOk result (λ r. length r.bits.items ≡ width) }
+fn input_word(net: &Net, from: usize, end: usize) -> Result<Word, OutOfMemory>
+    requires order { from ≤ end }
+    requires inputs { end ≤ input_count net.now }
+    ensures wide { IfOk result (λ r. from + length r.bits.items ≡ end) }
     ensures below { IfOk result (λ r. top r.bits.items ≤ length net.now) }
 {
     let mut bits = Vec::new(net.alloc());
-    for i in 0..width {
-        let gate = net.input(from + i);
+    for k in from..end {
+        let gate = net.input(k);
         bits.push(gate)?;
     }
     Ok(Word { bits })
@@ -172,7 +173,7 @@ fn computed(
 {
     let mut net = Net::new(alloc, choice.len())?;
     let a = input_word(&net, 0, width)?;
-    let b = input_word(&net, width, width)?;
+    let b = input_word(&net, width, choice.len())?;
     let word = apply(&mut net, operation, &a, &b)?;
     number_at(&net, choice, &word)
 }
@@ -229,17 +230,32 @@ fn expected(operation: Operation, all: i64, a: i64, b: i64) -> i64 {
     }
 }
 
+/// What an operation makes of two numbers of a width.
+fn trial(
+    alloc: Global,
+    operation: Operation,
+    width: usize,
+    a: u32,
+    b: u32,
+) -> Result<i64, OutOfMemory>
+    requires some { 0 < width }
+    requires small { width ≤ 8 }
+{
+    let mut choice = [false; 16];
+    let end = width + width;
+    spell(a, &mut choice[..width]);
+    spell(b, &mut choice[width..end]);
+    computed(alloc, operation, width, &choice[..end])
+}
+
 #[test]
 fn operations_over_all_operands(rt: HostRuntime) -> Result<(), Fail> {
     for (width, all) in [(1usize, 2u32), (2, 4), (3, 8), (4, 16)] {
-        let mut choice = vec![in rt.alloc(); false; width]?;
-        choice.extend_from_slice(&vec![in rt.alloc(); false; width]?)?;
+        assert!(rt; 0 < width && width <= 8);
         for operation in OPERATIONS {
             for a in 0..all {
                 for b in 0..all {
-                    spell(a, &mut choice[..width]);
-                    spell(b, &mut choice[width..]);
-                    let found = computed(rt.alloc(), operation, width, &choice)?;
+                    let found = trial(rt.alloc(), operation, width, a, b)?;
                     let wanted = expected(operation, i64::from(all), i64::from(a), i64::from(b));
                     assert_eq!(rt;
                         found,
@@ -278,11 +294,8 @@ fn worked_numbers(rt: HostRuntime) -> Result<(), Fail> {
         (Operation::DivS, 128, 255, 128),
         (Operation::ShrS, 128, 8, 255),
     ];
-    let mut choice = [false; 16];
     for (operation, a, b, wanted) in rows {
-        spell(a, &mut choice[..8]);
-        spell(b, &mut choice[8..]);
-        let found = computed(rt.alloc(), operation, 8, &choice)?;
+        let found = trial(rt.alloc(), operation, 8, a, b)?;
         assert_eq!(rt; found, wanted, "{operation:?} of {a} and {b}");
     }
     Ok(())

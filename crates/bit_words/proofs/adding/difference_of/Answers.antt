@@ -1,5 +1,4 @@
 use Rattle.bit_words.proofs.SpellLemmas.{IfOk-more, Difference-sum}
-use Rattle.bit_words.proofs.NetLemmas.{Grown-trans}
 use Rattle.bit_words.proofs.adding.difference_of.Goals as goal
 
 pub returns-clause-ok : goal.returns-clause-ok

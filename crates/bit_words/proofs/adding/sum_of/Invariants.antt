@@ -1,4 +1,4 @@
-use Rattle.std.proofs.Common.{◌≡◌, ℕ, ◌+◌, ◌-◌, ◌*◌, ◌^◌, ◌<◌, ◌≤◌, length, drop, reverse}
+use Rattle.std.proofs.Common.{◌≡◌, ◌+◌, ◌-◌, ◌*◌, ◌^◌, ◌<◌, ◌≤◌, length, drop, reverse}
 use Rattle.bit_net.specs.Runs.{Grown, Always}
 use Rattle.bit_words.specs.Number.{bit, number, top}
 use Rattle.bit_words.proofs.adding.sum_of.Given as goal

@@ -1,4 +1,4 @@
-use Rattle.std.proofs.Common.{arith, rules, ap, ◌∙◌, refl, sym}
+use Rattle.std.proofs.Common.{arith, rules}
 use Rattle.std.proofs.lemmas.Grind.{common_steps}
 use Rattle.bit_words.proofs.NumberLemmas.{bound_laws}
 use Rattle.bit_words.proofs.NetLemmas.{Grown-trans}

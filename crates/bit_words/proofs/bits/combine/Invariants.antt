@@ -1,7 +1,7 @@
-use Rattle.std.proofs.Common.{◌≡◌, ℕ, ◌+◌, ◌-◌, ◌*◌, ◌^◌, ◌<◌, ◌≤◌, if◌then◌else◌, nat_eq, nat_lt, length, take, drop, reverse}
+use Rattle.std.proofs.Common.{◌≡◌, ◌≤◌, length, take}
 use Rattle.bit_net.specs.Runs.{Grown, Always}
 use Rattle.bit_words.specs.Parts.{number_of}
-use Rattle.bit_words.specs.Number.{bit, number, top}
+use Rattle.bit_words.specs.Number.{number, top}
 use Rattle.bit_words.proofs.bits.combine.Given as goal
 
 -- the bits so far are those of the result

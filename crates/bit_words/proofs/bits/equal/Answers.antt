@@ -1,6 +1,4 @@
-use Rattle.std.proofs.Common.{arith, rules, ap, ◌∙◌, refl, sym}
-use Rattle.std.proofs.lemmas.Grind.{common_steps}
-use Rattle.bit_words.proofs.NumberLemmas.{bound_laws}
+use Rattle.std.proofs.Common.{rules}
 use Rattle.bit_words.proofs.NetLemmas.{Grown-trans}
 use Rattle.bit_words.proofs.LoopLemmas.{equal_none, equal_step}
 use Rattle.bit_words.proofs.bits.equal.Goals as goal

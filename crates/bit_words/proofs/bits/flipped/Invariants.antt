@@ -1,6 +1,6 @@
-use Rattle.std.proofs.Common.{◌≡◌, ℕ, ◌+◌, ◌-◌, ◌*◌, ◌^◌, ◌<◌, ◌≤◌, if◌then◌else◌, nat_eq, nat_lt, length, take, drop, reverse}
+use Rattle.std.proofs.Common.{◌≡◌, ◌-◌, ◌^◌, ◌≤◌, if◌then◌else◌, length, take}
 use Rattle.bit_net.specs.Runs.{Grown, Always}
-use Rattle.bit_words.specs.Number.{bit, number, top}
+use Rattle.bit_words.specs.Number.{number, top}
 use Rattle.bit_words.proofs.bits.flipped.Given as goal
 
 -- the bits so far are those of the word, inverted where `by` holds

@@ -1,6 +1,6 @@
-use Rattle.std.proofs.Common.{◌≡◌, ℕ, ◌+◌, ◌-◌, ◌*◌, ◌^◌, ◌<◌, ◌≤◌, if◌then◌else◌, nat_eq, nat_lt, length, take, drop, reverse}
+use Rattle.std.proofs.Common.{◌≡◌, ◌-◌, ◌<◌, nat_lt, length, drop}
 use Rattle.bit_net.specs.Runs.{Grown, Always}
-use Rattle.bit_words.specs.Number.{bit, number, top}
+use Rattle.bit_words.specs.Number.{number}
 use Rattle.bit_words.proofs.bits.less.Given as goal
 
 -- the number of the last bits is less

@@ -1,4 +1,4 @@
-use Rattle.std.proofs.Common.{◌≡◌, ◌∙◌, ◌++◌, ap, arith, length}
+use Rattle.std.proofs.Common.{◌∙◌, arith}
 use Rattle.std.proofs.lemmas.List.{take_rest}
 use Rattle.bit_words.proofs.MoveLemmas.{Converted-cut, Converted-widened}
 use Rattle.bit_words.proofs.converting.converted_to.Goals as goal

@@ -1,4 +1,4 @@
-use Rattle.std.proofs.Common.{◌≡◌, ℕ, ◌<◌, ◌≤◌, not, nat_eq, length, take}
+use Rattle.std.proofs.Common.{◌≡◌, ◌<◌, ◌≤◌, not, nat_eq, length, take}
 use Rattle.bit_net.specs.Runs.{Grown, Always}
 use Rattle.bit_words.specs.Number.{number, top, quotient, remainder}
 use Rattle.bit_words.proofs.dividing.divide.Given as goal

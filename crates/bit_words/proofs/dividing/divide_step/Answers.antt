@@ -1,4 +1,4 @@
-use Rattle.std.proofs.Common.{◌≡◌, ◌∙◌, ◌-◌, length, ◌++◌, ◌∷◌, [], ap, arith, drop}
+use Rattle.std.proofs.Common.{◌∙◌, ◌-◌, length, ◌++◌, ◌∷◌, [], ap, arith, drop}
 use Rattle.std.proofs.lemmas.List.{take_rest}
 use Rattle.bit_words.specs.Number.{top}
 use Rattle.bit_words.proofs.NumberLemmas.{top-push, top-tail}

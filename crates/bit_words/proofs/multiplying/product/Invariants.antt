@@ -1,4 +1,4 @@
-use Rattle.std.proofs.Common.{◌≡◌, ℕ, ◌*◌, ◌%◌, ◌^◌, ◌<◌, ◌≤◌, length, take}
+use Rattle.std.proofs.Common.{◌≡◌, ◌*◌, ◌%◌, ◌^◌, ◌≤◌, length, take}
 use Rattle.bit_net.specs.Runs.{Grown, Always}
 use Rattle.bit_words.specs.Number.{number, top}
 use Rattle.bit_words.proofs.multiplying.product.Given as goal

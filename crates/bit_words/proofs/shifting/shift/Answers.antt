@@ -1,9 +1,8 @@
-use Rattle.std.proofs.Common.{◌≡◌, ◌∙◌, ap, arith, length, rules}
+use Rattle.std.proofs.Common.{◌∙◌, ap, arith, length, rules}
 use Rattle.std.proofs.lemmas.Nat.{one_shl}
 use Rattle.bit_words.specs.Number.{top}
 use Rattle.bit_words.proofs.NetLemmas.{Grown-trans}
-use Rattle.bit_words.proofs.SpellLemmas.{IfOk-more, Spells-as}
-use Rattle.bit_words.proofs.MoveLemmas.{shift_none, shift_step, shift_end}
+use Rattle.bit_words.proofs.MoveLemmas.{shift_none, shift_step}
 use Rattle.bit_words.proofs.shifting.shift.Goals as goal
 
 pub loop-j-init : goal.loop-j-init

@@ -1,4 +1,4 @@
-use Rattle.std.proofs.Common.{◌≡◌, ℕ, ◌-◌, ◌<◌, ◌≤◌, if◌then◌else◌, length, drop}
+use Rattle.std.proofs.Common.{◌≡◌, ◌-◌, ◌<◌, ◌≤◌, if◌then◌else◌, length, drop}
 use Rattle.bit_net.specs.Runs.{Grown, Always}
 use Rattle.bit_words.specs.Number.{number, top}
 use Rattle.bit_words.specs.Parts.{moved}

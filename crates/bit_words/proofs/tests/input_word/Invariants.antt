@@ -1,9 +1,10 @@
-use Rattle.std.proofs.Common.{◌≡◌, ◌≤◌, length}
+use Rattle.std.proofs.Common.{◌≡◌, ◌+◌, ◌≤◌, length}
 use Rattle.bit_words.specs.Number.{top}
 use Rattle.bit_words.proofs.tests.input_word.Given as goal
 
-abbrev pub invariant-loop-i : goal.invariant-loop-i
-invariant-loop-i l = record {
-  wide : length l.bits.items ≡ l.i;
+-- the inputs before k are in the word, and each gate is one of the net
+abbrev pub invariant-loop-k : goal.invariant-loop-k
+invariant-loop-k l = record {
+  wide : l.from + length l.bits.items ≡ l.k;
   below : top l.bits.items ≤ length l.net;
 }
