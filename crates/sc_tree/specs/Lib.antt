@@ -1,1 +1,10 @@
 pub mod Tree
+pub mod Tables
+pub mod Bytes
+pub mod Words
+pub mod Puncts
+pub mod Numbers
+pub mod Literals
+pub mod Pieces
+pub mod Places
+pub mod Cut
