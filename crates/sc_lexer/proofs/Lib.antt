@@ -6,3 +6,4 @@ pub mod PieceProofs
 pub mod WordProofs
 pub mod PlaceProofs
 pub mod ScanProofs
+pub mod RemovalProofs

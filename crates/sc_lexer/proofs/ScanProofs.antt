@@ -1,6 +1,6 @@
 -- Steps of the loop over the pieces.
 use Rattle.std.proofs.Common.{◌≡◌, ℕ, zero, suc, ◌+◌, ◌-◌, ◌<◌, ◌≤◌, List, [], ◌∷◌, ◌++◌, length, take, drop, refl, sym, ap, ◌∙◌, arith, append_assoc, Option, Some, None, Result, Ok, Err}
-use Rattle.std.proofs.lemmas.List.{append-nil, take-append-drop, take-take, drop-take, drop-drop}
+use Rattle.std.proofs.lemmas.List.{append-nil, length-append, take-append-drop, take-take, drop-take, drop-drop}
 use Rattle.sc_base.specs.declared.pos.Pos.{Pos}
 use Rattle.sc_tree.specs.declared.token.Token.{Token}
 use Rattle.sc_tree.specs.declared.token.Kind.{Kind}
@@ -110,3 +110,8 @@ past_is p r at n bytes rest text is same is_rest is_text =
     is ∙ ap (λ (q : Place). passed q text) same ∙ passed_is (take at bytes) text
     ∙ ap (λ (xs : List ℕ). place_at (take at bytes ++ xs)) (is_text ∙ ap (λ (xs : List ℕ). take n xs) is_rest)
     ∙ ap place_at (front_more at n bytes)
+
+-- a piece makes one token at most
+pub token_more : (tokens longer : List Token) (kind : Option Kind) (pos : Pos) (n : ℕ) → longer ≡ tokens ++ token_of kind pos → length tokens ≤ n → length longer ≤ n + 1
+token_more tokens longer (Some k) pos n is le = let e = ap (λ (ts : List Token). length ts) is in let l = length-append tokens (token_of (Some k) pos) in omega arith
+token_more tokens longer None pos n is le = let e = ap (λ (ts : List Token). length ts) is in let l = length-append tokens (token_of None pos) in omega arith

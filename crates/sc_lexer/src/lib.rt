@@ -7,13 +7,19 @@
 #![tactic(auto)]
 
 pub mod answer;
+mod brackets;
 mod bytes;
+pub mod lex;
 mod literals;
 mod numbers;
 mod pieces;
 mod place;
+mod removal;
+mod roles;
 mod scan;
+mod segments;
 mod tables;
 mod words;
 
 pub use answer::LexAnswer;
+pub use lex::tokens;

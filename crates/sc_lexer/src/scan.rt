@@ -1,7 +1,7 @@
 // All tokens of a file, those too that leave nothing.
 #![tactic(auto)]
 
-ghost use Rattle.std.specs.Prelude.{◌≡◌, ◌+◌, ◌-◌, ◌^◌, ◌<◌, ◌++◌, [], length, OnOk};
+ghost use Rattle.std.specs.Prelude.{◌≡◌, ◌+◌, ◌-◌, ◌^◌, ◌<◌, ◌≤◌, ◌++◌, [], length, IfOk, OnOk};
 ghost use Rattle.sc_tree.specs.Cut.{cut, token_of};
 ghost use Rattle.sc_lexer.specs.Answers.{Grow, Scans};
 
@@ -32,6 +32,7 @@ pub(crate) fn scan(
 ) -> Result<List<Token>, LexAnswer>
     requires { length names.old + length bytes.now < 2 ^ 32 - 1 }
     ensures tokens { Scans result (cut names.new file (length bytes.now) [] bytes.now) }
+    ensures few { IfOk result (λ tokens. length tokens ≤ length bytes.now) }
     ensures names { Grow (length bytes.now) names.old names.new }
 {
     let mut tokens = List::new(alloc);

@@ -8,3 +8,8 @@ pub mod Literals
 pub mod Pieces
 pub mod Places
 pub mod Cut
+pub mod Roles
+pub mod Brackets
+pub mod Removal
+pub mod Segments
+pub mod Lexed

@@ -10,5 +10,5 @@ pub mod first;
 pub mod piece;
 pub mod token;
 
-pub use piece::{Form, Opening, Piece, Suffix};
+pub use piece::{Bracket, Form, Opening, Piece, Role, Spot, Suffix};
 pub use token::{IntToken, Kind, Punct, Reserved, StrToken, Token, Tokens};

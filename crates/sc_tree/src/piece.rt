@@ -41,3 +41,39 @@ pub struct Suffix {
     /// How many `l` it has, up to two.
     pub longs: u8,
 }
+
+/// The three kinds of brackets: `( )`, `[ ]` and `{ }`.
+#[derive(Clone, Copy, Debug, PartialEq, Eq)]
+pub enum Bracket {
+    Round,
+    Square,
+    Curly,
+}
+
+/// What a token does to brackets and segments.
+#[derive(Clone, Copy, Debug, PartialEq, Eq)]
+pub enum Role {
+    /// It opens a bracket.
+    Opens(Bracket),
+    /// It closes one.
+    Closes(Bracket),
+    /// A `;`.
+    Semicolon,
+    /// A word that leaves nothing.
+    Nothing,
+    /// A word that leaves nothing, nor does what follows it at once in brackets.
+    Attribute,
+    /// Any other token.
+    Plain,
+}
+
+/// Where a token stands in its segment.
+#[derive(Clone, Copy, Debug, PartialEq, Eq)]
+pub struct Spot {
+    /// How many brackets are open before it.
+    pub depth: usize,
+    /// The outermost of them is a `{` that began the segment or followed a `)`.
+    pub is_body: bool,
+    /// It begins the segment or follows a `)`.
+    pub may_begin: bool,
+}

@@ -7,7 +7,7 @@ use Rattle.sc_tree.specs.Cut.{token_of}
 use Rattle.sc_lexer.specs.declared.place.Place.{Place}
 use Rattle.sc_lexer.proofs.PlaceProofs.{pos_is, place_room}
 use Rattle.sc_lexer.proofs.WordProofs.{grow_more, grow_at_most}
-use Rattle.sc_lexer.proofs.ScanProofs.{so_far_start, so_far_more, so_far_ends, so_far_out, so_far_stops, past_is}
+use Rattle.sc_lexer.proofs.ScanProofs.{so_far_start, so_far_more, so_far_ends, so_far_out, so_far_stops, past_is, token_more}
 use Rattle.sc_lexer.proofs.scan.scan.Goals as goal
 
 pub returns-then-at-end-clause-tokens : goal.returns-then-at-end-clause-tokens
@@ -55,6 +55,7 @@ loop-preserved c =
     , past_is c.loop.place c.past-place.result c.loop.at p.len bytes rest text c.past-place.ensures c.loop.invariant.1 c.split_at.ensures.back c.split_at-in-loop.ensures.front
     , grow_more c.loop.counter 1 c.args.names.now c.loop.names c.kind_of.new.names c.loop.invariant.2 c.kind_of.ensures.names
     , so_far_more c.loop.names c.kind_of.new.names c.args.file c.loop.counter c.loop.at bytes rest text c.loop.tokens c.push.new.tokens p c.in_ok-kind.kind c.kind_of.ensures.names c.split_at.ensures.back c.split_at-in-loop.ensures.front c.in_ok-kind.ensures.kind c.loop-test.true (omega (arith, c.split_at.ensures.back_len)) is_piece longer c.loop.invariant.3
+    , token_more c.loop.tokens c.push.new.tokens c.in_ok-kind.kind c.pos-in-loop.result c.loop.counter c.in_ok-push.ensures c.loop.invariant.4
     )
 
 pub returns-clause-tokens : goal.returns-clause-tokens

@@ -7,4 +7,4 @@ use Rattle.sc_lexer.proofs.scan.scan.Given as goal
 
 abbrev pub invariant-loop : goal.invariant-loop
 invariant-loop l =
-    (l.at ≤ length l.bytes) × (l.place ≡ place_at (take l.at l.bytes)) × Grow l.counter l.fn.names l.names × SoFar l.names l.file l.counter l.at l.bytes l.tokens
+    (l.at ≤ length l.bytes) × (l.place ≡ place_at (take l.at l.bytes)) × Grow l.counter l.fn.names l.names × SoFar l.names l.file l.counter l.at l.bytes l.tokens × (length l.tokens ≤ l.counter)
