@@ -1,1 +1,15 @@
 pub mod Tree
+pub mod Tables
+pub mod Bytes
+pub mod Words
+pub mod Puncts
+pub mod Numbers
+pub mod Literals
+pub mod Pieces
+pub mod Places
+pub mod Cut
+pub mod Roles
+pub mod Brackets
+pub mod Removal
+pub mod Segments
+pub mod Lexed

@@ -1,8 +1,14 @@
 // The trees of the source language, as data that later passes share.
 //
-// For now these are the *first forms*: one function whose statements lock, unlock, branch on a flag and
-// return. `first` has the data, `specs/Tree.antt` what a contract sees of it: the same tree without
-// pointers, vectors and strings.
+// `token` has the tokens of preprocessed C, and `specs/Lexed.antt` defines which tokens a file has.
+// `first` has the *first forms*: one function whose statements lock, unlock, branch on a flag and
+// return. `specs/Tree.antt` has what a contract sees of a first form: the same tree without pointers,
+// vectors and strings.
 #![tactic(auto)]
 
 pub mod first;
+pub mod piece;
+pub mod token;
+
+pub use piece::{Bracket, Form, Opening, Piece, Role, Spot, Suffix};
+pub use token::{IntToken, Kind, Punct, Reserved, StrToken, Token, Tokens};

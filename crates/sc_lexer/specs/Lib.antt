@@ -1,0 +1,4 @@
+pub mod Texts
+pub mod Stepping
+pub mod Answers
+pub mod Opened

@@ -1,0 +1,38 @@
+// The tokens and segments of a file.
+#![tactic(auto)]
+
+ghost use Rattle.std.specs.Prelude.{◌≡◌, ◌+◌, ◌-◌, ◌^◌, ◌<◌, length};
+ghost use Rattle.sc_tree.specs.Lexed.{lexed};
+ghost use Rattle.sc_lexer.specs.Answers.{Answers, Grow};
+
+use crate::answer::LexAnswer;
+use crate::brackets::unbalanced;
+use crate::removal::kept;
+use crate::scan::scan;
+use crate::segments::ends_of;
+use sc_base::Names;
+use sc_tree::Tokens;
+use std::alloc::Global;
+
+/// The tokens of the file of that number and the ends of its segments, or the place where it has
+/// none: first a place where nothing begins, then a bracket without its other half. The names of
+/// words go behind those that are there, which stay, whatever the answer is. (C11 6.4.)
+#[tactic(auto, unfolding(sc_tree::specs::Lexed::lexed))]
+pub fn tokens(
+    alloc: Global,
+    names: &mut Names,
+    file: u32,
+    bytes: &[u8],
+) -> Result<Tokens, LexAnswer>
+    requires { length names.old + length bytes.now < 2 ^ 32 - 1 }
+    ensures answer { Answers file result (lexed names.new file bytes.now) }
+    ensures names { Grow (length bytes.now) names.old names.new }
+{
+    let all = scan(alloc, names, file, bytes)?;
+    if let Some(place) = unbalanced(alloc, all.as_slice())? {
+        return Err(LexAnswer::Unbalanced(place));
+    }
+    let list = kept(all);
+    let ends = ends_of(alloc, list.as_slice())?;
+    Ok(Tokens { file, list, ends })
+}
