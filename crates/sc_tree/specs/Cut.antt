@@ -44,5 +44,5 @@ cut names file zero before bytes = Ok []
 cut names file (suc n) before [] = Ok []
 cut names file (suc n) before (c ∷ cs) =
     from_piece (piece (is_fresh_at before) (c ∷ cs)) (pos_at file before) (λ p.
-      let text = take p.len (c ∷ cs) in
-      behind (token_of (kind_of names p.form text) (pos_at file before)) (cut names file n (before ++ text) (drop p.len (c ∷ cs))))
+    let text = take p.len (c ∷ cs) in
+    behind (token_of (kind_of names p.form text) (pos_at file before)) (cut names file n (before ++ text) (drop p.len (c ∷ cs))))
