@@ -7,3 +7,4 @@ pub mod WordProofs
 pub mod PlaceProofs
 pub mod ScanProofs
 pub mod RemovalProofs
+pub mod LawProofs

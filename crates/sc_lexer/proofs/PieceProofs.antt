@@ -93,8 +93,8 @@ no_number c cs d e = cond-false (begins_number c cs) (1 + number_tail c cs) 0 (o
 is_number_of : (c : ℕ) (cs : List ℕ) → 0 < number_len (c ∷ cs) → begins_number c cs ≡ true
 is_number_of c cs h =
     elim (cases_Bool (begins_number c cs)) [
-      inl e ↦ e
-    | inr e ↦ absurd (let z : number_len (c ∷ cs) ≡ 0 = cond-false (begins_number c cs) (1 + number_tail c cs) 0 e in omega arith)
+      | inl e ↦ e
+      | inr e ↦ absurd (let z : number_len (c ∷ cs) ≡ 0 = cond-false (begins_number c cs) (1 + number_tail c cs) 0 e in omega arith)
     ]
 
 -- a byte with one property has not another
@@ -148,7 +148,7 @@ plain_space fresh (c ∷ cs) n bound is lt =
     let e : is_space c ≡ true = is_space_of c cs (omega arith) in
     let p = punct_len_of_none c cs (no_punct c cs (space_opens_none c b e)) in
     let whole = five_first (piece_of form.Blank (space_len (c ∷ cs))) (piece_of form.Blank (line_len fresh (c ∷ cs))) (piece_of form.Word (word_len (c ∷ cs))) (number_piece (number_len (c ∷ cs)) (c ∷ cs)) (punct_piece (c ∷ cs))
-          (no_line fresh c cs (space_is_no_hash c b e)) (no_word c cs (space_is_no_letter c b e)) (no_number c cs (space_is_no_digit c b e) (space_is_no_dot c b e)) p in
+    (no_line fresh c cs (space_is_no_hash c b e)) (no_word c cs (space_is_no_letter c b e)) (no_number c cs (space_is_no_digit c b e) (space_is_no_dot c b e)) p in
     ap (λ (m : ℕ). Some (piece_of form.Blank m)) is ∙ plain_is fresh (c ∷ cs) (piece_of form.Blank (space_len (c ∷ cs))) whole (omega arith)
 
 line_excludes : (c : ℕ) → c ≡ 35 → (is_letter c ≡ false) × (is_ascii_digit c ≡ false) × ((c == 46) ≡ false)
@@ -168,7 +168,7 @@ plain_line fresh (c ∷ cs) n s is lt =
     let z : space_len (c ∷ cs) ≡ 0 = omega arith in
     let l : 0 < line_len fresh (c ∷ cs) = omega arith in
     let whole = five_second (piece_of form.Blank (space_len (c ∷ cs))) (piece_of form.Blank (line_len fresh (c ∷ cs))) (piece_of form.Word (word_len (c ∷ cs))) (number_piece (number_len (c ∷ cs)) (c ∷ cs)) (punct_piece (c ∷ cs))
-          z l (no_word c cs x.0) (no_number c cs x.1 x.2) p in
+    z l (no_word c cs x.0) (no_number c cs x.1 x.2) p in
     ap (λ (m : ℕ). Some (piece_of form.Blank m)) is ∙ plain_is fresh (c ∷ cs) (piece_of form.Blank (line_len fresh (c ∷ cs))) whole l
 
 pub plain_word : (fresh : Bool) (bytes : List ℕ) (n : ℕ) → ((i : ℕ) → get_or bytes i 0 < 256) → space_len bytes ≤ 0 → line_len fresh bytes ≤ 0 → n ≡ word_len bytes → 0 < n → Some (piece_of form.Word n) ≡ plain_piece fresh bytes
@@ -182,7 +182,7 @@ plain_word fresh (c ∷ cs) n bound s l is lt =
     let zs : space_len (c ∷ cs) ≡ 0 = omega arith in
     let zl : line_len fresh (c ∷ cs) ≡ 0 = omega arith in
     let whole = five_third (piece_of form.Blank (space_len (c ∷ cs))) (piece_of form.Blank (line_len fresh (c ∷ cs))) (piece_of form.Word (word_len (c ∷ cs))) (number_piece (number_len (c ∷ cs)) (c ∷ cs)) (punct_piece (c ∷ cs))
-          zs zl w (no_number c cs (letter_is_no_digit c b e) (letter_is_no_dot c b e)) p in
+    zs zl w (no_number c cs (letter_is_no_digit c b e) (letter_is_no_dot c b e)) p in
     ap (λ (m : ℕ). Some (piece_of form.Word m)) is ∙ plain_is fresh (c ∷ cs) (piece_of form.Word (word_len (c ∷ cs))) whole w
 
 dot_punct : (c : ℕ) (cs : List ℕ) → ((c == 46) && is_digit_front cs) ≡ true → (punct_piece (c ∷ cs)).len ≡ 1
@@ -203,8 +203,8 @@ number_over_punct : (c : ℕ) (cs : List ℕ) → c < 256 → begins_number c cs
 number_over_punct c cs b e =
     let n : number_len (c ∷ cs) ≡ 1 + number_tail c cs = cond-true (begins_number c cs) (1 + number_tail c cs) 0 e in
     elim (or_cases (is_ascii_digit c) ((c == 46) && is_digit_front cs) e) [
-      inl d ↦ (let p = punct_len_of_none c cs (no_punct c cs (digit_opens_none c b d)) in omega arith)
-    | inr d ↦ (let p = dot_punct c cs d in omega arith)
+      | inl d ↦ (let p = punct_len_of_none c cs (no_punct c cs (digit_opens_none c b d)) in omega arith)
+      | inr d ↦ (let p = dot_punct c cs d in omega arith)
     ]
 
 pub plain_number : (fresh : Bool) (bytes : List ℕ) (n : ℕ) → ((i : ℕ) → get_or bytes i 0 < 256) → space_len bytes ≤ 0 → line_len fresh bytes ≤ 0 → word_len bytes ≤ 0 → n ≡ number_len bytes → 0 < n → Some (number_piece n bytes) ≡ plain_piece fresh bytes
@@ -218,7 +218,7 @@ plain_number fresh (c ∷ cs) n bound s l w is lt =
     let zl : line_len fresh (c ∷ cs) ≡ 0 = omega arith in
     let zw : word_len (c ∷ cs) ≡ 0 = omega arith in
     let whole = five_fourth (piece_of form.Blank (space_len (c ∷ cs))) (piece_of form.Blank (line_len fresh (c ∷ cs))) (piece_of form.Word (word_len (c ∷ cs))) (number_piece (number_len (c ∷ cs)) (c ∷ cs)) (punct_piece (c ∷ cs))
-          zs zl zw k (number_over_punct c cs b e) in
+    zs zl zw k (number_over_punct c cs b e) in
     ap (λ (m : ℕ). Some (number_piece m (c ∷ cs))) is ∙ plain_is fresh (c ∷ cs) (number_piece (number_len (c ∷ cs)) (c ∷ cs)) whole k
 
 punct_piece_of : (bytes : List ℕ) (row : List ℕ × Punct) → punctuator bytes ≡ Some row → punct_piece bytes ≡ piece_of (form.Known (kind.Punct row.1)) (length row.0)
@@ -241,7 +241,7 @@ plain_punct fresh bytes row s l w n is =
     let zn : number_len bytes ≡ 0 = omega arith in
     let pos : 0 < (punct_piece bytes).len = omega arith in
     let whole = five_fifth (piece_of form.Blank (space_len bytes)) (piece_of form.Blank (line_len fresh bytes)) (piece_of form.Word (word_len bytes)) (number_piece (number_len bytes) bytes) (punct_piece bytes)
-          zs zl zw zn pos in
+    zs zl zw zn pos in
     ap (λ (q : Piece). Some q) (sym p) ∙ plain_is fresh bytes (punct_piece bytes) whole pos
 
 none_of_zero : (fresh : Bool) (bytes : List ℕ) (q : Piece) → longest fresh bytes ≡ q → q.len ≡ 0 → None ≡ plain_piece fresh bytes
@@ -257,7 +257,7 @@ plain_none fresh bytes s l w n is =
     let zn : number_len bytes ≡ 0 = omega arith in
     let zp : (punct_piece bytes).len ≡ 0 = ap (λ (q : Piece). q.len) (punct_piece_none bytes is) in
     let whole = five_first (piece_of form.Blank (space_len bytes)) (piece_of form.Blank (line_len fresh bytes)) (piece_of form.Word (word_len bytes)) (number_piece (number_len bytes) bytes) (punct_piece bytes)
-          zl zw zn zp in
+    zl zw zn zp in
     none_of_zero fresh bytes (piece_of form.Blank (space_len bytes)) whole zs
 
 -- ---- the text of a word
@@ -266,12 +266,12 @@ front_passes : (xs : List ℕ) → list_all is_word_byte (take (prefix_len is_wo
 front_passes [] = refl
 front_passes (x ∷ xs) =
     elim (cases_Bool (is_word_byte x)) [
-      inl e ↦
-        let one : prefix_len is_word_byte (x ∷ xs) ≡ suc (prefix_len is_word_byte xs) = cond-true (is_word_byte x) (1 + prefix_len is_word_byte xs) 0 e ∙ (omega arith) in
-        rw one (and_from (is_word_byte x) (list_all is_word_byte (take (prefix_len is_word_byte xs) xs)) e (front_passes xs))
-    | inr e ↦
-        let none : prefix_len is_word_byte (x ∷ xs) ≡ 0 = cond-false (is_word_byte x) (1 + prefix_len is_word_byte xs) 0 e in
-        rw none refl
+      | inl e ↦
+          let one : prefix_len is_word_byte (x ∷ xs) ≡ suc (prefix_len is_word_byte xs) = cond-true (is_word_byte x) (1 + prefix_len is_word_byte xs) 0 e ∙ (omega arith) in
+          rw one (and_from (is_word_byte x) (list_all is_word_byte (take (prefix_len is_word_byte xs) xs)) e (front_passes xs))
+      | inr e ↦
+          let none : prefix_len is_word_byte (x ∷ xs) ≡ 0 = cond-false (is_word_byte x) (1 + prefix_len is_word_byte xs) 0 e in
+          rw none refl
     ]
 
 pub word_text : (bytes : List ℕ) (n : ℕ) → ((i : ℕ) → get_or bytes i 0 < 256) → n ≡ word_len bytes → 0 < n → list_all is_word_byte (take n bytes) ≡ true

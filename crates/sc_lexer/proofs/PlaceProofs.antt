@@ -48,14 +48,14 @@ pub stepped_is : (before : List ℕ) (c : ℕ) → stepped (place_at before) c �
 unfolding stepped
 stepped_is before c =
     elim (cases_Bool (is_feed c)) [
-      inl e ↦
-        let n : line_at (before ++ c ∷ []) ≡ line_at before + 1 = line_number before c ∙ (rw e refl) in
-        rw (e, n, line_at_feed before c e) refl
-    | inr e ↦
-        let n : line_at (before ++ c ∷ []) ≡ line_at before = line_number before c ∙ (rw e (omega arith)) in
-        let col : length (line_so_far before ++ c ∷ []) + 1 ≡ length (line_so_far before) + 1 + 1 = (let l = length_push (line_so_far before) c in omega arith) in
-        let fresh : list_all is_blank (line_so_far before ++ c ∷ []) ≡ (list_all is_blank (line_so_far before) && is_blank c) = list_all-append is_blank (line_so_far before) (c ∷ []) ∙ ap (λ (b : Bool). list_all is_blank (line_so_far before) && b) (and-true (is_blank c)) in
-        rw (e, n, line_in_line before c e, col, fresh) refl
+      | inl e ↦
+          let n : line_at (before ++ c ∷ []) ≡ line_at before + 1 = line_number before c ∙ (rw e refl) in
+          rw (e, n, line_at_feed before c e) refl
+      | inr e ↦
+          let n : line_at (before ++ c ∷ []) ≡ line_at before = line_number before c ∙ (rw e (omega arith)) in
+          let col : length (line_so_far before ++ c ∷ []) + 1 ≡ length (line_so_far before) + 1 + 1 = (let l = length_push (line_so_far before) c in omega arith) in
+          let fresh : list_all is_blank (line_so_far before ++ c ∷ []) ≡ (list_all is_blank (line_so_far before) && is_blank c) = list_all-append is_blank (line_so_far before) (c ∷ []) ∙ ap (λ (b : Bool). list_all is_blank (line_so_far before) && b) (and-true (is_blank c)) in
+          rw (e, n, line_in_line before c e, col, fresh) refl
     ]
 
 -- a text more

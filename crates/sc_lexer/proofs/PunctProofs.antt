@@ -29,17 +29,17 @@ no_fit (row ∷ rows) c cs h =
     cond-false (begins row.0 (c ∷ cs)) (Some row) (first_fit rows (c ∷ cs)) (head_of_fit row.0 c cs p.0) ∙ no_fit rows c cs p.1
 
 -- a row that fits is one of the table's, so its spelling has a byte where all have one
-fit_has_bytes : {A : Type 0} (table : List (List ℕ × A)) (bytes : List ℕ) (row : List ℕ × A) → list_all (λ (r : List ℕ × A). nat_lt 0 (length r.0)) table ≡ true → first_fit table bytes ≡ Some row → 0 < length row.0
+pub fit_has_bytes : {A : Type 0} (table : List (List ℕ × A)) (bytes : List ℕ) (row : List ℕ × A) → list_all (λ (r : List ℕ × A). nat_lt 0 (length r.0)) table ≡ true → first_fit table bytes ≡ Some row → 0 < length row.0
 fit_has_bytes [] bytes row h e = absurd (cc)
 fit_has_bytes {A} (r ∷ rows) bytes row h e =
     let p = and_parts (nat_lt 0 (length r.0)) (list_all (λ (r : List ℕ × A). nat_lt 0 (length r.0)) rows) h in
     elim (cases_Bool (begins r.0 bytes)) [
-      inl fits ↦
-        let is : r ≡ row = (let f : first_fit (r ∷ rows) bytes ≡ Some r = cond-true (begins r.0 bytes) (Some r) (first_fit rows bytes) fits in cc) in
-        let lt = ltb-true 0 (length r.0) p.0 in
-        let P : List ℕ × A → Type 0 = λ x. 0 < length x.0 in
-        subst P is lt
-    | inr misses ↦ fit_has_bytes rows bytes row p.1 (sym (cond-false (begins r.0 bytes) (Some r) (first_fit rows bytes) misses) ∙ e)
+      | inl fits ↦
+          let is : r ≡ row = (let f : first_fit (r ∷ rows) bytes ≡ Some r = cond-true (begins r.0 bytes) (Some r) (first_fit rows bytes) fits in cc) in
+          let lt = ltb-true 0 (length r.0) p.0 in
+          let P : List ℕ × A → Type 0 = λ x. 0 < length x.0 in
+          subst P is lt
+      | inr misses ↦ fit_has_bytes rows bytes row p.1 (sym (cond-false (begins r.0 bytes) (Some r) (first_fit rows bytes) misses) ∙ e)
     ]
 
 pub punct_has_bytes : (bytes : List ℕ) (row : List ℕ × Punct) → punctuator bytes ≡ Some row → 0 < length row.0
@@ -87,20 +87,20 @@ in_range_below low high c e = leb-true c high (and_parts (nat_le low c) (nat_le 
 ascii_letter_or_digit : (c : ℕ) → is_ascii_alphanumeric c ≡ true → c < 128
 ascii_letter_or_digit c e =
     elim (or_cases ((nat_le 48 c && nat_le c 57) || (nat_le 65 c && nat_le c 90)) (nat_le 97 c && nat_le c 122) e) [
-      inl a ↦ elim (or_cases (nat_le 48 c && nat_le c 57) (nat_le 65 c && nat_le c 90) a) [
-        inl d ↦ (let h = in_range_below 48 57 c d in omega arith)
-      | inr d ↦ (let h = in_range_below 65 90 c d in omega arith)
+      | inl a ↦ elim (or_cases (nat_le 48 c && nat_le c 57) (nat_le 65 c && nat_le c 90) a) [
+        | inl d ↦ (let h = in_range_below 48 57 c d in omega arith)
+        | inr d ↦ (let h = in_range_below 65 90 c d in omega arith)
       ]
-    | inr a ↦ (let h = in_range_below 97 122 c a in omega arith)
+      | inr a ↦ (let h = in_range_below 97 122 c a in omega arith)
     ]
 
 pub ascii_word : (c : ℕ) → is_word_byte c ≡ true → c < 128
 unfolding is_word_byte
 ascii_word c e =
     elim (or_cases (is_ascii_alphanumeric c) ((c == 95) || (c == 36)) e) [
-      inl a ↦ ascii_letter_or_digit c a
-    | inr a ↦ elim (or_cases (c == 95) (c == 36) a) [
-        inl d ↦ (let h = eqb-true c 95 d in omega arith)
-      | inr d ↦ (let h = eqb-true c 36 d in omega arith)
+      | inl a ↦ ascii_letter_or_digit c a
+      | inr a ↦ elim (or_cases (c == 95) (c == 36) a) [
+        | inl d ↦ (let h = eqb-true c 95 d in omega arith)
+        | inr d ↦ (let h = eqb-true c 36 d in omega arith)
       ]
     ]

@@ -67,15 +67,15 @@ so_far_more names new file i at bytes rest text tokens longer p kind grow is_res
     let fronts : before ++ take p.len rest ≡ take (at + p.len) bytes = ap (λ (xs : List ℕ). before ++ take p.len xs) is_rest ∙ front_more at p.len bytes in
     let backs : drop p.len rest ≡ drop (at + p.len) bytes = ap (λ (xs : List ℕ). drop p.len xs) is_rest ∙ drop-drop p.len at bytes in
     let on : cut (new ++ more) file (suc (length bytes - (i + 1))) before rest ≡ behind (token_of (kind_of (new ++ more) p.form (take p.len rest)) place) (cut (new ++ more) file (length bytes - (i + 1)) (before ++ take p.len rest) (drop p.len rest)) =
-        cut_on (new ++ more) file (length bytes - (i + 1)) before rest p pos is_piece in
+    cut_on (new ++ more) file (length bytes - (i + 1)) before rest p pos is_piece in
     let kinds : kind_of (new ++ more) p.form (take p.len rest) ≡ kind = ap (λ (xs : List ℕ). kind_of (new ++ more) p.form xs) (sym is_text) ∙ sym (is_kind more) in
     let here : cut (new ++ more) file (length bytes - i) before (drop at bytes) ≡ behind (token_of kind place) next =
-        ap (λ (n : ℕ). cut (new ++ more) file n before (drop at bytes)) e
-        ∙ ap (λ (xs : List ℕ). cut (new ++ more) file (suc (length bytes - (i + 1))) before xs) (sym is_rest)
-        ∙ on
-        ∙ ap (λ (k : Option Kind). behind (token_of k place) (cut (new ++ more) file (length bytes - (i + 1)) (before ++ take p.len rest) (drop p.len rest))) kinds
-        ∙ ap (λ (xs : List ℕ). behind (token_of kind place) (cut (new ++ more) file (length bytes - (i + 1)) xs (drop p.len rest))) fronts
-        ∙ ap (λ (xs : List ℕ). behind (token_of kind place) (cut (new ++ more) file (length bytes - (i + 1)) (take (at + p.len) bytes) xs)) backs in
+    ap (λ (n : ℕ). cut (new ++ more) file n before (drop at bytes)) e
+    ∙ ap (λ (xs : List ℕ). cut (new ++ more) file (suc (length bytes - (i + 1))) before xs) (sym is_rest)
+    ∙ on
+    ∙ ap (λ (k : Option Kind). behind (token_of k place) (cut (new ++ more) file (length bytes - (i + 1)) (before ++ take p.len rest) (drop p.len rest))) kinds
+    ∙ ap (λ (xs : List ℕ). behind (token_of kind place) (cut (new ++ more) file (length bytes - (i + 1)) xs (drop p.len rest))) fronts
+    ∙ ap (λ (xs : List ℕ). behind (token_of kind place) (cut (new ++ more) file (length bytes - (i + 1)) (take (at + p.len) bytes) xs)) backs in
     let was : behind tokens (cut (new ++ more) file (length bytes - i) before (drop at bytes)) ≡ cut (new ++ more) file (length bytes) [] bytes = rw names_are (so_far (grow.added ++ more)) in
     ap (λ (ts : List Token). behind ts next) is_longer
     ∙ behind_behind tokens (token_of kind place) next

@@ -36,8 +36,8 @@ place_named : (text : List ℕ) (texts more : List (List ℕ)) → is_named text
 place_named text [] more h = absurd (cc)
 place_named text (t ∷ ts) more h =
     elim (cases_Bool (bytes_eq text t)) [
-      inl e ↦ rw e refl
-    | inr e ↦ (let rest : is_named text ts ≡ true = rw e at h in ap (λ (n : ℕ). cond (not (bytes_eq text t)) (1 + n) 0) (place_named text ts more rest))
+      | inl e ↦ rw e refl
+      | inr e ↦ (let rest : is_named text ts ≡ true = rw e at h in ap (λ (n : ℕ). cond (not (bytes_eq text t)) (1 + n) 0) (place_named text ts more rest))
     ]
 
 place_first : (text : List ℕ) (more : List (List ℕ)) → place_of text (text ∷ more) ≡ 0
@@ -47,8 +47,8 @@ place_first text more = let same : bytes_eq text text ≡ true = (bytes_eq-Decid
 pub place_stays : (text : List ℕ) (old more : List (List ℕ)) → place_of text (with_text old text ++ more) ≡ place_of text old
 place_stays text old more =
     elim (cases_Bool (is_named text old)) [
-      inl e ↦ (let w : with_text old text ≡ old = cond-true (is_named text old) old (old ++ text ∷ []) e in ap (λ (xs : List (List ℕ)). place_of text (xs ++ more)) w ∙ place_named text old more e)
-    | inr e ↦ (let w : with_text old text ≡ old ++ text ∷ [] = cond-false (is_named text old) old (old ++ text ∷ []) e in ap (λ (xs : List (List ℕ)). place_of text (xs ++ more)) w ∙ ap (λ (xs : List (List ℕ)). place_of text xs) (append_assoc old (text ∷ []) more) ∙ place_then text old (text ∷ more) (place_first text more))
+      | inl e ↦ (let w : with_text old text ≡ old = cond-true (is_named text old) old (old ++ text ∷ []) e in ap (λ (xs : List (List ℕ)). place_of text (xs ++ more)) w ∙ place_named text old more e)
+      | inr e ↦ (let w : with_text old text ≡ old ++ text ∷ [] = cond-false (is_named text old) old (old ++ text ∷ []) e in ap (λ (xs : List (List ℕ)). place_of text (xs ++ more)) w ∙ ap (λ (xs : List (List ℕ)). place_of text xs) (append_assoc old (text ∷ []) more) ∙ place_then text old (text ∷ more) (place_first text more))
     ]
 
 -- ---- how the names grow
@@ -59,8 +59,8 @@ grow_none count names = record { added = []; grown = sym (append-nil names); few
 pub grow_one : (text : List ℕ) (old new : List (List ℕ)) → new ≡ with_text old text → Grow 1 old new
 grow_one text old new is =
     elim (cases_Bool (is_named text old)) [
-      inl e ↦ record { added = []; grown = is ∙ cond-true (is_named text old) old (old ++ text ∷ []) e ∙ sym (append-nil old); few = omega arith }
-    | inr e ↦ record { added = text ∷ []; grown = is ∙ cond-false (is_named text old) old (old ++ text ∷ []) e; few = omega arith }
+      | inl e ↦ record { added = []; grown = is ∙ cond-true (is_named text old) old (old ++ text ∷ []) e ∙ sym (append-nil old); few = omega arith }
+      | inr e ↦ record { added = text ∷ []; grown = is ∙ cond-false (is_named text old) old (old ++ text ∷ []) e; few = omega arith }
     ]
 
 pub grow_same : (count : ℕ) (old new : List (List ℕ)) → new ≡ old → Grow count old new

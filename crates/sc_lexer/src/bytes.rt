@@ -88,7 +88,10 @@ pub(crate) fn decimal_digits(bytes: &[u8]) -> usize
     ensures len { result ≡ prefix_len is_ascii_digit bytes.now }
     ensures within { result ≤ length bytes.now }
 {
-    bytes.iter().take_while(|byte| byte.is_ascii_digit()).count()
+    bytes
+        .iter()
+        .take_while(|byte| byte.is_ascii_digit())
+        .count()
 }
 
 pub(crate) fn octal_digits(bytes: &[u8]) -> usize

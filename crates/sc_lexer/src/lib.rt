@@ -9,6 +9,7 @@
 pub mod answer;
 mod brackets;
 mod bytes;
+pub mod laws;
 pub mod lex;
 mod literals;
 mod numbers;
@@ -23,3 +24,6 @@ mod words;
 
 pub use answer::LexAnswer;
 pub use lex::tokens;
+
+#[cfg(test)]
+mod tests;

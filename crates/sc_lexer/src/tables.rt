@@ -77,6 +77,7 @@ const RESERVED: [(&[u8], Reserved); 65] = [
     (b"__attribute__", Reserved::Attribute),
     (b"__attribute", Reserved::Attribute),
 ];
+
 const PUNCTUATORS: [(&[u8], Punct); 46] = [
     (b"(", Punct::LeftParen),
     (b")", Punct::RightParen),
@@ -125,6 +126,7 @@ const PUNCTUATORS: [(&[u8], Punct); 46] = [
     (b"^=", Punct::CaretAssign),
     (b"^", Punct::Caret),
 ];
+
 const SUFFIXES: [(&[u8], Suffix); 23] = [
     (
         b"",
@@ -288,6 +290,7 @@ const SUFFIXES: [(&[u8], Suffix); 23] = [
         },
     ),
 ];
+
 const SIMPLE_ESCAPES: [(&[u8], u8); 12] = [
     (b"n", 10),
     (b"t", 9),
@@ -302,6 +305,7 @@ const SIMPLE_ESCAPES: [(&[u8], u8); 12] = [
     (b"\"", 34),
     (b"?", 63),
 ];
+
 const OPENINGS: [(&[u8], Opening); 11] = [
     (b"/*", Opening::BlockComment),
     (b"//", Opening::LineComment),

@@ -50,12 +50,12 @@ loop-preserved c =
     let p = c.in-Some.piece in
     let fresh : c.loop.place.is_fresh ≡ is_fresh_at before = ap (λ (q : Place). q.is_fresh) c.loop.invariant.1 in
     let is_piece = ap (λ (b : Bool). piece b rest) (sym fresh) ∙ sym c.in-Some.ensures.piece in
-    let longer = c.in_ok-push.ensures ∙ ap (λ (q : Pos). c.loop.tokens ++ token_of c.in_ok-kind.kind q) (pos_is c.args.file c.loop.place before c.pos-in-loop.result c.pos-in-loop.ensures c.loop.invariant.1) in
-    ( omega (arith, c.split_at.ensures.back_len, c.in-Some.ensures.within)
-    , past_is c.loop.place c.past-place.result c.loop.at p.len bytes rest text c.past-place.ensures c.loop.invariant.1 c.split_at.ensures.back c.split_at-in-loop.ensures.front
-    , grow_more c.loop.counter 1 c.args.names.now c.loop.names c.kind_of.new.names c.loop.invariant.2 c.kind_of.ensures.names
-    , so_far_more c.loop.names c.kind_of.new.names c.args.file c.loop.counter c.loop.at bytes rest text c.loop.tokens c.push.new.tokens p c.in_ok-kind.kind c.kind_of.ensures.names c.split_at.ensures.back c.split_at-in-loop.ensures.front c.in_ok-kind.ensures.kind c.loop-test.true (omega (arith, c.split_at.ensures.back_len)) is_piece longer c.loop.invariant.3
-    , token_more c.loop.tokens c.push.new.tokens c.in_ok-kind.kind c.pos-in-loop.result c.loop.counter c.in_ok-push.ensures c.loop.invariant.4
+    let longer = c.in_ok-push.ensures ∙ ap (λ (q : Pos). c.loop.tokens ++ token_of c.in_ok-kind.kind q) (pos_is c.args.file c.loop.place before c.pos-in-loop.result c.pos-in-loop.ensures c.loop.invariant.1) in (
+      omega (arith, c.split_at.ensures.back_len, c.in-Some.ensures.within),
+      past_is c.loop.place c.past-place.result c.loop.at p.len bytes rest text c.past-place.ensures c.loop.invariant.1 c.split_at.ensures.back c.split_at-in-loop.ensures.front,
+      grow_more c.loop.counter 1 c.args.names.now c.loop.names c.kind_of.new.names c.loop.invariant.2 c.kind_of.ensures.names,
+      so_far_more c.loop.names c.kind_of.new.names c.args.file c.loop.counter c.loop.at bytes rest text c.loop.tokens c.push.new.tokens p c.in_ok-kind.kind c.kind_of.ensures.names c.split_at.ensures.back c.split_at-in-loop.ensures.front c.in_ok-kind.ensures.kind c.loop-test.true (omega (arith, c.split_at.ensures.back_len)) is_piece longer c.loop.invariant.3,
+      token_more c.loop.tokens c.push.new.tokens c.in_ok-kind.kind c.pos-in-loop.result c.loop.counter c.in_ok-push.ensures c.loop.invariant.4,
     )
 
 pub returns-clause-tokens : goal.returns-clause-tokens

@@ -1,0 +1,251 @@
+// The tokens of small files: each kind of token with its edges, places, refusals and segments.
+use crate::{LexAnswer, tokens};
+use sc_base::{NameId, Names, Pos};
+use sc_tree::{IntToken, Kind, Punct, Reserved, StrToken, Tokens};
+use std::alloc::Global;
+use std::test::*;
+
+/// The tokens of a short file, over names that hold `x`.
+fn lex(alloc: Global, text: &str) -> Result<Tokens, LexAnswer> {
+    let mut names = Names::new(alloc);
+    names.intern("x")?;
+    if text.len() > 1000 || names.len() > 1 {
+        return Err(LexAnswer::OutOfMemory);
+    }
+    tokens(alloc, &mut names, 3, text.as_bytes())
+}
+
+/// What the only token of a file is.
+fn only(alloc: Global, text: &str) -> Result<Option<Kind>, LexAnswer> {
+    let found = lex(alloc, text)?;
+    match found.list.as_slice() {
+        [token] => Ok(Some(token.kind)),
+        _ => Ok(None),
+    }
+}
+
+/// The line and column of a refusal, and whether it is a bracket's.
+fn refusal(alloc: Global, text: &str) -> Option<(u32, u32, bool)> {
+    match lex(alloc, text) {
+        Err(LexAnswer::Lexical(pos)) => Some((pos.line, pos.col, false)),
+        Err(LexAnswer::Unbalanced(pos)) => Some((pos.line, pos.col, true)),
+        _ => None,
+    }
+}
+
+fn int(value: Option<u64>, decimal: bool, unsigned: bool, longs: u8) -> Option<Kind> {
+    Some(Kind::Int(IntToken {
+        value,
+        decimal,
+        unsigned,
+        longs,
+    }))
+}
+
+#[test]
+fn four_tokens(rt: HostRuntime) -> Result<(), Fail> {
+    let found = lex(rt.alloc(), "x+1;")?;
+    assert_eq!(rt; found.file, 3);
+    assert_eq!(rt; found.list.len(), 4);
+    assert_eq!(rt; found.ends.as_slice(), [4].as_slice());
+    assert_eq!(rt; found.list.as_slice()[0].kind, Kind::Word(NameId { at: 0 }));
+    assert_eq!(rt; found.list.as_slice()[1].kind, Kind::Punct(Punct::Plus));
+    assert_eq!(rt;
+        found.list.as_slice()[3].kind,
+        Kind::Punct(Punct::Semicolon)
+    );
+    let last = found.list.as_slice()[3].pos;
+    assert_eq!(rt;
+        last,
+        Pos {
+            file: 3,
+            line: 1,
+            col: 4
+        }
+    );
+    Ok(())
+}
+
+#[test]
+fn integers(rt: HostRuntime) -> Result<(), Fail> {
+    for (text, want) in [
+        ("0", int(Some(0), false, false, 0)),
+        ("017", int(Some(15), false, false, 0)),
+        ("12uL", int(Some(12), true, true, 1)),
+        ("0Xfllu", int(Some(15), false, true, 2)),
+        ("1LL", int(Some(1), true, false, 2)),
+        (
+            "18446744073709551615",
+            int(Some(18446744073709551615), true, false, 0),
+        ),
+        ("18446744073709551616", int(None, true, false, 0)),
+        ("0x10000000000000000", int(None, false, false, 0)),
+    ] {
+        assert_eq!(rt; only(rt.alloc(), text)?, want, "{text}");
+    }
+    Ok(())
+}
+
+#[test]
+fn odd_tokens(rt: HostRuntime) -> Result<(), Fail> {
+    for text in [
+        "1.5", ".5", "1e+5", "0xe+1", "0x", "08", "1lL", "1uu", "1_", "1..2", "''", "'ab'",
+        "'\\q'", "'\\400'", "L'a'", "u'a'", "U'a'",
+    ] {
+        assert_eq!(rt; only(rt.alloc(), text)?, Some(Kind::Odd), "{text}");
+    }
+    Ok(())
+}
+
+#[test]
+fn characters(rt: HostRuntime) -> Result<(), Fail> {
+    for (text, want) in [
+        ("'a'", 97),
+        ("'\\n'", 10),
+        ("'\\e'", 27),
+        ("'\\''", 39),
+        ("'\\\\'", 92),
+        ("'\"'", 34),
+        ("'\\0'", 0),
+        ("'\\x41'", 65),
+        ("'\\177'", 127),
+        ("'\\200'", -128),
+        ("'\\xff'", -1),
+    ] {
+        assert_eq!(rt; only(rt.alloc(), text)?, Some(Kind::Char(want)), "{text}");
+    }
+    Ok(())
+}
+
+#[test]
+fn strings(rt: HostRuntime) -> Result<(), Fail> {
+    for (text, wide, len) in [
+        ("\"\"", false, 0),
+        ("\"a'b\"", false, 3),
+        ("\"\\\"\"", false, 1),
+        ("\"\\x12345\"", false, 1),
+        ("\"\\1234\"", false, 2),
+        ("\"\\400\"", false, 1),
+        ("u8\"a\"", false, 1),
+        ("L\"a\"", true, 1),
+        ("U\"\\n\"", true, 1),
+    ] {
+        assert_eq!(rt;
+            only(rt.alloc(), text)?,
+            Some(Kind::Str(StrToken { wide, len })),
+            "{text}"
+        );
+    }
+    Ok(())
+}
+
+#[test]
+fn words_and_punctuators(rt: HostRuntime) -> Result<(), Fail> {
+    for (text, want) in [
+        ("x", Kind::Word(NameId { at: 0 })),
+        ("y", Kind::Word(NameId { at: 1 })),
+        ("$a_1", Kind::Word(NameId { at: 1 })),
+        ("L", Kind::Word(NameId { at: 1 })),
+        ("u8", Kind::Word(NameId { at: 1 })),
+        ("ints", Kind::Word(NameId { at: 1 })),
+        ("int", Kind::Reserved(Reserved::Int)),
+        ("__signed__", Kind::Reserved(Reserved::Signed)),
+        ("__inline", Kind::Reserved(Reserved::Inline)),
+        ("_Bool", Kind::Reserved(Reserved::Bool)),
+        ("<<=", Kind::Punct(Punct::ShiftLeftAssign)),
+        ("...", Kind::Punct(Punct::Ellipsis)),
+        ("->", Kind::Punct(Punct::Arrow)),
+        ("%=", Kind::Punct(Punct::PercentAssign)),
+    ] {
+        assert_eq!(rt; only(rt.alloc(), text)?, Some(want), "{text}");
+    }
+    Ok(())
+}
+
+#[test]
+fn counts_of_tokens(rt: HostRuntime) -> Result<(), Fail> {
+    for (text, count, ends) in [
+        ("", 0, 0),
+        (" \t\u{b}\u{c}\r\n", 0, 0),
+        ("/* ; */ // ;", 0, 0),
+        ("#define x \\\n foo;", 2, 1),
+        (" \t# a ' \" /*\nx", 1, 1),
+        ("1$", 2, 1),
+        ("..", 2, 1),
+        ("a+++b", 4, 1),
+        ("int x __attribute__[3];", 3, 1),
+        ("int x __attribute__((a(b)));", 3, 1),
+        ("int __attribute__ const((a));", 7, 1),
+        ("const int volatile __restrict x __extension__;", 3, 1),
+        ("_Alignas(8) int x;", 3, 1),
+        ("int f(){a;}x;", 10, 2),
+        ("struct s{int a;}x;", 8, 1),
+        ("{a;}b;c", 7, 3),
+        ("(;)[;]{;}", 9, 1),
+    ] {
+        let found = lex(rt.alloc(), text)?;
+        assert_eq!(rt; found.list.len(), count, "{text}");
+        assert_eq!(rt; found.ends.len(), ends, "{text}");
+    }
+    Ok(())
+}
+
+#[test]
+fn places_behind_lines(rt: HostRuntime) -> Result<(), Fail> {
+    let found = lex(rt.alloc(), "/*\n\n*/\n\t x\n#\n y")?;
+    assert_eq!(rt; found.list.len(), 2);
+    let first = found.list.as_slice()[0].pos;
+    let second = found.list.as_slice()[1].pos;
+    assert_eq!(rt;
+        first,
+        Pos {
+            file: 3,
+            line: 4,
+            col: 3
+        }
+    );
+    assert_eq!(rt;
+        second,
+        Pos {
+            file: 3,
+            line: 6,
+            col: 2
+        }
+    );
+    Ok(())
+}
+
+#[test]
+fn refusals(rt: HostRuntime) {
+    for (text, line, col, is_bracket) in [
+        ("int x # y;", 1, 7, false),
+        ("int x=L\"a;", 1, 7, false),
+        ("int x=u8'a;", 1, 9, false),
+        ("char*p=\"\\q\";", 1, 8, false),
+        ("\"\\x\"", 1, 1, false),
+        ("\"a\nb\"", 1, 1, false),
+        ("'a\n'", 1, 1, false),
+        ("/*\n*/#if\n", 2, 3, false),
+        ("x /* a", 1, 3, false),
+        ("\"a", 1, 1, false),
+        ("\"\\", 1, 1, false),
+        ("u8\"", 1, 1, false),
+        ("'", 1, 1, false),
+        ("'\\'", 1, 1, false),
+        ("U'a", 1, 1, false),
+        ("\\", 1, 1, false),
+        ("@", 1, 1, false),
+        (")", 1, 1, true),
+        ("([)]", 1, 3, true),
+        ("(()\n(", 1, 1, true),
+        ("()\n{(}", 2, 3, true),
+        ("__attribute__((x);", 1, 14, true),
+        (")@", 1, 2, false),
+    ] {
+        assert_eq!(rt;
+            refusal(rt.alloc(), text),
+            Some((line, col, is_bracket)),
+            "{text}"
+        );
+    }
+}
