@@ -1,0 +1,92 @@
+//! A chain of two pointers, and a ring of objects that each point to the next under an input of their own.
+ghost use Rattle.std.specs.Prelude.{◌≡◌, ℕ, ◌<◌, ◌≤◌, length, IfOk};
+ghost use Rattle.bit_net.specs.Circuit.{input_count};
+ghost use Rattle.reach_net.specs.Walks.{rows_of, EachWide, gates_top, rows_top};
+
+use crate::reached;
+use bit_net::{Gate, Net, OutOfMemory};
+use std::process::Abort;
+use std::test::Fail;
+
+/// A row of `count` gates that never hold, but for `gate` at one place.
+#[tactic(auto, using(crate::proofs::RowLemmas::row_laws))]
+fn row(net: &Net, count: usize, place: usize, gate: Gate) -> Result<Vec<Gate>, OutOfMemory>
+    requires { gate.at < length net.now }
+    ensures wide { IfOk result (λ r. length r.items ≡ count) }
+    ensures below { IfOk result (λ r. gates_top r.items ≤ length net.now) }
+{
+    let never = net.constant(false);
+    let mut gates = Vec::new(net.alloc());
+    for i in 0..count {
+        let here = if i == place { gate } else { never };
+        gates.push(here)?;
+    }
+    Ok(gates)
+}
+
+/// The rows of objects that each point to one target under a gate of their own.
+#[tactic(auto, using(crate::proofs::RowLemmas::row_laws))]
+fn matrix(net: &Net, targets: &[usize], gates: &[Gate]) -> Result<Vec<Vec<Gate>>, OutOfMemory>
+    requires same { length gates.now ≡ length targets.now }
+    requires below { gates_top gates.now ≤ length net.now }
+    ensures count { IfOk result (λ r. length r.items ≡ length targets.now) }
+    ensures wide { IfOk result (λ r. EachWide (length targets.now) (rows_of r.items)) }
+    ensures below { IfOk result (λ r. rows_top (rows_of r.items) ≤ length net.now) }
+{
+    let mut rows = Vec::new(net.alloc());
+    for i in 0..targets.len() {
+        let next = row(net, targets.len(), targets[i], gates[i])?;
+        rows.push(next)?;
+    }
+    Ok(rows)
+}
+
+/// The value of a gate of a net of at most 1,024 gates, where the inputs have the values of `choice`.
+fn value(rt: &impl Abort, net: &Net, choice: &[bool], gate: Gate) -> bool
+    requires { length choice.now ≡ input_count net.now }
+{
+    let mut room = [false; 1024];
+    let gates = net.len();
+    assert!(rt; gates <= 1024);
+    assert!(rt; gate.at < gates);
+    net.values_into(choice, &mut room[..gates]);
+    room[gate.at]
+}
+
+#[test]
+#[tactic(auto, using(crate::proofs::RowLemmas::row_laws), unfolding(crate::specs::Walks::gates_top))]
+fn follows_a_chain(rt: HostRuntime) -> Result<(), Fail> {
+    let mut net = Net::new(rt.alloc(), 0)?;
+    let yes = net.constant(true);
+    let no = net.constant(false);
+    let points = matrix(&net, &[1, 2, 0, 0], &[yes, yes, no, no])?;
+    let roots = row(&net, 4, 0, yes)?;
+    let found = reached(&mut net, &points, &roots)?;
+    assert_eq!(rt; found.len(), 4);
+    assert_eq!(rt; value(&rt, &net, &[], found[0]), true);
+    assert_eq!(rt; value(&rt, &net, &[], found[1]), true);
+    assert_eq!(rt; value(&rt, &net, &[], found[2]), true);
+    assert_eq!(rt; value(&rt, &net, &[], found[3]), false);
+    Ok(())
+}
+
+/// Object i + 1 is reached from object 0 exactly where the inputs 0 to i hold.
+#[test]
+#[tactic(auto, using(crate::proofs::RowLemmas::row_laws), unfolding(crate::specs::Walks::gates_top))]
+fn goes_round_a_ring(rt: HostRuntime) -> Result<(), Fail> {
+    let mut net = Net::new(rt.alloc(), 3)?;
+    let gates = [net.input(0), net.input(1), net.input(2)];
+    let points = matrix(&net, &[1, 2, 0], &gates)?;
+    let roots = row(&net, 3, 0, net.constant(true))?;
+    let found = reached(&mut net, &points, &roots)?;
+    assert_eq!(rt; found.len(), 3);
+    for first in [false, true] {
+        for second in [false, true] {
+            let choice = [first, second, true];
+            assert_eq!(rt; value(&rt, &net, &choice, found[0]), true);
+            assert_eq!(rt; value(&rt, &net, &choice, found[1]), first);
+            assert_eq!(rt; value(&rt, &net, &choice, found[2]), first && second);
+        }
+    }
+    Ok(())
+}
