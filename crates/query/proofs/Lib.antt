@@ -1,0 +1,4 @@
+pub mod Order
+pub mod Fixed
+pub mod Narrowing
+pub mod Counting

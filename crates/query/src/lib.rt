@@ -1,0 +1,14 @@
+// Questions to a solver that ask for more than one answer: the least values that some literals
+// have in a model (`least`), and all values that they have in models (`occurring`). Both ask
+// under assumptions and leave the clauses as they are.
+#![tactic(auto)]
+
+pub mod fixing;
+pub mod least_model;
+pub mod occurrences;
+
+pub use least_model::least;
+pub use occurrences::occurring;
+
+#[cfg(test)]
+mod tests;

@@ -1,0 +1,39 @@
+// Questions about small lists of clauses, whose answers were found by hand.
+
+ghost use Rattle.std.specs.Prelude.{◌≡◌, ◌↔◌, IsTrue};
+ghost use Rattle.sat_base.specs.Logic.{LitsBelow};
+
+use crate::{least, occurring};
+use sat_base::{Lit, Plain, Solver};
+use std::test::Fail;
+
+/// Whether the variables of these literals are below this number.
+fn all_below(lits: &[Lit], vars: usize) -> bool
+    ensures { IsTrue result ↔ LitsBelow vars lits.now }
+{
+    lits.iter().all(|lit| lit.var < vars)
+}
+
+#[test]
+fn either_of_two_holds(rt: HostRuntime) -> Result<(), Fail> {
+    let mut solver = Plain::new(rt.alloc());
+    let x = solver.fresh()?;
+    let y = solver.fresh()?;
+    let either = [Lit { var: x, neg: false }, Lit { var: y, neg: false }];
+    assert!(rt; all_below(&either, 2));
+    solver.add(&either)?;
+    let values = occurring(rt.alloc(), &mut solver, &either)?;
+    assert_eq!(rt; values.as_slice(), [1, 2, 3].as_slice());
+    let goal = Lit { var: y, neg: false };
+    let first = least(rt.alloc(), &mut solver, &either, goal)?;
+    assert_eq!(rt;
+        first.ok_or("no model")?.as_slice(),
+        [false, true].as_slice()
+    );
+    let neither = [Lit { var: x, neg: true }];
+    assert!(rt; all_below(&neither, 2));
+    solver.add(&neither)?;
+    let other = Lit { var: x, neg: false };
+    assert!(rt; least(rt.alloc(), &mut solver, &either, other)?.is_none());
+    Ok(())
+}
