@@ -1,10 +1,10 @@
 -- Of the forms at a place at most one has a byte, but for a number that begins with a `.`: so the first
 -- that has one is the longest.
-use Rattle.std.proofs.Common.{◌≡◌, ℕ, zero, suc, ◌+◌, ◌<◌, ◌≤◌, Bool, true, false, cond, List, [], ◌∷◌, length, take, drop, get_or, refl, sym, ap, ◌∙◌, arith, Option, Some, None, inl, inr}
-use Rattle.std.specs.Prelude.{◌==◌, ◌&&◌, ◌||◌, not, nat_lt, nat_le, option_map, unwrap_or}
-use Rattle.std.specs.List.{list_all, list_any, prefix_len}
+use Rattle.std.proofs.Common.{◌≡◌, ℕ, suc, ◌+◌, ◌<◌, ◌≤◌, Bool, true, false, List, [], ◌∷◌, length, take, get_or, refl, sym, ap, ◌∙◌, arith, Some, None, inl, inr}
+use Rattle.std.specs.Prelude.{◌==◌, ◌&&◌, ◌||◌, not, nat_lt}
+use Rattle.std.specs.List.{list_all, prefix_len}
 use Rattle.std.specs.Char.{is_ascii_digit}
-use Rattle.std.proofs.lemmas.Bool.{and_parts, or_parts, or_cases, and_left, cond-false, cond-true, cases_Bool, leb-true, lt-ltb, le-ltb, ne_eqb, eqb-true, agree_below_at, and_from, or_from, not_from_true}
+use Rattle.std.proofs.lemmas.Bool.{and_parts, or_cases, and_left, cond-false, cond-true, cases_Bool, lt-ltb, le-ltb, ne_eqb, eqb-true, agree_below_at, and_from, or_from}
 use Rattle.sc_tree.specs.declared.token.Kind.TheVariants as kind
 use Rattle.sc_tree.specs.declared.piece.Form.TheVariants as form
 use Rattle.sc_tree.specs.declared.piece.Piece.{Piece}

@@ -1,15 +1,15 @@
 -- Counting byte by byte gives the place that is counted from all bytes before.
-use Rattle.std.proofs.Common.{◌≡◌, ℕ, zero, suc, ◌+◌, ◌-◌, ◌<◌, ◌≤◌, ◌^◌, Bool, true, false, cond, List, [], ◌∷◌, ◌++◌, length, take, drop, get_or, refl, sym, ap, ◌∙◌, arith, append_assoc, inl, inr}
-use Rattle.std.specs.Prelude.{◌==◌, ◌&&◌, not}
-use Rattle.std.specs.List.{list_all, suffix_len, prefix_len, after_last, count_by}
-use Rattle.std.proofs.lemmas.Bool.{cond-false, cond-true, cases_Bool}
-use Rattle.std.proofs.lemmas.List.{reverse-append, drop-append-le, drop_all, length-append, length-drop, length-take, append-nil, length_push}
+use Rattle.std.proofs.Common.{◌≡◌, ℕ, ◌+◌, ◌-◌, ◌<◌, ◌≤◌, Bool, true, false, cond, List, [], ◌∷◌, ◌++◌, length, take, drop, refl, sym, ap, ◌∙◌, arith, append_assoc, inl, inr}
+use Rattle.std.specs.Prelude.{◌&&◌, not}
+use Rattle.std.specs.List.{list_all, suffix_len, prefix_len, count_by}
+use Rattle.std.proofs.lemmas.Bool.{cases_Bool}
+use Rattle.std.proofs.lemmas.List.{reverse-append, drop-append-le, drop_all, length-drop, length-take, append-nil, length_push}
 use Rattle.std.proofs.lemmas.List.Folds.{list_all-append}
 use Rattle.std.proofs.lemmas.List.Sums.{suffix_len-le-length, count_by-le-length, sum_by-append}
 use Rattle.std.proofs.Math.Bool.{and-true}
 use Rattle.sc_tree.specs.Bytes.{is_feed, is_blank}
 use Rattle.sc_base.specs.declared.pos.Pos.{Pos}
-use Rattle.sc_tree.specs.Places.{line_at, line_so_far, column_at, is_fresh_at, pos_at}
+use Rattle.sc_tree.specs.Places.{line_at, line_so_far, column_at, pos_at}
 use Rattle.sc_lexer.specs.declared.place.Place.{Place}
 use Rattle.sc_lexer.specs.Stepping.{place_at, stepped, passed}
 

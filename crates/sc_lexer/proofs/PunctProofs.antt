@@ -1,11 +1,10 @@
 -- Which bytes begin a punctuator, and how long one is.
-use Rattle.std.proofs.Common.{◌≡◌, ℕ, zero, suc, ◌+◌, ◌<◌, ◌≤◌, Bool, true, false, cond, List, [], ◌∷◌, length, take, drop, get_or, refl, sym, ap, ◌∙◌, arith, Option, Some, None, inl, inr, subst}
-use Rattle.std.specs.Prelude.{◌==◌, ◌&&◌, ◌||◌, nat_lt, nat_le, option_map, unwrap_or}
+use Rattle.std.proofs.Common.{◌≡◌, ℕ, ◌<◌, ◌≤◌, Bool, true, false, List, [], ◌∷◌, length, take, refl, sym, ◌∙◌, arith, Some, None, inl, inr, subst}
+use Rattle.std.specs.Prelude.{◌==◌, ◌&&◌, ◌||◌, nat_lt, nat_le}
 use Rattle.std.specs.List.{list_all, list_any}
 use Rattle.std.specs.Char.{is_ascii_digit, is_ascii_alphanumeric}
 use Rattle.std.proofs.lemmas.Bool.{and_parts, or_parts, cond-false, cond-true, cases_Bool, leb-true, ltb-true, ne_eqb, eqb-true, or_cases, agree_below_at, both_ways}
 use Rattle.sc_tree.specs.declared.token.Punct.{Punct}
-use Rattle.sc_tree.specs.declared.token.Kind.TheVariants as kind
 use Rattle.sc_tree.specs.declared.piece.Form.TheVariants as form
 use Rattle.sc_tree.specs.Bytes.{is_space, is_letter, is_word_byte}
 use Rattle.sc_tree.specs.Tables.{begins, first_fit}

@@ -1,5 +1,5 @@
 -- Steps of the loop that takes out what leaves nothing.
-use Rattle.std.proofs.Common.{◌≡◌, ℕ, suc, ◌+◌, ◌-◌, ◌<◌, ◌≤◌, List, ◌∷◌, ◌++◌, length, drop, sym, ap, ◌∙◌, arith}
+use Rattle.std.proofs.Common.{◌≡◌, ℕ, suc, ◌+◌, ◌-◌, ◌<◌, List, ◌++◌, length, drop, sym, ap, ◌∙◌, arith}
 use Rattle.sc_tree.specs.declared.token.Token.{Token}
 use Rattle.sc_tree.specs.Removal.{kept}
 use Rattle.sc_lexer.proofs.Steps.{element_at}

@@ -1,5 +1,5 @@
 -- A place as it is counted byte by byte.
-use Rattle.std.specs.Prelude.{ℕ, Bool, true, ◌+◌, ◌&&◌, List, [], ◌∷◌, if◌then◌else◌}
+use Rattle.std.specs.Prelude.{ℕ, true, ◌+◌, ◌&&◌, List, [], ◌∷◌, if◌then◌else◌}
 use Rattle.sc_tree.specs.Bytes.{is_feed, is_blank}
 use Rattle.sc_tree.specs.Places.{line_at, column_at, is_fresh_at}
 use Rattle.sc_lexer.specs.declared.place.Place.{Place}

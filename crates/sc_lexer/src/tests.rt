@@ -179,7 +179,7 @@ fn counts_of_tokens(rt: HostRuntime) -> Result<(), Fail> {
         ("const int volatile __restrict x __extension__;", 3, 1),
         ("_Alignas(8) int x;", 3, 1),
         ("int f(){a;}x;", 10, 2),
-        ("struct s{int a;}x;", 8, 1),
+        ("struct s{int a;}x;", 9, 1),
         ("{a;}b;c", 7, 3),
         ("(;)[;]{;}", 9, 1),
     ] {

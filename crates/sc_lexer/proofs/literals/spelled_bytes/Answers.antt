@@ -1,4 +1,4 @@
-use Rattle.std.proofs.Common.{ℕ, ◌-◌, arith, sym, length, drop, ◌∙◌}
+use Rattle.std.proofs.Common.{◌-◌, arith, sym, length, ◌∙◌}
 use Rattle.sc_tree.specs.Literals.{spelled_bytes}
 use Rattle.sc_lexer.proofs.LiteralProofs.{spelled_more, spelled_end, spelled_stop}
 use Rattle.sc_lexer.proofs.literals.spelled_bytes.Goals as goal

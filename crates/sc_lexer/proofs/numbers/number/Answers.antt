@@ -1,4 +1,4 @@
-use Rattle.std.proofs.Common.{◌≡◌, None, sym, ◌∙◌, get_or, refl}
+use Rattle.std.proofs.Common.{sym, ◌∙◌, get_or, refl}
 use Rattle.sc_lexer.proofs.NumberProofs.{number_stops, number_ends}
 use Rattle.sc_lexer.proofs.numbers.number.Goals as goal
 

@@ -1,4 +1,4 @@
-use Rattle.std.proofs.Common.{◌≡◌, None, sym, ap, arith, ◌∙◌, refl}
+use Rattle.std.proofs.Common.{sym, arith, ◌∙◌}
 use Rattle.sc_lexer.proofs.PieceProofs.{plain_space, plain_line, plain_word, plain_number, plain_punct, plain_none, word_text}
 use Rattle.sc_lexer.proofs.pieces.plain_piece.Goals as goal
 

@@ -1,13 +1,12 @@
-use Rattle.std.proofs.Common.{◌≡◌, Bool, Err, ℕ, List, ◌+◌, ◌-◌, arith, sym, ap, length, length-drop, drop, take, ◌∙◌, ◌++◌, refl}
+use Rattle.std.proofs.Common.{◌≡◌, Bool, Err, ◌+◌, arith, sym, ap, length, length-drop, drop, take, ◌∙◌, ◌++◌, refl}
 use Rattle.sc_base.specs.declared.pos.Pos.{Pos}
-use Rattle.sc_tree.specs.declared.token.Token.{Token}
 use Rattle.sc_tree.specs.Pieces.{piece}
-use Rattle.sc_tree.specs.Places.{pos_at, is_fresh_at}
+use Rattle.sc_tree.specs.Places.{is_fresh_at}
 use Rattle.sc_tree.specs.Cut.{token_of}
 use Rattle.sc_lexer.specs.declared.place.Place.{Place}
 use Rattle.sc_lexer.proofs.PlaceProofs.{pos_is, place_room}
 use Rattle.sc_lexer.proofs.WordProofs.{grow_more, grow_at_most}
-use Rattle.sc_lexer.proofs.ScanProofs.{so_far_start, so_far_more, so_far_ends, so_far_out, so_far_stops, past_is, token_more}
+use Rattle.sc_lexer.proofs.ScanProofs.{so_far_more, so_far_ends, so_far_out, so_far_stops, past_is, token_more}
 use Rattle.sc_lexer.proofs.scan.scan.Goals as goal
 
 pub returns-then-at-end-clause-tokens : goal.returns-then-at-end-clause-tokens

@@ -1,6 +1,6 @@
 use Rattle.std.proofs.Common.{List, ℕ, sym, ap, ◌∙◌, ◌++◌}
 use Rattle.sc_base.specs.Names.{place_of, with_text}
-use Rattle.sc_lexer.proofs.WordProofs.{word_reserved, word_named, grow_one}
+use Rattle.sc_lexer.proofs.WordProofs.{word_reserved, word_named}
 use Rattle.sc_lexer.proofs.words.word_kind.Goals as goal
 
 pub returns-in-Some-clause-kind : goal.returns-in-Some-clause-kind
