@@ -1,0 +1,5 @@
+mod ValueLemmas
+mod PlaceLemmas
+mod StoreLemmas
+mod MakeLemmas
+mod MarkLemmas

@@ -1,0 +1,21 @@
+use Rattle.std.proofs.Common.{◌≡◌, ◌<◌, ◌≤◌, length, arith}
+use Rattle.gl_store.proofs.ValueLemmas.{Grown-same, Grown-trans}
+use Rattle.gl_store.proofs.StoreLemmas.{guard_below, stored_none, stored_step, stored_whole}
+use Rattle.gl_store.proofs.stores.store_into.Goals as goal
+
+pub loop-pair-init : goal.loop-pair-init
+loop-pair-init c = record { grown = Grown-same _; so_far = stored_none _ _ _ _ _ c.requires.locations }
+
+pub and-requires-clause-b : goal.and-requires-clause-b
+and-requires-clause-b c =
+    omega (arith, guard_below c.args.at.now c.loop-pair.pair-index record { guard = record { at = 0 }; target = 0 } c.loop-pair-test.true, c.requires.at, c.loop-pair.invariant.grown.longer)
+
+pub loop-pair-preserved : goal.loop-pair-preserved
+loop-pair-preserved c = record {
+  grown = Grown-trans _ _ _ c.loop-pair.invariant.grown (Grown-trans _ _ _ c.in_ok-when.ensures.grown c.in_ok-write_where.ensures.grown);
+  so_far = stored_step _ _ _ c.args.live.at _ c.args.at.now c.loop-pair.pair-index _ _ _ _ _ c.loop-pair-test.true c.in_ok-when.ensures.grown c.in_ok-write_where.ensures.grown
+      c.in_ok-when.ensures.ok c.in_ok-write_where.ensures.ok c.loop-pair.invariant.so_far;
+}
+
+pub returns-clause-ok : goal.returns-clause-ok
+returns-clause-ok c = stored_whole _ c.args.live.at c.args.at.now c.loop-pair.pair-index _ _ _ c.loop-pair-test.false c.loop-pair.invariant.so_far

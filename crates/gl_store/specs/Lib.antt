@@ -1,0 +1,3 @@
+pub mod Concrete
+pub mod Meets
+pub mod Steps
