@@ -1,0 +1,6 @@
+pub mod TruthLemmas
+pub mod PlaceLemmas
+pub mod FollowLemmas
+pub mod WeightLemmas
+pub mod HeldLemmas
+pub mod SearchLemmas

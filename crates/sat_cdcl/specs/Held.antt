@@ -1,0 +1,23 @@
+-- The clauses of a solver as references into its region.
+
+use Rattle.std.specs.Prelude.{◌≡◌, ℕ, Bool, true, List, [], ◌∷◌, IsSome, unwrap_or}
+use Rattle.sat_base.specs.declared.literal.Lit.{Lit}
+use Rattle.sat_base.specs.Logic.{all_true}
+use Rattle.sat_pool.specs.declared.pool.Ref.{Ref}
+use Rattle.sat_pool.specs.Region.{Block, reads}
+
+-- what the references read
+abbrev pub clauses_of : List Block → List Ref → List (List Lit)
+clauses_of bs [] = []
+clauses_of bs (r ∷ rs) = unwrap_or (reads bs r.at) [] ∷ clauses_of bs rs
+
+-- each of them is live
+abbrev pub AllLive : List Block → List Ref → Type 0
+AllLive bs [] = Unit {0}
+AllLive bs (r ∷ rs) = IsSome (reads bs r.at) × AllLive bs rs
+
+-- references that read a solver's clauses: those given, and those learnt, which follow from them
+pub record IsHeld (bs : List Block) (given learnt : List Ref) : Type 0 where
+  pub given_live : AllLive bs given
+  pub learnt_live : AllLive bs learnt
+  pub entailed : (f : ℕ → Bool) → all_true f (clauses_of bs given) ≡ true → all_true f (clauses_of bs learnt) ≡ true

@@ -1,0 +1,9 @@
+pub mod Steps
+pub mod Order
+pub mod Weight
+pub mod Held
+pub mod Looks
+pub mod Decided
+pub mod Answered
+pub mod Progressed
+pub mod CdclState

@@ -1,0 +1,173 @@
+// Which variable is decided next: the one that took part in the most conflicts of late. No answer
+// rests on the order.
+
+use sat_base::OutOfMemory;
+use std::alloc::Global;
+
+/// The activities of the variables, and a heap of those that may be open. Where one is missing, the
+/// last look over all variables finds it.
+#[derive(Debug, Drop)]
+pub struct Activity {
+    score: Vec<u64>,
+    heap: Vec<usize>,
+    place: Vec<usize>,
+    step: u64,
+}
+
+/// A heap of numbers that fit into memory has no more levels than this.
+const LEVELS: u32 = 64;
+
+/// Above this score all scores and the step are halved many times.
+const HIGHEST: u64 = 1 << 60;
+
+impl Activity {
+    /// No variable. It takes no memory.
+    pub fn new(alloc: Global) -> Activity {
+        Activity {
+            score: Vec::new(alloc),
+            heap: Vec::new(alloc),
+            place: Vec::new(alloc),
+            step: 1 << 10,
+        }
+    }
+
+    /// One variable more.
+    pub fn grow(&mut self) -> Result<(), OutOfMemory> {
+        let var = self.score.len();
+        self.score.push(0)?;
+        self.place.push(usize::MAX)?;
+        self.insert(var)?;
+        Ok(())
+    }
+
+    /// Puts a variable into the heap, if it is not there.
+    pub fn insert(&mut self, var: usize) -> Result<(), OutOfMemory> {
+        if var < self.place.len() && self.place[var] >= self.heap.len() {
+            let last = self.heap.len();
+            self.heap.push(var)?;
+            self.place[var] = last;
+            self.rise(last);
+        }
+        Ok(())
+    }
+
+    /// Puts all variables into the heap.
+    pub fn refill(&mut self) -> Result<(), OutOfMemory> {
+        for var in 0..self.place.len() {
+            self.insert(var)?;
+        }
+        Ok(())
+    }
+
+    /// Takes the variable of the highest score out of the heap.
+    pub fn pop(&mut self) -> Option<usize> {
+        let last = self.heap.pop()?;
+        match self.heap.first().copied() {
+            None => {
+                self.leave(last);
+                Some(last)
+            }
+            Some(top) => {
+                self.leave(top);
+                self.set(0, last);
+                self.sink();
+                Some(top)
+            }
+        }
+    }
+
+    /// Raises the score of a variable.
+    pub fn bump(&mut self, var: usize) {
+        if var < self.score.len() && var < self.place.len() {
+            let place = self.place[var];
+            self.score[var] = self.score[var].saturating_add(self.step);
+            if self.score[var] > HIGHEST {
+                self.rescale();
+            }
+            self.rise(place);
+        }
+    }
+
+    /// Makes later rises count for more.
+    pub fn decay(&mut self) {
+        self.step = self.step.saturating_add(self.step / 16);
+        if self.step > HIGHEST {
+            self.rescale();
+        }
+    }
+
+    fn rescale(&mut self) {
+        for score in self.score.iter_mut() {
+            *score = *score >> 40;
+        }
+        self.step = (self.step >> 40) + 1;
+    }
+
+    fn leave(&mut self, var: usize) {
+        if var < self.place.len() {
+            self.place[var] = usize::MAX;
+        }
+    }
+
+    fn set(&mut self, place: usize, var: usize) {
+        if place < self.heap.len() && var < self.place.len() {
+            self.heap[place] = var;
+            self.place[var] = place;
+        }
+    }
+
+    /// The score of the variable at a place of the heap.
+    fn score_at(&self, place: usize) -> u64 {
+        match self.heap.get(place).copied() {
+            None => 0,
+            Some(var) => self.score.get(var).copied().unwrap_or(0),
+        }
+    }
+
+    fn exchange(&mut self, one: usize, other: usize) {
+        if one < self.heap.len() && other < self.heap.len() {
+            let first = self.heap[one];
+            let second = self.heap[other];
+            self.set(one, second);
+            self.set(other, first);
+        }
+    }
+
+    /// Moves what stands at a place up, while it is above what stands there.
+    fn rise(&mut self, place: usize) {
+        let mut at = place;
+        for _level in 0..LEVELS {
+            if at == 0 || at >= self.heap.len() {
+                return;
+            }
+            let above = (at - 1) / 2;
+            if self.score_at(at) <= self.score_at(above) {
+                return;
+            }
+            self.exchange(at, above);
+            at = above;
+        }
+    }
+
+    /// Moves what stands at the top down, while something below is above it.
+    fn sink(&mut self) {
+        let mut at = 0;
+        for _level in 0..LEVELS {
+            if at >= self.heap.len() / 2 {
+                return;
+            }
+            let left = 2 * at + 1;
+            let right = left + 1;
+            let best = if right < self.heap.len() && self.score_at(right) > self.score_at(left) {
+                right
+            } else {
+                left
+            };
+            if self.score_at(best) <= self.score_at(at) {
+                return;
+            }
+            self.exchange(at, best);
+            at = best;
+        }
+    }
+}

@@ -1,0 +1,115 @@
+// The clauses: those given, in the order in which they came, and those learnt. Both lie in one
+// region. Each clause that was learnt follows from those given.
+
+ghost use Rattle.std.specs.Prelude.{◌≡◌, ◌≤◌, ◌<◌, ◌++◌, ◌∷◌, [], ℕ, Some, length, slice_get, IfOk, IfSome, OnErr, MatchOption};
+ghost use Rattle.sat_cdcl.specs.Steps.{Entails};
+ghost use Rattle.sat_cdcl.specs.Held.{clauses_of, AllLive};
+
+use sat_base::{Lit, OutOfMemory};
+use sat_pool::{Pool, Ref};
+use std::alloc::Global;
+use std::marker::Model;
+
+/// The name of a clause: its place among those given, or among those learnt.
+#[derive(Clone, Copy, Debug, PartialEq, Eq)]
+pub enum ClauseId {
+    Given(usize),
+    Learnt(usize),
+}
+
+/// All clauses. Contracts see those given.
+#[derive(Debug, Drop)]
+pub struct Clauses {
+    pool: Pool,
+    given: Vec<Ref>,
+    learnt: Vec<Ref>,
+}
+
+impl Model for Clauses {
+    ghost use Rattle.std.specs.Prelude.{List};
+    ghost use Rattle.sat_base.specs.declared.literal.Lit.{Lit};
+    ghost use Rattle.sat_cdcl.specs.Held.{clauses_of, IsHeld};
+
+    ghost Value = { List (List Lit) };
+
+    ghost view = { λ c. clauses_of c.pool c.given.items };
+
+    ghost invariant = { λ c. IsHeld c.pool c.given.items c.learnt.items };
+}
+
+/// The clause of one of these references.
+fn clause_at<'a>(pool: &'a Pool, refs: &[Ref], i: usize) -> Option<&'a [Lit]>
+    requires { AllLive pool.now refs.now }
+    ensures { MatchOption result (length refs.now ≤ i) (λ c. slice_get (clauses_of pool.now refs.now) i ≡ Some c.now) }
+{
+    match ref_at(refs, i) {
+        None => None,
+        Some(r) => Some(pool.get(r)),
+    }
+}
+
+/// One of these references.
+fn ref_at(refs: &[Ref], i: usize) -> Option<Ref>
+    ensures { result ≡ slice_get refs.now i }
+{
+    refs.get(i).copied()
+}
+
+impl Clauses {
+    /// No clause. It takes no memory.
+    pub fn new(alloc: Global) -> Clauses
+        ensures { result ≡ [] }
+    {
+        Clauses {
+            pool: Pool::new(alloc),
+            given: Vec::new(alloc),
+            learnt: Vec::new(alloc),
+        }
+    }
+
+    /// The number of given clauses.
+    pub fn count(&self) -> usize
+        ensures { result ≡ length self.now }
+    {
+        self.given.len()
+    }
+
+    /// The given clause of this number.
+    pub fn given(&self, i: usize) -> Option<&[Lit]>
+        ensures { MatchOption result (length self.now ≤ i) (λ c. slice_get self.now i ≡ Some c.now) }
+    {
+        clause_at(&self.pool, self.given.as_slice(), i)
+    }
+
+    /// The clause of this name.
+    pub fn get(&self, id: ClauseId) -> Option<&[Lit]>
+        ensures { IfSome result (λ c. Entails self.now c.now) }
+    {
+        match id {
+            ClauseId::Given(i) => clause_at(&self.pool, self.given.as_slice(), i),
+            ClauseId::Learnt(i) => clause_at(&self.pool, self.learnt.as_slice(), i),
+        }
+    }
+
+    /// Adds a given clause.
+    pub fn add(&mut self, clause: &[Lit]) -> Result<ClauseId, OutOfMemory>
+        ensures ok { IfOk result (λ _. self.new ≡ self.old ++ clause.now ∷ []) }
+        ensures err { OnErr result (self.new ≡ self.old) }
+    {
+        let id = ClauseId::Given(self.given.len());
+        let r = self.pool.put(clause)?;
+        self.given.push(r)?;
+        Ok(id)
+    }
+
+    /// Adds a clause that follows from those given.
+    pub fn learn(&mut self, clause: &[Lit]) -> Result<ClauseId, OutOfMemory>
+        requires { Entails self.old clause.now }
+        ensures { self.new ≡ self.old }
+    {
+        let id = ClauseId::Learnt(self.learnt.len());
+        let r = self.pool.put(clause)?;
+        self.learnt.push(r)?;
+        Ok(id)
+    }
+}

@@ -1,0 +1,294 @@
+// Unit propagation. A literal that became false is looked up in its list of clauses: each of these
+// gets another literal to watch, or has a true one, or implies its last one, or is a conflict. What
+// a clause implies is read from the clause itself, so that no answer rests on the lists.
+
+ghost use Rattle.std.specs.Prelude.{◌≡◌, ◌≤◌, ◌<◌, true, false, ℕ, Bool, List, length, take, IfOk, IfNone, IfSome, IsTrue};
+ghost use Rattle.sat_base.specs.declared.literal.Lit.{Lit};
+ghost use Rattle.sat_base.specs.Logic.{lit_true};
+ghost use Rattle.sat_cdcl.specs.Steps.{AllTrue, Implies, Refutes};
+ghost use Rattle.sat_cdcl.specs.Weight.{Extends};
+ghost use Rattle.sat_cdcl.specs.Looks.{OthersFalse, IsClauseLook, IsLook, look_from};
+
+use crate::held::{ClauseId, Clauses};
+use crate::trail::{Put, Step, Trail};
+use crate::watch::{Pair, Watch, Watches};
+use sat_base::{Lit, OutOfMemory};
+
+/// What a clause says under the trail.
+#[derive(Clone, Copy, Debug)]
+pub enum Look {
+    /// Nothing, or it is satisfied.
+    Keep,
+    /// This literal of it is not false.
+    Move(Lit),
+    /// All literals but this one are false.
+    Forced(Lit),
+    /// All literals are false.
+    Conflict,
+}
+
+/// Whether a literal is this other one, or false by the first k steps.
+fn is_other_or_false(trail: &Trail, k: usize, lit: Lit, other: Lit) -> bool
+    requires { k ≤ length trail.now.steps }
+    ensures { IsTrue result → (f : ℕ → Bool) → AllTrue f (take k trail.now.steps)
+        → lit_true f other ≡ false → lit_true f lit ≡ false }
+{
+    if lit == other {
+        true
+    } else {
+        trail.is_false_before(k, lit)
+    }
+}
+
+/// A literal of the clause that is neither this one nor false by the first k steps.
+pub fn open_beside(trail: &Trail, clause: &[Lit], k: usize, other: Lit) -> Option<Lit>
+    requires { k ≤ length trail.now.steps }
+    ensures { IfNone result (OthersFalse (take k trail.now.steps) clause.now other) }
+{
+    for lit in clause {
+        if !is_other_or_false(trail, k, *lit, other) {
+            return Some(*lit);
+        }
+    }
+    None
+}
+
+/// What a clause says, where this literal of it, if any, is open, and where its other one may be
+/// false.
+fn look_from(open_one: Option<Lit>, is_false: bool, other: Lit) -> Look
+    ensures { result ≡ look_from open_one is_false other }
+{
+    match open_one {
+        Some(lit) => Look::Move(lit),
+        None if is_false => Look::Conflict,
+        None => Look::Forced(other),
+    }
+}
+
+/// What a clause says, where this is the literal that may be its last.
+fn examine(trail: &Trail, clause: &[Lit], other: Lit) -> Look
+    ensures { IsClauseLook trail.now.steps clause.now result }
+{
+    let len = trail.len();
+    let open_one = open_beside(trail, clause, len, other);
+    let is_false = trail.is_false_before(len, other);
+    look_from(open_one, is_false, other)
+}
+
+/// What the clause of this name says, where this is the literal that may be its last.
+fn look_at(trail: &Trail, clauses: &Clauses, id: ClauseId, other: Lit) -> Look
+    ensures { IsLook clauses.now trail.now.steps result }
+{
+    match clauses.get(id) {
+        None => Look::Keep,
+        Some(clause) => examine(trail, clause, other),
+    }
+}
+
+/// Looks at a clause of which a watched literal became false.
+fn visit(trail: &Trail, clauses: &Clauses, watches: &mut Watches, gone: Lit, watch: Watch) -> Look
+    ensures { IsLook clauses.now trail.now.steps result }
+{
+    if trail.is_true(watch.blocker) {
+        return Look::Keep;
+    }
+    let other = match watches.pair(watch.clause) {
+        None => watch.blocker,
+        Some(pair) if pair.first == gone => pair.second,
+        Some(pair) => pair.first,
+    };
+    if trail.is_true(other) {
+        return Look::Keep;
+    }
+    let look = look_at(trail, clauses, watch.clause, other);
+    if let Look::Move(lit) = look {
+        watches.set_pair(
+            watch.clause,
+            Pair {
+                first: other,
+                second: lit,
+            },
+        );
+    }
+    look
+}
+
+/// Puts a literal that follows, if its variable has no value.
+fn imply(trail: &mut Trail, lit: Lit, reason: ClauseId)
+    ensures { (clauses : List (List Lit)) → Implies clauses trail.old.steps lit → Extends clauses trail.old trail.new }
+{
+    let step = Step {
+        lit,
+        implied: true,
+        reason: Some(reason),
+    };
+    let len = trail.len();
+    trail.put(len, step);
+}
+
+/// Looks at entry i of a list. It leaves the list where its clause gets another literal to watch,
+/// and else i becomes the next one.
+#[tactic(auto, using(crate::proofs::FollowLemmas::extends_refl))]
+fn visit_entry(
+    trail: &mut Trail,
+    clauses: &Clauses,
+    watches: &mut Watches,
+    list: &mut Vec<Watch>,
+    i: &mut usize,
+    gone: Lit,
+) -> Result<Option<ClauseId>, OutOfMemory>
+    ensures { IfOk result (λ conflict. Extends clauses.now trail.old trail.new
+        × IfSome conflict (λ _. Refutes clauses.now trail.new.steps)) }
+{
+    let watch = match list.get(*i).copied() {
+        None => return Ok(None),
+        Some(watch) => watch,
+    };
+    match visit(trail, clauses, watches, gone, watch) {
+        Look::Keep => {
+            *i = next(*i);
+            Ok(None)
+        }
+        Look::Move(lit) => {
+            watches.push(lit, watch)?;
+            leave(list, *i);
+            Ok(None)
+        }
+        Look::Forced(lit) => {
+            imply(trail, lit, watch.clause);
+            *i = next(*i);
+            Ok(None)
+        }
+        Look::Conflict => Ok(Some(watch.clause)),
+    }
+}
+
+/// Goes over the clauses that watch a literal which became false.
+fn visit_list(
+    trail: &mut Trail,
+    clauses: &Clauses,
+    watches: &mut Watches,
+    list: &mut Vec<Watch>,
+    gone: Lit,
+) -> Result<Option<ClauseId>, OutOfMemory>
+    ensures { IfOk result (λ conflict. Extends clauses.now trail.old trail.new
+        × IfSome conflict (λ _. Refutes clauses.now trail.new.steps)) }
+{
+    let mut i = 0;
+    for _entry in 0..list.len() {
+        let found = visit_entry(trail, clauses, watches, list, &mut i, gone)?;
+        if found.is_some() {
+            return Ok(found);
+        }
+    }
+    Ok(None)
+}
+
+fn next(i: usize) -> usize {
+    i.saturating_add(1)
+}
+
+/// Takes an entry out of a list; the last one takes its place.
+fn leave(list: &mut Vec<Watch>, i: usize) {
+    if i < list.len() {
+        let _left = list.swap_remove(i);
+    }
+}
+
+/// Looks at all clauses that watch a literal which became false.
+fn revise(
+    trail: &mut Trail,
+    clauses: &Clauses,
+    watches: &mut Watches,
+    gone: Lit,
+) -> Result<Option<ClauseId>, OutOfMemory>
+    ensures { IfOk result (λ conflict. Extends clauses.now trail.old trail.new
+        × IfSome conflict (λ _. Refutes clauses.now trail.new.steps)) }
+{
+    let mut list = watches.take(gone);
+    let outcome = visit_list(trail, clauses, watches, &mut list, gone);
+    watches.restore(gone, list);
+    outcome
+}
+
+/// Puts what the steps from this place on imply, until nothing more is implied, or a clause is a
+/// conflict.
+fn propagate(
+    trail: &mut Trail,
+    clauses: &Clauses,
+    watches: &mut Watches,
+    from: usize,
+) -> Result<Option<ClauseId>, OutOfMemory>
+    ensures { IfOk result (λ conflict. Extends clauses.now trail.old trail.new
+        × IfSome conflict (λ _. Refutes clauses.now trail.new.steps)) }
+{
+    let mut place = from;
+    loop {
+        let len = trail.len();
+        if place >= len {
+            return Ok(None);
+        }
+        let gone = trail.at(place).lit.negated();
+        let found = revise(trail, clauses, watches, gone)?;
+        if found.is_some() {
+            return Ok(found);
+        }
+        place += 1;
+    }
+}
+
+/// Puts the literal of a clause of one literal.
+fn begin_with(trail: &mut Trail, clauses: &Clauses, id: ClauseId, lit: Lit) -> Option<ClauseId>
+    ensures { Extends clauses.now trail.old trail.new
+        × IfSome result (λ _. Refutes clauses.now trail.new.steps) }
+{
+    match look_at(trail, clauses, id, lit) {
+        Look::Keep => None,
+        Look::Move(_) => None,
+        Look::Forced(last) => {
+            imply(trail, last, id);
+            None
+        }
+        Look::Conflict => Some(id),
+    }
+}
+
+/// Puts the literals of the clauses of one literal.
+fn begin(trail: &mut Trail, clauses: &Clauses, watches: &Watches) -> Option<ClauseId>
+    ensures { Extends clauses.now trail.old trail.new
+        × IfSome result (λ _. Refutes clauses.now trail.new.steps) }
+{
+    for i in 0..watches.short_count() {
+        let (id, lit) = match watches.short(i) {
+            None => return None,
+            Some(short) => short,
+        };
+        let found = begin_with(trail, clauses, id, lit);
+        if found.is_some() {
+            return found;
+        }
+    }
+    None
+}
+
+/// Puts what the steps from this place on imply, and where it is the first also what the clauses of
+/// one literal give.
+pub fn settle(
+    trail: &mut Trail,
+    clauses: &Clauses,
+    watches: &mut Watches,
+    from: usize,
+) -> Result<Option<ClauseId>, OutOfMemory>
+    ensures { IfOk result (λ conflict. Extends clauses.now trail.old trail.new
+        × IfSome conflict (λ _. Refutes clauses.now trail.new.steps)) }
+{
+    if from > 0 {
+        return propagate(trail, clauses, watches, from);
+    }
+    let begun = begin(trail, clauses, watches);
+    if begun.is_some() {
+        return Ok(begun);
+    }
+    let found = propagate(trail, clauses, watches, from)?;
+    Ok(found)
+}
