@@ -5,3 +5,4 @@ pub mod Names
 pub mod Real
 pub mod Skip
 pub mod Taken
+pub mod formers

@@ -5,6 +5,7 @@
 // went to a sink, and when a call may fail.
 #![tactic(auto)]
 
+pub mod boxed;
 pub mod fault;
 pub mod files;
 pub mod list;
@@ -17,6 +18,7 @@ pub mod rows;
 pub mod sink;
 pub mod skip;
 
+pub use boxed::Boxed;
 pub use fault::{Failed, OutOfMemory};
 pub use files::Files;
 pub use list::List;

@@ -13,3 +13,8 @@ pub mod Brackets
 pub mod Removal
 pub mod Segments
 pub mod Lexed
+pub mod Operators
+pub mod TypeWords
+pub mod Tokens
+pub mod Specifiers
+pub mod Grammar

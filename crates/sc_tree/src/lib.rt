@@ -6,9 +6,16 @@
 // vectors and strings.
 #![tactic(auto)]
 
+pub mod ctype;
+pub mod decl;
+pub mod expr;
 pub mod first;
+pub mod grammar;
+pub mod op;
 pub mod piece;
+pub mod stmt;
 pub mod token;
+pub mod unit;
 
 pub use piece::{Bracket, Form, Opening, Piece, Role, Spot, Suffix};
 pub use token::{IntToken, Kind, Punct, Reserved, StrToken, Token, Tokens};

@@ -1,0 +1,50 @@
+// A box that contracts see as the value in it, so that trees which hold themselves can be compared.
+// (A `Box` is seen with its address there.)
+
+ghost use Rattle.std.specs.Prelude.{◌≡◌, IfOk};
+
+use crate::OutOfMemory;
+use std::alloc::Global;
+use std::marker::Model;
+
+/// A value on the heap, seen by contracts as that value.
+#[derive(Debug, Drop)]
+pub struct Boxed<T> {
+    inner: Box<T>,
+}
+
+impl<T> Model for Boxed<T> {
+    ghost Value = { T };
+
+    ghost coded = { T.code };
+
+    ghost view = { λ b. b.inner.value };
+}
+
+impl<T> Boxed<T> {
+    /// The value, lent.
+    pub fn get(&self) -> &T
+        ensures { result.now ≡ self.now }
+    {
+        &self.inner
+    }
+
+    /// The value, out of its box.
+    pub fn into_inner(self) -> T
+        ensures { result ≡ self }
+    {
+        let Boxed { inner } = self;
+        Box::into_inner(inner)
+    }
+}
+
+impl<T: Drop> Boxed<T> {
+    /// The value put on the heap.
+    pub fn new(alloc: Global, value: T) -> Result<Boxed<T>, OutOfMemory>
+        ensures { IfOk result (λ b. b ≡ value) }
+    {
+        Ok(Boxed {
+            inner: Box::new(alloc, value)?,
+        })
+    }
+}

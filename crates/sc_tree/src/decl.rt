@@ -1,0 +1,47 @@
+// Declarations (C11 6.7) and initialisers (C11 6.7.9).
+
+use crate::expr::{Declarator, Expr, Specs};
+use sc_base::{List, NameId, Pos};
+
+/// A declaration: its specifiers, and its declarators in their order. In the empty declaration,
+/// a lone `;`, the specifiers name no type.
+#[derive(Debug, Drop)]
+pub struct Decl {
+    /// Its first token.
+    pub pos: Pos,
+    pub specs: Specs,
+    pub parts: List<InitDeclarator>,
+}
+
+/// A declarator with its initialiser where one is written.
+#[derive(Debug, Drop)]
+pub struct InitDeclarator {
+    pub declarator: Declarator,
+    pub init: Option<Init>,
+}
+
+/// An initialiser.
+#[cycle(init)]
+#[derive(Debug, Drop)]
+pub enum Init {
+    One(Expr),
+    /// Those in braces, in their order.
+    List(List<InitItem>),
+}
+
+/// An initialiser in braces, with its designators.
+#[cycle(init)]
+#[derive(Debug, Drop)]
+pub struct InitItem {
+    pub designators: List<Designator>,
+    pub init: Init,
+}
+
+/// What an initialiser in braces is for.
+#[derive(Debug, Drop)]
+pub enum Designator {
+    /// `. name`
+    Field(NameId),
+    /// `[ length ]`
+    Index(Expr),
+}

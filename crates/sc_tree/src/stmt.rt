@@ -1,0 +1,50 @@
+// Statements (C11 6.8).
+
+use crate::decl::Decl;
+use crate::expr::Expr;
+use sc_base::{Boxed, List, NameId, Pos};
+
+/// A statement, one variant for each row of the grammar, with the place of its keyword, its name or
+/// its first token. `case` and `default` stand among the items of a `switch` alone.
+#[derive(Debug, Drop)]
+pub enum Stmt {
+    /// `{ items }`, with the places of both braces.
+    Block(List<Stmt>, Pos, Pos),
+    /// A declaration among the items of a block.
+    Decl(Decl, Pos),
+    /// `e ;` or `;`
+    Expr(Option<Expr>, Pos),
+    /// `if ( e ) s`, with `else s` where it stands.
+    If(Expr, Boxed<Stmt>, Option<Boxed<Stmt>>, Pos),
+    /// `while ( e ) s`
+    While(Expr, Boxed<Stmt>, Pos),
+    /// `do s while ( e ) ;`
+    Do(Boxed<Stmt>, Expr, Pos),
+    /// `for ( .. ; e ; e ) s`
+    For(ForStart, Option<Expr>, Option<Expr>, Boxed<Stmt>, Pos),
+    /// `switch ( e ) { items }`, with the places of its keyword and of its closing brace.
+    Switch(Expr, List<Stmt>, Pos, Pos),
+    /// `case e :`
+    Case(Expr, Pos),
+    /// `default :`
+    Default(Pos),
+    /// `goto name ;`
+    Goto(NameId, Pos),
+    /// `break ;`
+    Break(Pos),
+    /// `continue ;`
+    Continue(Pos),
+    /// `return e ;` or `return ;`
+    Return(Option<Expr>, Pos),
+    /// `name : s`
+    Label(NameId, Boxed<Stmt>, Pos),
+}
+
+/// What stands in the first place of a `for`.
+#[derive(Debug, Drop)]
+pub enum ForStart {
+    Nothing,
+    Expr(Expr),
+    /// A declaration, with the place of its first token.
+    Decl(Decl, Pos),
+}
