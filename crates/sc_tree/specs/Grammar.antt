@@ -42,9 +42,13 @@ use Rattle.sc_tree.specs.declared.grammar.Core.TheVariants as core
 use Rattle.sc_tree.specs.declared.grammar.BodyForm.{BodyForm}
 use Rattle.sc_tree.specs.declared.grammar.BodyForm.TheVariants as form
 use Rattle.sc_tree.specs.declared.grammar.TypeWord.{TypeWord}
+use Rattle.sc_tree.specs.declared.grammar.Piece.{Piece}
+use Rattle.sc_tree.specs.declared.grammar.Piece.TheVariants as piece
+use Rattle.sc_tree.specs.declared.grammar.Gathered.{Gathered}
+use Rattle.sc_tree.specs.declared.grammar.Specified.{Specified}
 use Rattle.sc_tree.specs.Operators.{Binding, binding, binary, unary, step, assign, field}
 use Rattle.sc_tree.specs.TypeWords.{storage_word, type_word}
-use Rattle.sc_tree.specs.Specifiers.{Piece, Stored, Worded, Whole as Typing, Gathered, Specified, no_pieces, with_pieces, finished}
+use Rattle.sc_tree.specs.Specifiers.{no_pieces, with_pieces, finished}
 use Rattle.sc_tree.specs.Tokens.{token, word, punct, reserved, first_pos, at, after, is_type}
 
 -- whether the word begins a struct (false) or a union (true)
@@ -184,30 +188,30 @@ mutual
 
   pub data APiece (types : List NameId) : ℕ → Piece → List Token → Type 0 where
     -- C11 6.7.1, 6.7.4
-    a_storage_word : (w : Reserved) (x : Storage) (p : Pos) → storage_word w ≡ Some x → APiece types 0 (Stored x) (reserved w p ∷ [])
+    a_storage_word : (w : Reserved) (x : Storage) (p : Pos) → storage_word w ≡ Some x → APiece types 0 (piece.Storage x) (reserved w p ∷ [])
     -- C11 6.7.2
-    a_type_word : (w : Reserved) (x : TypeWord) (p : Pos) → type_word w ≡ Some x → APiece types 0 (Worded x) (reserved w p ∷ [])
+    a_type_word : (w : Reserved) (x : TypeWord) (p : Pos) → type_word w ≡ Some x → APiece types 0 (piece.Word x) (reserved w p ∷ [])
     -- C11 6.7.8
-    a_typedef_name : (w : NameId) (p : Pos) → is_type types w ≡ true → APiece types 0 (Typing (base.Named w) form.NoBody) (word w p ∷ [])
+    a_typedef_name : (w : NameId) (p : Pos) → is_type types w ≡ true → APiece types 0 (piece.Whole (base.Named w) form.NoBody) (word w p ∷ [])
     -- C11 6.7.2.1
     a_record : (w : Reserved) (u : Bool) (tag : NameId) (p q : Pos) → record_word w ≡ Some u
-        → APiece types 0 (Typing (base.Struct (roll-Aggregate (record { pos = q; union = u; tag = Some tag; body = None }))) form.NoBody)
+        → APiece types 0 (piece.Whole (base.Struct (roll-Aggregate (record { pos = q; union = u; tag = Some tag; body = None }))) form.NoBody)
             (reserved w p ∷ word tag q ∷ [])
     a_record_body : {h : ℕ} {ms : List Member} {s : List Token} (w : Reserved) (u : Bool) (p q o : Pos) → record_word w ≡ Some u → Members types h ms s
-        → APiece types (suc h) (Typing (base.Struct (roll-Aggregate (record { pos = p; union = u; tag = None; body = Some ms }))) form.Untagged)
+        → APiece types (suc h) (piece.Whole (base.Struct (roll-Aggregate (record { pos = p; union = u; tag = None; body = Some ms }))) form.Untagged)
             (reserved w p ∷ punct sign.LeftBrace q ∷ (s ++ punct sign.RightBrace o ∷ []))
     a_record_whole : {h : ℕ} {ms : List Member} {s : List Token} (w : Reserved) (u : Bool) (tag : NameId) (p q o v : Pos) → record_word w ≡ Some u → Members types h ms s
-        → APiece types (suc h) (Typing (base.Struct (roll-Aggregate (record { pos = q; union = u; tag = Some tag; body = Some ms }))) form.WithBody)
+        → APiece types (suc h) (piece.Whole (base.Struct (roll-Aggregate (record { pos = q; union = u; tag = Some tag; body = Some ms }))) form.WithBody)
             (reserved w p ∷ word tag q ∷ punct sign.LeftBrace o ∷ (s ++ punct sign.RightBrace v ∷ []))
     -- C11 6.7.2.2
     an_enum : (tag : NameId) (p q : Pos)
-        → APiece types 0 (Typing (base.Enum (roll-EnumSpec (record { pos = q; tag = Some tag; body = None }))) form.NoBody)
+        → APiece types 0 (piece.Whole (base.Enum (roll-EnumSpec (record { pos = q; tag = Some tag; body = None }))) form.NoBody)
             (reserved key.Enum p ∷ word tag q ∷ [])
     an_enum_body : {h : ℕ} {xs : List Enumerator} {s : List Token} (p q o : Pos) → Enumerators types h xs s
-        → APiece types (suc h) (Typing (base.Enum (roll-EnumSpec (record { pos = p; tag = None; body = Some xs }))) form.WithBody)
+        → APiece types (suc h) (piece.Whole (base.Enum (roll-EnumSpec (record { pos = p; tag = None; body = Some xs }))) form.WithBody)
             (reserved key.Enum p ∷ punct sign.LeftBrace q ∷ (s ++ punct sign.RightBrace o ∷ []))
     an_enum_whole : {h : ℕ} {xs : List Enumerator} {s : List Token} (tag : NameId) (p q o v : Pos) → Enumerators types h xs s
-        → APiece types (suc h) (Typing (base.Enum (roll-EnumSpec (record { pos = q; tag = Some tag; body = Some xs }))) form.WithBody)
+        → APiece types (suc h) (piece.Whole (base.Enum (roll-EnumSpec (record { pos = q; tag = Some tag; body = Some xs }))) form.WithBody)
             (reserved key.Enum p ∷ word tag q ∷ punct sign.LeftBrace o ∷ (s ++ punct sign.RightBrace v ∷ []))
 
   -- The lines between the braces of a struct or union; there may be none.

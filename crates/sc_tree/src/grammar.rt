@@ -2,7 +2,8 @@
 // must name, what it declares, and the type words that specifiers gather. `specs/Grammar.antt`
 // defines with them which tokens spell which tree.
 
-use sc_base::NameId;
+use crate::expr::{Base, Specs, Storage};
+use sc_base::{List, NameId};
 
 /// The levels of expressions (C11 6.5), from strong to weak. Each takes in the stronger ones.
 #[derive(Clone, Copy, Debug, PartialEq, Eq)]
@@ -109,4 +110,36 @@ pub struct TypeWords {
     pub length: Length,
     /// `int` is there.
     pub int: bool,
+}
+
+/// A piece of specifiers (C11 6.7).
+#[derive(Debug, Drop)]
+pub enum Piece {
+    Storage(Storage),
+    Word(TypeWord),
+    /// A type by itself: a `struct`, a `union`, an `enum` or a typedef name.
+    Whole(Base, BodyForm),
+}
+
+/// The type that the pieces of specifiers make so far.
+#[derive(Debug, Drop)]
+pub enum SoFar {
+    Untyped,
+    Words(TypeWords),
+    Typed(Base, BodyForm),
+}
+
+/// The pieces of specifiers so far: the storage words in their order, and the type.
+#[derive(Debug, Drop)]
+pub struct Gathered {
+    pub storage: List<Storage>,
+    pub so_far: SoFar,
+}
+
+/// Specifiers that name a type.
+#[derive(Debug, Drop)]
+pub struct Specified {
+    pub specs: Specs,
+    /// Which body they have.
+    pub form: BodyForm,
 }
