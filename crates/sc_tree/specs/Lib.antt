@@ -18,3 +18,4 @@ pub mod TypeWords
 pub mod Tokens
 pub mod Specifiers
 pub mod Grammar
+pub mod Trees

@@ -1,0 +1,4 @@
+pub mod Front
+pub mod Read
+pub mod Reading
+pub mod Laws
