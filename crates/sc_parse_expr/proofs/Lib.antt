@@ -1,0 +1,3 @@
+pub mod Tools
+pub mod SoundLists
+pub mod SoundExpr
