@@ -142,6 +142,11 @@ module _ (types : List NameId) (limit below : ℕ) (inner : Wanted → Parse Phr
   made level ts t u h rest x is split spelled prefixed = node_is (λ (y : Read Operand). Took types limit level ts y) limit (operand t u) h rest x is
       (λ low. record { first = _; others = _; split = split; spelled = spelled; prefixed = prefixed; low = low })
 
+  -- one of a level that an assignment may not stand behind
+  made_loose : (level : Level) (ts : List Token) (t : Expr) (h : ℕ) (rest : List Token) (x : Read Operand) → node limit (operand t false) h rest ≡ Some x → {first : Token} {others : List Token}
+      → Splits ts (first ∷ others) rest → Spells types level (suc h) t (first ∷ others) → Took types limit level ts x
+  made_loose level ts t h rest x is split spelled = made level ts t false h rest x is split spelled (λ u. absurd cc)
+
   pub head_took : (n : Naming) (ts : List Token) (x : Read Headed) → r.inner_head types limit inner n ts ≡ Some x → TookHead types n ts x
   unfolding r.inner_head r.headed
   head_took n ts x is =
@@ -290,3 +295,208 @@ module _ (types : List NameId) (limit below : ℕ) (inner : Wanted → Parse Phr
   postfix_took ts x is =
       let a = bind_some (r.primary types limit inner ts) (r.suffixes types limit inner limit (first_pos ts)) x is in
       suffixes_took limit ts a.value x (weaker Primary Postfix (λ h t s p. a_primary p) (primary_took ts a.value a.is)) a.gives
+
+  -- ---- operators before their operand
+
+  applied_took : (op : UnaryOp) (ts : List Token) (x : Read Operand) → unary_at (front ts) ≡ Some op → r.applied types limit inner op ts ≡ Some x → Took types limit Prefix ts x
+  unfolding r.applied
+  applied_took op ts x there is =
+      let o = unary_is ts op there in
+      let a = bind_some (r.inner_expr types limit inner Cast (behind ts)) _ x is in
+      let w = parts.expr Cast (behind ts) a.value a.is in
+      let spelled = a_unary o.sign op (first_pos ts) o.row w.spelled in
+      made Prefix ts (e.Unary op a.value.it.tree (at (first_pos ts))) true a.value.height a.value.rest x a.gives (glue o.there (record { is = w.split })) spelled (λ u. spelled)
+
+  stepped_first_took : (by : Step) (ts : List Token) (x : Read Operand) → step_at (front ts) ≡ Some by → r.stepped_first types limit inner by ts ≡ Some x → Took types limit Prefix ts x
+  unfolding r.stepped_first
+  stepped_first_took by ts x there is =
+      let o = step_is ts by there in
+      let a = bind_some (r.inner_expr types limit inner Prefix (behind ts)) _ x is in
+      let w = parts.expr Prefix (behind ts) a.value a.is in
+      let spelled = a_step_before o.sign by (first_pos ts) o.row w.spelled in
+      made Prefix ts (e.PreInc by a.value.it.tree (at (first_pos ts))) true a.value.height a.value.rest x a.gives (glue o.there (record { is = w.split })) spelled (λ u. spelled)
+
+  size_of_type_took : (ts : List Token) (x : Read Operand) → is_sizeof (front_reserved ts) ≡ true → is_left_paren (front (behind ts)) ≡ true → r.size_of_type types limit inner ts ≡ Some x → Took types limit Prefix ts x
+  unfolding r.size_of_type
+  size_of_type_took ts x size round is =
+      let o = front_reserved_is ts key.Sizeof (sizeof (front_reserved ts) size) in
+      let l = front_is (behind ts) sign.LeftParen (left_paren (front (behind ts)) round) in
+      let t = bind_some (r.inner_head types limit inner naming.Absent (behind (behind ts))) _ x is in
+      let c = bind_some (taking is_right_paren t.value.rest) _ x t.gives in
+      let w = head_took naming.Absent (behind (behind ts)) t.value t.is in
+      let close = taken is_right_paren sign.RightParen right_paren t.value.rest c.value c.is in
+      let spelled = a_size_of_type (first_pos ts) (first_pos (behind ts)) (first_pos t.value.rest) w.spelled in
+      made Prefix ts (e.SizeofType t.value.it.head (at (first_pos ts))) true t.value.height c.value x c.gives (glue o (glue l (glue w.split close))) spelled (λ u. spelled)
+
+  size_of_took : (ts : List Token) (x : Read Operand) → is_sizeof (front_reserved ts) ≡ true → r.size_of types limit inner ts ≡ Some x → Took types limit Prefix ts x
+  unfolding r.size_of
+  size_of_took ts x size is =
+      let o = front_reserved_is ts key.Sizeof (sizeof (front_reserved ts) size) in
+      let a = bind_some (r.inner_expr types limit inner Prefix (behind ts)) _ x is in
+      let w = parts.expr Prefix (behind ts) a.value a.is in
+      let spelled = a_size (first_pos ts) w.spelled in
+      made Prefix ts (e.SizeofExpr a.value.it.tree (at (first_pos ts))) true a.value.height a.value.rest x a.gives (glue o (record { is = w.split })) spelled (λ u. spelled)
+
+  sized_took : (ts : List Token) (x : Read Operand) → is_sizeof (front_reserved ts) ≡ true → r.sized types limit inner ts ≡ Some x → Took types limit Prefix ts x
+  unfolding r.sized
+  sized_took ts x size is = ⊎_elim
+      (λ t. size_of_type_took ts x size (and_parts (is_left_paren (front (behind ts))) (begins_type types (behind (behind ts))) t.0).0 t.1)
+      (λ t. size_of_took ts x size t.1)
+      (if_is (is_left_paren (front (behind ts)) && begins_type types (behind (behind ts))) (r.size_of_type types limit inner ts) (r.size_of types limit inner ts) (Some x) is)
+
+  prefix_by_took : (op : Option UnaryOp) (by : Option Step) (size : Bool) (ts : List Token) (x : Read Operand) → unary_at (front ts) ≡ op → step_at (front ts) ≡ by → is_sizeof (front_reserved ts) ≡ size
+      → r.prefix_by types limit inner op by size ts ≡ Some x → Took types limit Prefix ts x
+  unfolding r.prefix_by
+  prefix_by_took (Some op) by size ts x a b c is = applied_took op ts x a is
+  prefix_by_took None (Some by) size ts x a b c is = stepped_first_took by ts x b is
+  prefix_by_took None None true ts x a b c is = sized_took ts x c is
+  prefix_by_took None None false ts x a b c is = weaker Postfix Prefix (λ h t s p. a_postfix p) (postfix_took ts x is)
+
+  prefix_took : (ts : List Token) (x : Read Operand) → r.prefix types limit inner ts ≡ Some x → Took types limit Prefix ts x
+  unfolding r.prefix
+  prefix_took ts x is = prefix_by_took (unary_at (front ts)) (step_at (front ts)) (is_sizeof (front_reserved ts)) ts x refl refl refl is
+
+  -- ---- casts
+
+  cast_took : (ts : List Token) (x : Read Operand) → is_left_paren (front ts) ≡ true → r.cast types limit inner ts ≡ Some x → Took types limit Cast ts x
+  unfolding r.cast
+  cast_took ts x round is =
+      let l = front_is ts sign.LeftParen (left_paren (front ts) round) in
+      let t = bind_some (r.inner_head types limit inner naming.Absent (behind ts)) _ x is in
+      let c = bind_some (taking is_right_paren t.value.rest) _ x t.gives in
+      let a = bind_some (r.inner_expr types limit inner Cast c.value) _ x c.gives in
+      let w = head_took naming.Absent (behind ts) t.value t.is in
+      let v = parts.expr Cast c.value a.value a.is in
+      let close = taken is_right_paren sign.RightParen right_paren t.value.rest c.value c.is in
+      made_loose Cast ts (e.Cast t.value.it.head a.value.it.tree (at (first_pos ts))) (max t.value.height a.value.height) a.value.rest x a.gives
+        (glue l (glue w.split (glue close (record { is = v.split })))) (a_cast (first_pos ts) (first_pos t.value.rest) w.spelled v.spelled)
+
+  casts_took : (ts : List Token) (x : Read Operand) → r.casts types limit inner ts ≡ Some x → Took types limit Cast ts x
+  unfolding r.casts
+  casts_took ts x is = ⊎_elim
+      (λ t. cast_took ts x (and_parts (is_left_paren (front ts)) (begins_type types (behind ts)) t.0).0 t.1)
+      (λ t. weaker Prefix Cast (λ h t s p. a_prefix p) (prefix_took ts x t.1))
+      (if_is (is_left_paren (front ts) && begins_type types (behind ts)) (r.cast types limit inner ts) (r.prefix types limit inner ts) (Some x) is)
+
+  -- ---- operators between operands
+
+  combined_took : (l : ℕ) (op : BinaryOp) (ts : List Token) (a : Read Operand) → Took types limit (Operators (suc l)) ts a → binary_at (suc l) (front a.rest) ≡ Some op
+      → (x : Read Operand) → r.combined types limit inner l (first_pos ts) op a ≡ Some x → Took types limit (Operators (suc l)) ts x
+  unfolding r.combined
+  combined_took l op ts a t there x is =
+      let o = binary_is (suc l) a.rest op there in
+      let b = bind_some (r.inner_expr types limit inner (Operators l) (behind a.rest)) _ x is in
+      let w = parts.expr (Operators l) (behind a.rest) b.value b.is in
+      made_loose (Operators (suc l)) ts (e.Binary op a.it.tree b.value.it.tree (place (first_pos ts) (first_pos a.rest))) (max a.height b.value.height) b.value.rest x b.gives
+        (glue t.split (glue o.there (record { is = w.split })))
+        (moved (λ p. e.Binary op a.it.tree b.value.it.tree (place p (first_pos a.rest))) (first_is t.split) (a_binary o.sign op (first_pos a.rest) o.row t.spelled w.spelled))
+
+  chained_took : (go : Read Operand → Option (Read Operand)) (l : ℕ) (ts : List Token) → ((b y : Read Operand) → Took types limit (Operators (suc l)) ts b → go b ≡ Some y → Took types limit (Operators (suc l)) ts y)
+      → (a : Read Operand) → Took types limit (Operators (suc l)) ts a → (o : Option BinaryOp) → binary_at (suc l) (front a.rest) ≡ o → (x : Read Operand) → r.chained types limit inner go l (first_pos ts) o a ≡ Some x
+      → Took types limit (Operators (suc l)) ts x
+  unfolding r.chained
+  chained_took go l ts ih a t (Some op) there x is = let b = bind_some (r.combined types limit inner l (first_pos ts) op a) go x is in ih b.value x (combined_took l op ts a t there b.value b.is) b.gives
+  chained_took go l ts ih a t None there x is = given (λ (y : Read Operand). Took types limit (Operators (suc l)) ts y) a x is t
+
+  chain_took : (n l : ℕ) (ts : List Token) (a x : Read Operand) → Took types limit (Operators (suc l)) ts a → r.chain types limit inner n l (first_pos ts) a ≡ Some x → Took types limit (Operators (suc l)) ts x
+  unfolding r.chain
+  chain_took zero l ts a x t is = chained_took (λ y. None) l ts (λ b y u bad. absurd cc) a t (binary_at (suc l) (front a.rest)) refl x is
+  chain_took (suc n) l ts a x t is = chained_took (λ y. r.chain types limit inner n l (first_pos ts) y) l ts (λ b y u more_is. chain_took n l ts b y u more_is) a t (binary_at (suc l) (front a.rest)) refl x is
+
+  operators_took : (l : ℕ) (ts : List Token) (x : Read Operand) → r.operators types limit inner l ts ≡ Some x → Took types limit (Operators l) ts x
+  unfolding r.operators
+  operators_took zero ts x is = weaker Cast (Operators 0) (λ h t s p. an_operand p) (casts_took ts x is)
+  operators_took (suc l) ts x is =
+      let a = bind_some (r.operators types limit inner l ts) (r.chain types limit inner limit l (first_pos ts)) x is in
+      chain_took limit l ts a.value x (weaker (Operators l) (Operators (suc l)) (λ h t s p. stronger p) (operators_took l ts a.value a.is)) a.gives
+
+  -- ---- choice, assignment, comma
+
+  chosen_took : (ts : List Token) (a : Read Operand) → Took types limit (Operators 10) ts a → is_question (front a.rest) ≡ true → (x : Read Operand) → r.chosen types limit inner (first_pos ts) a ≡ Some x → Took types limit Choice ts x
+  unfolding r.chosen
+  chosen_took ts a t there x is =
+      let o = front_is a.rest sign.Question (question (front a.rest) there) in
+      let b = bind_some (r.inner_expr types limit inner Whole (behind a.rest)) _ x is in
+      let c = bind_some (taking is_colon b.value.rest) _ x b.gives in
+      let d = bind_some (r.inner_expr types limit inner Choice c.value) _ x c.gives in
+      let w = parts.expr Whole (behind a.rest) b.value b.is in
+      let v = parts.expr Choice c.value d.value d.is in
+      let between = taken is_colon sign.Colon colon b.value.rest c.value c.is in
+      made_loose Choice ts (e.Cond a.it.tree b.value.it.tree d.value.it.tree (place (first_pos ts) (first_pos a.rest))) (max a.height (max b.value.height d.value.height)) d.value.rest x d.gives
+        (glue t.split (glue o (glue (record { is = w.split }) (glue between (record { is = v.split })))))
+        (moved (λ p. e.Cond a.it.tree b.value.it.tree d.value.it.tree (place p (first_pos a.rest))) (first_is t.split) (a_choice (first_pos a.rest) (first_pos b.value.rest) t.spelled w.spelled v.spelled))
+
+  choosing_took : (ts : List Token) (a : Read Operand) → Took types limit (Operators 10) ts a → (x : Read Operand) → r.choosing types limit inner (first_pos ts) a ≡ Some x → Took types limit Choice ts x
+  unfolding r.choosing
+  choosing_took ts a t x is = ⊎_elim
+      (λ y. chosen_took ts a t y.0 x y.1)
+      (λ y. given (λ (z : Read Operand). Took types limit Choice ts z) a x y.1 (weaker (Operators 10) Choice (λ h t s p. no_choice p) t))
+      (if_is (is_question (front a.rest)) (r.chosen types limit inner (first_pos ts) a) (Some a) (Some x) is)
+
+  choice_took : (ts : List Token) (x : Read Operand) → r.choice types limit inner ts ≡ Some x → Took types limit Choice ts x
+  unfolding r.choice
+  choice_took ts x is =
+      let a = bind_some (r.operators types limit inner 10 ts) (r.choosing types limit inner (first_pos ts)) x is in
+      choosing_took ts a.value (operators_took 10 ts a.value a.is) x a.gives
+
+  assigned_took : (op : AssignOp) (ts : List Token) (a : Read Operand) → Took types limit Choice ts a → a.it.unary ≡ true → assign_at (front a.rest) ≡ Some op
+      → (x : Read Operand) → r.assigned types limit inner (first_pos ts) op a ≡ Some x → Took types limit Assignment ts x
+  unfolding r.assigned
+  assigned_took op ts a t unary there x is =
+      let o = assign_is a.rest op there in
+      let b = bind_some (r.inner_expr types limit inner Assignment (behind a.rest)) _ x is in
+      let w = parts.expr Assignment (behind a.rest) b.value b.is in
+      made_loose Assignment ts (e.Assign op a.it.tree b.value.it.tree (place (first_pos ts) (first_pos a.rest))) (max a.height b.value.height) b.value.rest x b.gives
+        (glue t.split (glue o.there (record { is = w.split })))
+        (moved (λ p. e.Assign op a.it.tree b.value.it.tree (place p (first_pos a.rest))) (first_is t.split) (an_assignment o.sign op (first_pos a.rest) o.row (t.prefixed unary) w.spelled))
+
+  assigning_took : (ts : List Token) (a : Read Operand) → Took types limit Choice ts a → (u : Bool) → a.it.unary ≡ u → (o : Option AssignOp) → assign_at (front a.rest) ≡ o
+      → (x : Read Operand) → r.assigning types limit inner (first_pos ts) u o a ≡ Some x → Took types limit Assignment ts x
+  unfolding r.assigning
+  assigning_took ts a t true u (Some op) there x is = assigned_took op ts a t u there x is
+  assigning_took ts a t true u None there x is = given (λ (z : Read Operand). Took types limit Assignment ts z) a x is (weaker Choice Assignment (λ h t s p. no_assignment p) t)
+  assigning_took ts a t false u o there x is = given (λ (z : Read Operand). Took types limit Assignment ts z) a x is (weaker Choice Assignment (λ h t s p. no_assignment p) t)
+
+  assignment_took : (ts : List Token) (x : Read Operand) → r.assignment types limit inner ts ≡ Some x → Took types limit Assignment ts x
+  unfolding r.assignment
+  assignment_took ts x is =
+      let a = bind_some (r.choice types limit inner ts) (λ y. r.assigning types limit inner (first_pos ts) y.it.unary (assign_at (front y.rest)) y) x is in
+      assigning_took ts a.value (choice_took ts a.value a.is) a.value.it.unary refl (assign_at (front a.value.rest)) refl x a.gives
+
+  sequenced_took : (ts : List Token) (a : Read Operand) → Took types limit Whole ts a → is_comma (front a.rest) ≡ true → (x : Read Operand) → r.sequenced types limit inner (first_pos ts) a ≡ Some x → Took types limit Whole ts x
+  unfolding r.sequenced
+  sequenced_took ts a t there x is =
+      let o = front_is a.rest sign.Comma (comma (front a.rest) there) in
+      let b = bind_some (r.inner_expr types limit inner Assignment (behind a.rest)) _ x is in
+      let w = parts.expr Assignment (behind a.rest) b.value b.is in
+      made_loose Whole ts (e.Comma a.it.tree b.value.it.tree (place (first_pos ts) (first_pos a.rest))) (max a.height b.value.height) b.value.rest x b.gives
+        (glue t.split (glue o (record { is = w.split })))
+        (moved (λ p. e.Comma a.it.tree b.value.it.tree (place p (first_pos a.rest))) (first_is t.split) (a_comma (first_pos a.rest) t.spelled w.spelled))
+
+  sequencing_took : (go : Read Operand → Option (Read Operand)) (ts : List Token) → ((b y : Read Operand) → Took types limit Whole ts b → go b ≡ Some y → Took types limit Whole ts y)
+      → (a : Read Operand) → Took types limit Whole ts a → (c : Bool) → is_comma (front a.rest) ≡ c → (x : Read Operand) → r.sequencing types limit inner go (first_pos ts) c a ≡ Some x → Took types limit Whole ts x
+  unfolding r.sequencing
+  sequencing_took go ts ih a t true there x is = let b = bind_some (r.sequenced types limit inner (first_pos ts) a) go x is in ih b.value x (sequenced_took ts a t there b.value b.is) b.gives
+  sequencing_took go ts ih a t false there x is = given (λ (y : Read Operand). Took types limit Whole ts y) a x is t
+
+  sequence_took : (n : ℕ) (ts : List Token) (a x : Read Operand) → Took types limit Whole ts a → r.sequence types limit inner n (first_pos ts) a ≡ Some x → Took types limit Whole ts x
+  unfolding r.sequence
+  sequence_took zero ts a x t is = sequencing_took (λ y. None) ts (λ b y u bad. absurd cc) a t (is_comma (front a.rest)) refl x is
+  sequence_took (suc n) ts a x t is = sequencing_took (λ y. r.sequence types limit inner n (first_pos ts) y) ts (λ b y u more_is. sequence_took n ts b y u more_is) a t (is_comma (front a.rest)) refl x is
+
+  whole_took : (ts : List Token) (x : Read Operand) → r.whole types limit inner ts ≡ Some x → Took types limit Whole ts x
+  unfolding r.whole
+  whole_took ts x is =
+      let a = bind_some (r.assignment types limit inner ts) (r.sequence types limit inner limit (first_pos ts)) x is in
+      sequence_took limit ts a.value x (weaker Assignment Whole (λ h t s p. no_comma p) (assignment_took ts a.value a.is)) a.gives
+
+  pub at_level_took : (level : Level) (ts : List Token) (x : Read Operand) → r.at_level types limit inner level ts ≡ Some x → Took types limit level ts x
+  unfolding r.at_level
+  at_level_took Primary ts x is = primary_took ts x is
+  at_level_took Postfix ts x is = postfix_took ts x is
+  at_level_took Prefix ts x is = prefix_took ts x is
+  at_level_took Cast ts x is = casts_took ts x is
+  at_level_took (Operators l) ts x is = operators_took l ts x is
+  at_level_took Choice ts x is = choice_took ts x is
+  at_level_took Assignment ts x is = assignment_took ts x is
+  at_level_took Whole ts x is = whole_took ts x is
