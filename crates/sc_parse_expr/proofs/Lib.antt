@@ -1,3 +1,4 @@
 pub mod Tools
 pub mod SoundLists
 pub mod SoundExpr
+pub mod SoundSpecs

@@ -1,3 +1,4 @@
+use Rattle.sc_parse_expr.proofs.SoundSpecs.{Starts}
 use Rattle.sc_parse_expr.proofs.SoundExpr.{Took}
 use Rattle.sc_parse_expr.proofs.SoundLists.{commas_took, many_took}
 use Rattle.sc_parse_expr.proofs.Tools.{bind_some}
