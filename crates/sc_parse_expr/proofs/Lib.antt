@@ -2,3 +2,5 @@ pub mod Tools
 pub mod SoundLists
 pub mod SoundExpr
 pub mod SoundSpecs
+pub mod SoundDeclarator
+pub mod SoundReading
