@@ -358,18 +358,21 @@ module _ (types : List NameId) (limit below : ℕ) (inner : Wanted → Parse Phr
 
   -- ---- casts
 
+  -- a cast, from its parts
+  cast_made : (ts us vs : List Token) (t : Read Headed) (a x : Read Operand) → One ts (punct sign.LeftParen (first_pos ts)) us → TookHead types naming.Absent us t
+      → One t.rest (punct sign.RightParen (first_pos t.rest)) vs → TakesExpr types below Cast vs a
+      → node limit (operand (e.Cast t.it.head a.it.tree (at (first_pos ts))) false) (max t.height a.height) a.rest ≡ Some x → Took types limit Cast ts x
+  cast_made ts us vs t a x l w close v is = made_loose Cast ts (e.Cast t.it.head a.it.tree (at (first_pos ts))) (max t.height a.height) a.rest x is
+      (glue l (glue w.split (glue close (record { is = v.split })))) (a_cast (first_pos ts) (first_pos t.rest) w.spelled v.spelled)
+
   cast_took : (ts : List Token) (x : Read Operand) → is_left_paren (front ts) ≡ true → r.cast types limit inner ts ≡ Some x → Took types limit Cast ts x
   unfolding r.cast
   cast_took ts x round is =
-      let l = front_is ts sign.LeftParen (left_paren (front ts) round) in
       let t = bind_some (r.inner_head types limit inner naming.Absent (behind ts)) _ x is in
       let c = bind_some (taking is_right_paren t.value.rest) _ x t.gives in
       let a = bind_some (r.inner_expr types limit inner Cast c.value) _ x c.gives in
-      let w = head_took naming.Absent (behind ts) t.value t.is in
-      let v = parts.expr Cast c.value a.value a.is in
-      let close = taken is_right_paren sign.RightParen right_paren t.value.rest c.value c.is in
-      made_loose Cast ts (e.Cast t.value.it.head a.value.it.tree (at (first_pos ts))) (max t.value.height a.value.height) a.value.rest x a.gives
-        (glue l (glue w.split (glue close (record { is = v.split })))) (a_cast (first_pos ts) (first_pos t.value.rest) w.spelled v.spelled)
+      cast_made ts (behind ts) c.value t.value a.value x (front_is ts sign.LeftParen (left_paren (front ts) round)) (head_took naming.Absent (behind ts) t.value t.is)
+        (taken is_right_paren sign.RightParen right_paren t.value.rest c.value c.is) (parts.expr Cast c.value a.value a.is) a.gives
 
   casts_took : (ts : List Token) (x : Read Operand) → r.casts types limit inner ts ≡ Some x → Took types limit Cast ts x
   unfolding r.casts
@@ -412,19 +415,23 @@ module _ (types : List NameId) (limit below : ℕ) (inner : Wanted → Parse Phr
 
   -- ---- choice, assignment, comma
 
+  -- a choice, from its parts
+  choice_made : (ts us vs : List Token) (a b c x : Read Operand) → Took types limit (Operators 10) ts a → One a.rest (punct sign.Question (first_pos a.rest)) us → TakesExpr types below Whole us b
+      → One b.rest (punct sign.Colon (first_pos b.rest)) vs → TakesExpr types below Choice vs c
+      → node limit (operand (e.Cond a.it.tree b.it.tree c.it.tree (place (first_pos ts) (first_pos a.rest))) false) (max a.height (max b.height c.height)) c.rest ≡ Some x → Took types limit Choice ts x
+  choice_made ts us vs a b c x t o w between v is =
+      made_loose Choice ts (e.Cond a.it.tree b.it.tree c.it.tree (place (first_pos ts) (first_pos a.rest))) (max a.height (max b.height c.height)) c.rest x is
+        (glue t.split (glue o (glue (record { is = w.split }) (glue between (record { is = v.split })))))
+        (moved (λ p. e.Cond a.it.tree b.it.tree c.it.tree (place p (first_pos a.rest))) (first_is t.split) (a_choice (first_pos a.rest) (first_pos b.rest) t.spelled w.spelled v.spelled))
+
   chosen_took : (ts : List Token) (a : Read Operand) → Took types limit (Operators 10) ts a → is_question (front a.rest) ≡ true → (x : Read Operand) → r.chosen types limit inner (first_pos ts) a ≡ Some x → Took types limit Choice ts x
   unfolding r.chosen
   chosen_took ts a t there x is =
-      let o = front_is a.rest sign.Question (question (front a.rest) there) in
       let b = bind_some (r.inner_expr types limit inner Whole (behind a.rest)) _ x is in
       let c = bind_some (taking is_colon b.value.rest) _ x b.gives in
       let d = bind_some (r.inner_expr types limit inner Choice c.value) _ x c.gives in
-      let w = parts.expr Whole (behind a.rest) b.value b.is in
-      let v = parts.expr Choice c.value d.value d.is in
-      let between = taken is_colon sign.Colon colon b.value.rest c.value c.is in
-      made_loose Choice ts (e.Cond a.it.tree b.value.it.tree d.value.it.tree (place (first_pos ts) (first_pos a.rest))) (max a.height (max b.value.height d.value.height)) d.value.rest x d.gives
-        (glue t.split (glue o (glue (record { is = w.split }) (glue between (record { is = v.split })))))
-        (moved (λ p. e.Cond a.it.tree b.value.it.tree d.value.it.tree (place p (first_pos a.rest))) (first_is t.split) (a_choice (first_pos a.rest) (first_pos b.value.rest) t.spelled w.spelled v.spelled))
+      choice_made ts (behind a.rest) c.value a b.value d.value x t (front_is a.rest sign.Question (question (front a.rest) there)) (parts.expr Whole (behind a.rest) b.value b.is)
+        (taken is_colon sign.Colon colon b.value.rest c.value c.is) (parts.expr Choice c.value d.value d.is) d.gives
 
   choosing_took : (ts : List Token) (a : Read Operand) → Took types limit (Operators 10) ts a → (x : Read Operand) → r.choosing types limit inner (first_pos ts) a ≡ Some x → Took types limit Choice ts x
   unfolding r.choosing

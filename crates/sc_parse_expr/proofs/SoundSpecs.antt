@@ -290,22 +290,28 @@ module _ (types : List NameId) (limit below : ℕ) (inner : Wanted → Parse Phr
 
   -- ---- enums
 
+  -- an enumerator with a value, behind the `=`
+  enumerator_set_took : (ts us vs : List Token) (w : NameId) → One ts (word w (first_pos ts)) us → One us (punct sign.Assign (first_pos us)) vs → (x : Read Enumerator)
+      → (r.inner_expr types limit inner Choice vs >>= λ v. Some (read (r.enumerator_of types limit inner (first_pos ts) w (Some v.it.tree)) v.height v.rest)) ≡ Some x → Item (IsEnumerator types) ts x
+  enumerator_set_took ts us vs w o q x is =
+      let v = bind_some (r.inner_expr types limit inner Choice vs) _ x is in
+      let t = parts.expr Choice vs v.value v.is in
+      given (λ (z : Read Enumerator). Item (IsEnumerator types) ts z) _ x v.gives
+        (record { span = word w (first_pos ts) ∷ punct sign.Assign (first_pos us) ∷ t.span; split = glue o (glue q (record { is = t.split })); good = an_enumerator_set w (first_pos ts) (first_pos us) t.spelled })
+
+  named_enumerator_took : (ts : List Token) (w : NameId) → One ts (word w (first_pos ts)) (behind ts) → (x : Read Enumerator)
+      → (if is_equals (front (behind ts))
+          then (r.inner_expr types limit inner Choice (behind (behind ts)) >>= λ v. Some (read (r.enumerator_of types limit inner (first_pos ts) w (Some v.it.tree)) v.height v.rest))
+          else Some (read (r.enumerator_of types limit inner (first_pos ts) w None) 0 (behind ts))) ≡ Some x → Item (IsEnumerator types) ts x
+  named_enumerator_took ts w o x is = ⊎_elim
+      (λ y. enumerator_set_took ts (behind ts) (behind (behind ts)) w o (front_is (behind ts) sign.Assign (equals (front (behind ts)) y.0)) x y.1)
+      (λ y. given (λ (z : Read Enumerator). Item (IsEnumerator types) ts z) _ x y.1 (record { span = word w (first_pos ts) ∷ []; split = o; good = an_enumerator w (first_pos ts) }))
+      (if_is (is_equals (front (behind ts))) (r.inner_expr types limit inner Choice (behind (behind ts)) >>= λ v. Some (read (r.enumerator_of types limit inner (first_pos ts) w (Some v.it.tree)) v.height v.rest))
+        (Some (read (r.enumerator_of types limit inner (first_pos ts) w None) 0 (behind ts))) (Some x) is)
+
   enumerator_took : (ts : List Token) (x : Read Enumerator) → r.enumerator types limit inner ts ≡ Some x → Item (IsEnumerator types) ts x
   unfolding r.enumerator
-  enumerator_took ts x is =
-      let w = bind_some (front_word ts) (λ w. if is_equals (front (behind ts))
-          then (r.inner_expr types limit inner Choice (behind (behind ts)) >>= λ v. Some (read (r.enumerator_of types limit inner (first_pos ts) w (Some v.it.tree)) v.height v.rest))
-          else Some (read (r.enumerator_of types limit inner (first_pos ts) w None) 0 (behind ts))) x is in
-      let o = front_word_is ts w.value w.is in
-      ⊎_elim
-        (λ y. let q = front_is (behind ts) sign.Assign (equals (front (behind ts)) y.0) in
-            let v = bind_some (r.inner_expr types limit inner Choice (behind (behind ts))) _ x y.1 in
-            let t = parts.expr Choice (behind (behind ts)) v.value v.is in
-            given (λ (z : Read Enumerator). Item (IsEnumerator types) ts z) _ x v.gives
-              (record { span = word w.value (first_pos ts) ∷ punct sign.Assign (first_pos (behind ts)) ∷ t.span; split = glue o (glue q (record { is = t.split })); good = an_enumerator_set w.value (first_pos ts) (first_pos (behind ts)) t.spelled }))
-        (λ y. given (λ (z : Read Enumerator). Item (IsEnumerator types) ts z) _ x y.1 (record { span = word w.value (first_pos ts) ∷ []; split = o; good = an_enumerator w.value (first_pos ts) }))
-        (if_is (is_equals (front (behind ts))) (r.inner_expr types limit inner Choice (behind (behind ts)) >>= λ v. Some (read (r.enumerator_of types limit inner (first_pos ts) w.value (Some v.it.tree)) v.height v.rest))
-          (Some (read (r.enumerator_of types limit inner (first_pos ts) w.value None) 0 (behind ts))) (Some x) w.gives)
+  enumerator_took ts x is = let w = bind_some (front_word ts) _ x is in named_enumerator_took ts w.value (front_word_is ts w.value w.is) x w.gives
 
   enumerators_took : (ts : List Token) (x : Read (Listed (List Enumerator))) (rest : List Token) → commas (r.enumerator types limit inner) with_item is_right_brace (length ts) [] 0 ts ≡ Some x
       → taking is_right_brace x.rest ≡ Some rest → Braced ts rest (λ s. Enumerators types x.height x.it.items s)
