@@ -19,3 +19,5 @@ pub mod Tokens
 pub mod Specifiers
 pub mod Grammar
 pub mod Trees
+pub mod Statements
+pub mod Units

@@ -59,7 +59,7 @@ is_typedef (storage.Typedef ∷ ss) = true
 is_typedef (s ∷ ss) = is_typedef ss
 
 abbrev pub specified : List Storage → Base → BodyForm → Specified
-specified ss b f = record { specs = roll-Specs (record { storage = ss; base = b }); form = f }
+specified ss b f = record { specs = roll-Specs (record { storage = ss; base = b }); form = f; typedef = is_typedef ss }
 
 abbrev pub specified_words : List Storage → Option CType → Option Specified
 specified_words ss (Some t) = Some (specified ss (base.Words t) form.NoBody)

@@ -142,4 +142,6 @@ pub struct Specified {
     pub specs: Specs,
     /// Which body they have.
     pub form: BodyForm,
+    /// `typedef` is among the storage words.
+    pub typedef: bool,
 }
