@@ -21,3 +21,9 @@ pub fn how_phrases_begin()
     ensures specs { (types : List NameId) (h : ℕ) (f : Specified) (s : List Token) → Specifies types h f s → BeginsSpecs types s }
     ensures declarator { (types : List NameId) (n : Naming) (c : Core) (h : ℕ) (t : Declarator) (s : List Token) → may_lack n ≡ false → Declares types n c h t s → BeginsDeclarator s }
 {}
+
+/// TRIAL
+#[tactic(auto, using(crate::proofs::Inner::head_read, crate::proofs::Begins::begins_declarator))]
+pub fn trial()
+    ensures { (n : ℕ) → n ≡ n }
+{}
