@@ -1,3 +1,4 @@
 pub mod Begins
 pub mod Inner
 pub mod CompleteExpr
+pub mod CompleteDeclarator
