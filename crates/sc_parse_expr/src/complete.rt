@@ -23,7 +23,7 @@ pub fn how_phrases_begin()
 {}
 
 /// TRIAL
-#[tactic(auto, using(crate::proofs::CompleteDeclarator::read_declarator, crate::proofs::CompleteExpr::level_read))]
+#[tactic(auto, using(crate::proofs::CompleteDeclarator::read_declarator, crate::proofs::CompleteExpr::level_read, crate::proofs::CompleteSpecs::read_specs))]
 pub fn trial()
     ensures { (n : ℕ) → n ≡ n }
 {}
