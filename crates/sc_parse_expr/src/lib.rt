@@ -4,5 +4,6 @@
 // it reads exactly what `sc_tree/specs/Grammar.antt` spells. The code gives what the functions give.
 #![tactic(auto)]
 
+pub mod complete;
 pub mod found;
 pub mod sound;
