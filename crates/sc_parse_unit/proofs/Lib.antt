@@ -1,3 +1,5 @@
 pub mod Rows
 pub mod SoundInit
 pub mod SoundDecl
+pub mod SoundStmt
+pub mod SoundAll

@@ -1,18 +1,15 @@
 // The laws that what is read is spelled.
 #![tactic(auto)]
 
-ghost use Rattle.std.specs.Prelude.{ℕ, List, ◌≡◌, Some};
+ghost use Rattle.std.specs.Prelude.{ℕ, List};
 ghost use Rattle.sc_base.specs.declared.pos.NameId.{NameId};
-ghost use Rattle.sc_tree.specs.declared.token.Token.{Token};
-ghost use Rattle.sc_tree.specs.declared.decl.Init.{Init};
-ghost use Rattle.sc_tree.specs.declared.decl.Decl.{Decl};
 ghost use Rattle.sc_parse_expr.specs.Laws as lower;
-ghost use Rattle.sc_parse_expr.specs.Read.{Read};
-ghost use Rattle.sc_parse_unit.specs.Laws.{TakesInit, TakesDecl};
-ghost use Rattle.sc_parse_unit.specs.Reading.{initialiser, body_declaration};
+ghost use Rattle.sc_parse_unit.specs.Laws.{IsSound};
 
-#[tactic(auto, using(crate::proofs::SoundDecl::declaration_took))]
+/// What is read at the front of tokens as an initialiser, a declaration or a statement, the tokens up to
+/// those that are left spell, with a tree of exactly the height read, which is at most the limit. No
+/// `else` stands behind a statement that could take it.
+#[tactic(auto, using(crate::proofs::SoundAll::sound))]
 pub fn reading_is_spelled()
-    ensures { (types : List NameId) (limit : ℕ) → lower.IsSound types limit → ((ts : List Token) (i : Read Init) → initialiser types limit ts ≡ Some i → TakesInit types limit ts i)
-       → (ts : List Token) (x : Read Decl) → body_declaration types limit ts ≡ Some x → TakesDecl types limit ts x }
+    ensures { ((types : List NameId) (limit : ℕ) → lower.IsSound types limit) → (types : List NameId) (limit : ℕ) → IsSound types limit }
 {}
