@@ -1,1 +1,7 @@
 pub mod Begins
+pub mod Tools
+pub mod SoundLists
+pub mod SoundExpr
+pub mod SoundSpecs
+pub mod SoundDeclarator
+pub mod SoundReading
