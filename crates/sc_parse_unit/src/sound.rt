@@ -4,7 +4,6 @@
 ghost use Rattle.std.specs.Prelude.{◌≡◌, ℕ, List, Some};
 ghost use Rattle.sc_base.specs.declared.pos.NameId.{NameId};
 ghost use Rattle.sc_tree.specs.declared.token.Token.{Token};
-ghost use Rattle.sc_parse_expr.specs.Laws as lower;
 ghost use Rattle.sc_parse_unit.specs.Laws.{IsSound, Outlines};
 ghost use Rattle.sc_parse_unit.specs.Reading.{Outlined, outline_of};
 
@@ -13,13 +12,12 @@ ghost use Rattle.sc_parse_unit.specs.Reading.{Outlined, outline_of};
 /// `else` stands behind a statement that could take it.
 #[tactic(auto, using(crate::proofs::SoundAll::sound))]
 pub fn reading_is_spelled()
-    ensures { ((types : List NameId) (limit : ℕ) → lower.IsSound types limit) → (types : List NameId) (limit : ℕ) → IsSound types limit }
+    ensures { (types : List NameId) (limit : ℕ) → IsSound types limit }
 {}
 
 /// What a segment is read as before the body of a function, its tokens spell: a declaration, with the
 /// typedef names behind it, or the head of a function and tokens in braces.
-#[tactic(auto, using(crate::proofs::SoundOutline::outline_took))]
+#[tactic(auto, using(crate::proofs::SoundAll::outline_sound))]
 pub fn outline_is_spelled()
-    ensures { ((types : List NameId) (limit : ℕ) → lower.IsSound types limit)
-        → (types : List NameId) (ts : List Token) (o : Outlined) → outline_of types ts ≡ Some o → Outlines types ts o.it o.types o.inside }
+    ensures { (types : List NameId) (ts : List Token) (o : Outlined) → outline_of types ts ≡ Some o → Outlines types ts o.it o.types o.inside }
 {}
