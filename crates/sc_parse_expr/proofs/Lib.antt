@@ -5,3 +5,9 @@ pub mod SoundExpr
 pub mod SoundSpecs
 pub mod SoundDeclarator
 pub mod SoundReading
+pub mod Inner
+pub mod CompleteExpr
+pub mod CompleteSpecs
+pub mod CompleteDeclarator
+pub mod Completeness
+pub mod Whole
