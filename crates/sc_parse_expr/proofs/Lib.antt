@@ -1,10 +1,10 @@
+pub mod Begins
 pub mod Tools
 pub mod SoundLists
 pub mod SoundExpr
 pub mod SoundSpecs
 pub mod SoundDeclarator
 pub mod SoundReading
-pub mod Begins
 pub mod Inner
 pub mod CompleteExpr
 pub mod CompleteSpecs
