@@ -5,4 +5,5 @@
 // gives what the functions give.
 #![tactic(auto)]
 
+pub mod complete;
 pub mod found;
