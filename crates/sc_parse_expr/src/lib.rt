@@ -4,4 +4,5 @@
 // it reads exactly what `sc_tree/specs/Grammar.antt` spells. The code gives what the functions give.
 #![tactic(auto)]
 
+pub mod complete;
 pub mod found;
