@@ -34,16 +34,7 @@ use Rattle.sc_tree.specs.Statements as s
 use Rattle.sc_tree.specs.Statements.{States, Items, AnItem, ADeclaration, Initialises}
 use Rattle.sc_parse_expr.specs.Front.{punct_of, word_of, reserved_of, front, front_word, front_reserved, behind, is_left_paren, is_right_paren, is_left_bracket, is_left_brace, is_right_brace, is_comma, is_colon, is_semicolon, is_star, is_equals, is_some, is_sizeof, is_enum, is_type_word, begins_piece, begins_type}
 use Rattle.sc_parse_expr.specs.Laws.{opens_expr, BeginsExpr, BeginsSpecs, opens_declarator, BeginsDeclarator}
-use Rattle.sc_parse_expr.specs.Laws as below
 use Rattle.sc_parse_unit.specs.Reading.{is_dot, begins_designator, label_at, is_label, keyword, Keyword, NoKeyword, marker, Marker, NoMarker, is_no_designator}
-
--- ---- what is known of expressions, specifiers and declarators
-
-pub record Known (types : List NameId) : Type 0 where
-  pub begins_expr : (level : Level) (h : ℕ) (t : Expr) (s : List Token) → Spells types level h t s → BeginsExpr types s
-  pub begins_specs : (h : ℕ) (f : Specified) (s : List Token) → Specifies types h f s → BeginsSpecs types s
-  pub begins_declarator : (n : Naming) (c : Core) (h : ℕ) (t : Declarator) (s : List Token) → may_lack n ≡ false → Declares types n c h t s → BeginsDeclarator s
-  pub complete : (limit : ℕ) → below.IsComplete types limit
 
 -- ---- labels
 

@@ -1,1 +1,2 @@
 pub mod BeginsStmt
+pub mod CompleteInit
