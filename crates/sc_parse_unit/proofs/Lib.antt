@@ -1,2 +1,3 @@
 pub mod BeginsStmt
 pub mod CompleteInit
+pub mod CompleteDecl

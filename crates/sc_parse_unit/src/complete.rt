@@ -9,12 +9,13 @@ ghost use Rattle.sc_tree.specs.declared.decl.Init.{Init};
 ghost use Rattle.sc_tree.specs.declared.grammar.Level.{Level};
 ghost use Rattle.sc_tree.specs.declared.grammar.Level.TheVariants.{Assignment};
 ghost use Rattle.sc_tree.specs.Grammar.{Spells};
-ghost use Rattle.sc_tree.specs.Statements.{Initialises};
+ghost use Rattle.sc_tree.specs.Statements.{Initialises, ADeclaration};
+ghost use Rattle.sc_tree.specs.declared.decl.Decl.{Decl};
 ghost use Rattle.sc_parse_expr.specs.Front.{front, is_colon};
 ghost use Rattle.sc_parse_expr.specs.Read.{read};
 ghost use Rattle.sc_parse_expr.specs.Laws.{ends_expr};
 ghost use Rattle.sc_parse_expr.specs.Laws as below;
-ghost use Rattle.sc_parse_unit.specs.Reading.{label_at, initialiser};
+ghost use Rattle.sc_parse_unit.specs.Reading.{label_at, initialiser, body_declaration};
 
 /// No expression begins as a label does.
 #[tactic(auto, using(crate::proofs::BeginsStmt::expr_no_label))]
@@ -26,4 +27,10 @@ pub fn no_expression_is_labelled()
 pub fn inits_complete()
     ensures { (types : List NameId) → ((limit : ℕ) → below.IsComplete types limit) → (limit : ℕ) (h : ℕ) (t : Init) (s rest : List Token) → Initialises types h t s → h ≤ limit → ends_expr Assignment rest ≡ true
       → initialiser types limit (s ++ rest) ≡ Some (read t h rest) }
+{}
+
+#[tactic(auto, using(crate::proofs::CompleteDecl::declaration_read))]
+pub fn declarations_complete()
+    ensures { (types : List NameId) → ((limit : ℕ) → below.IsComplete types limit) → (limit : ℕ) (h : ℕ) (t : Decl) (s rest : List Token) → ADeclaration types h t s → h ≤ limit → 1 ≤ limit
+      → body_declaration types limit (s ++ rest) ≡ Some (read t h rest) }
 {}
