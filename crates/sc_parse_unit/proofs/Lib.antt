@@ -1,3 +1,4 @@
 pub mod BeginsStmt
 pub mod CompleteInit
 pub mod CompleteDecl
+pub mod CompleteStmt

@@ -1,7 +1,7 @@
 // Laws of the reading: what the grammar spells is read, and no tokens spell two trees.
 #![tactic(auto)]
 
-ghost use Rattle.std.specs.Prelude.{◌≡◌, ◌≤◌, ℕ, List, None, Some, true, false, ◌++◌};
+ghost use Rattle.std.specs.Prelude.{◌≡◌, ◌≤◌, ℕ, Bool, List, None, Some, true, false, ◌++◌};
 ghost use Rattle.sc_tree.specs.declared.token.Token.{Token};
 ghost use Rattle.sc_base.specs.declared.pos.NameId.{NameId};
 ghost use Rattle.sc_tree.specs.declared.expr.Expr.{Expr};
@@ -9,13 +9,14 @@ ghost use Rattle.sc_tree.specs.declared.decl.Init.{Init};
 ghost use Rattle.sc_tree.specs.declared.grammar.Level.{Level};
 ghost use Rattle.sc_tree.specs.declared.grammar.Level.TheVariants.{Assignment};
 ghost use Rattle.sc_tree.specs.Grammar.{Spells};
-ghost use Rattle.sc_tree.specs.Statements.{Initialises, ADeclaration};
+ghost use Rattle.sc_tree.specs.Statements.{Initialises, ADeclaration, States};
 ghost use Rattle.sc_tree.specs.declared.decl.Decl.{Decl};
-ghost use Rattle.sc_parse_expr.specs.Front.{front, is_colon};
+ghost use Rattle.sc_tree.specs.declared.stmt.Stmt.{Stmt};
+ghost use Rattle.sc_parse_expr.specs.Front.{front, front_reserved, is_colon};
 ghost use Rattle.sc_parse_expr.specs.Read.{read};
 ghost use Rattle.sc_parse_expr.specs.Laws.{ends_expr};
 ghost use Rattle.sc_parse_expr.specs.Laws as below;
-ghost use Rattle.sc_parse_unit.specs.Reading.{label_at, initialiser, body_declaration};
+ghost use Rattle.sc_parse_unit.specs.Reading.{label_at, initialiser, body_declaration, statement, is_else};
 
 /// No expression begins as a label does.
 #[tactic(auto, using(crate::proofs::BeginsStmt::expr_no_label))]
@@ -33,4 +34,10 @@ pub fn inits_complete()
 pub fn declarations_complete()
     ensures { (types : List NameId) → ((limit : ℕ) → below.IsComplete types limit) → (limit : ℕ) (h : ℕ) (t : Decl) (s rest : List Token) → ADeclaration types h t s → h ≤ limit → 1 ≤ limit
       → body_declaration types limit (s ++ rest) ≡ Some (read t h rest) }
+{}
+
+#[tactic(auto, using(crate::proofs::CompleteStmt::statement_read))]
+pub fn statements_complete()
+    ensures { (types : List NameId) → ((limit : ℕ) → below.IsComplete types limit) → (limit : ℕ) (b : Bool) (h : ℕ) (t : Stmt) (s rest : List Token) → States types b h t s → h ≤ limit → (b ≡ true → is_else (front_reserved rest) ≡ false)
+      → statement types limit (s ++ rest) ≡ Some (read t h rest) }
 {}
