@@ -2,3 +2,4 @@ pub mod BeginsStmt
 pub mod CompleteInit
 pub mod CompleteDecl
 pub mod CompleteStmt
+pub mod CompleteOutline
