@@ -6,3 +6,4 @@
 
 pub mod complete;
 pub mod found;
+pub mod sound;

@@ -7,3 +7,4 @@
 
 pub mod complete;
 pub mod found;
+pub mod sound;
