@@ -30,7 +30,7 @@ use Rattle.sc_tree.specs.Specifiers.{no_pieces, with_pieces, finished}
 use Rattle.sc_tree.specs.Tokens.{token, word, punct, reserved, first_pos, is_type}
 use Rattle.sc_tree.specs.Grammar as g
 use Rattle.sc_tree.specs.Grammar.{record_word, may_name, may_lack, Strings, one_string, more_strings, Spells, Arguments, Listed, Heads, a_head, Specifies, pieces, Pieces, no_piece, more_pieces, APiece, Members, AMember, Parts, APart, Enumerators, AnEnumerator, Declares, a_direct, a_pointer, Directs, Parameters, ManyHeads}
-use Rattle.sc_parse_expr.specs.Front.{punct_of, word_of, reserved_of, string_of, front, front_word, front_reserved, front_string, behind, is_left_paren, is_right_paren, is_left_bracket, is_left_brace, is_right_brace, is_comma, is_colon, is_semicolon, is_star, is_some, is_sizeof, is_enum, is_type_word, begins_piece, begins_type, unary_at, step_at}
+use Rattle.sc_parse_expr.specs.Front.{punct_of, word_of, reserved_of, string_of, front, front_word, front_reserved, front_string, behind, is_left_paren, is_right_paren, is_left_bracket, is_right_bracket, is_left_brace, is_right_brace, is_comma, is_colon, is_semicolon, is_star, is_some, is_sizeof, is_enum, is_type_word, begins_piece, begins_type, unary_at, step_at}
 use Rattle.sc_parse_expr.specs.Laws.{opens_expr, BeginsExpr, BeginsSpecs, opens_declarator, BeginsDeclarator}
 
 -- ---- tokens that begin with one that the test takes
@@ -154,6 +154,14 @@ kind_not_end types _ e = refl
 pub no_right_paren : (types : List NameId) {s : List Token} → Begins (opens_expr types) s → is_right_paren (front s) ≡ false
 no_right_paren types b = by_first (λ s. is_right_paren (front s)) false b (λ t ts e. kind_not_end types t.kind e)
 
+kind_not_bracket : (types : List NameId) (x : Kind) → opens_expr types x ≡ true → is_right_bracket (punct_of x) ≡ false
+kind_not_bracket types (k.Punct sign.RightBracket) e = absurd cc
+kind_not_bracket types (k.Punct _) e = refl
+kind_not_bracket types _ e = refl
+
+pub no_right_bracket : (types : List NameId) {s : List Token} → Begins (opens_expr types) s → is_right_bracket (front s) ≡ false
+no_right_bracket types b = by_first (λ s. is_right_bracket (front s)) false b (λ t ts e. kind_not_bracket types t.kind e)
+
 -- a postfix expression begins with no operator
 kind_not_unary : (types : List NameId) (x : Kind) → opens_postfix types x ≡ true → unary_at (punct_of x) ≡ None
 kind_not_unary types (k.Punct sign.LeftParen) e = refl
@@ -247,7 +255,7 @@ piece_begins types (g.an_enum tag p q) = begun_by types key.Enum p _ refl
 piece_begins types (g.an_enum_body p q o xs) = begun_by types key.Enum p _ refl
 piece_begins types (g.an_enum_whole tag p q o v xs) = begun_by types key.Enum p _ refl
 
-no_specs : {A : Type 0} (x : Gathered) (f : Specified) → Some no_pieces ≡ Some x → finished x ≡ Some f → A
+pub no_specs : {A : Type 0} (x : Gathered) (f : Specified) → Some no_pieces ≡ Some x → finished x ≡ Some f → A
 no_specs x f e done =
     let same : no_pieces ≡ x = cc in
     let bad : finished no_pieces ≡ Some f = subst (λ (y : Gathered). finished y ≡ Some f) (sym same) done in
@@ -293,28 +301,28 @@ opens_declared n types x = is_star (punct_of x) || opens_direct n types x
 
 -- it is empty, or begins so
 pub data MayBegin (n : Naming) (test : Kind → Bool) (s : List Token) : Type 0 where
-  empty : may_lack n ≡ true → s ≡ [] → MayBegin n test s
-  begun : Begins test s → MayBegin n test s
+  left_out : may_lack n ≡ true → s ≡ [] → MayBegin n test s
+  opened : Begins test s → MayBegin n test s
 
 then_token : {n : Naming} {test : Kind → Bool} {s : List Token} → MayBegin n test s → (x : Token) (r : List Token) → (may_lack n ≡ true → test x.kind ≡ true) → MayBegin n test (s ++ x ∷ r)
-then_token (empty lack e) x r f = begun (record { first = x; others = r; whole = ap (λ (z : List Token). z ++ x ∷ r) e; opens = f lack })
-then_token (begun b) x r f = begun (longer b _)
+then_token (left_out lack e) x r f = opened (record { first = x; others = r; whole = ap (λ (z : List Token). z ++ x ∷ r) e; opens = f lack })
+then_token (opened b) x r f = opened (longer b _)
 
 pub direct_begins : (types : List NameId) {n : Naming} {c : Core} {h : ℕ} {t : Declarator} {s : List Token} → Directs types n c h t s → MayBegin n (opens_direct n types) s
-direct_begins types (g.a_declared_name n w p e) = begun (record { first = word w p; others = []; whole = refl; opens = e })
-direct_begins types (g.no_name n e) = empty e refl
-direct_begins types (g.in_brackets p q d) = begun (record { first = punct sign.LeftParen p; others = _; whole = refl; opens = refl })
+direct_begins types (g.a_declared_name n w p e) = opened (record { first = word w p; others = []; whole = refl; opens = e })
+direct_begins types (g.no_name n e) = left_out e refl
+direct_begins types (g.in_brackets p q d) = opened (record { first = punct sign.LeftParen p; others = _; whole = refl; opens = refl })
 direct_begins types (g.an_array p q d) = then_token (direct_begins types d) _ _ (λ lack. rw lack refl)
 direct_begins types (g.an_array_of p q d x) = then_token (direct_begins types d) _ _ (λ lack. rw lack refl)
 direct_begins types (g.a_function p q d x) = then_token (direct_begins types d) _ _ (λ lack. refl)
 
 may_weaker : {n : Naming} {test other : Kind → Bool} {s : List Token} → ((x : Kind) → test x ≡ true → other x ≡ true) → MayBegin n test s → MayBegin n other s
-may_weaker f (empty lack e) = empty lack e
-may_weaker f (begun b) = begun (weaker f b)
+may_weaker f (left_out lack e) = left_out lack e
+may_weaker f (opened b) = opened (weaker f b)
 
 pub declarator_begins : (types : List NameId) {n : Naming} {c : Core} {h : ℕ} {t : Declarator} {s : List Token} → Declares types n c h t s → MayBegin n (opens_declared n types) s
 declarator_begins types (a_direct d) = may_weaker (λ x e. or_right _ _ e) (direct_begins types d)
-declarator_begins types (a_pointer p d) = begun (record { first = punct sign.Star p; others = _; whole = refl; opens = refl })
+declarator_begins types (a_pointer p d) = opened (record { first = punct sign.Star p; others = _; whole = refl; opens = refl })
 
 kind_named : (n : Naming) (types : List NameId) (x : Kind) → may_lack n ≡ false → opens_declared n types x ≡ true → opens_declarator x ≡ true
 kind_named n types (k.Word w) lack e = refl
@@ -331,8 +339,8 @@ kind_named naming.Absent types (k.Punct _) lack e = absurd cc
 kind_named n types _ lack e = absurd cc
 
 must_begin : (types : List NameId) {n : Naming} {s : List Token} → may_lack n ≡ false → MayBegin n (opens_declared n types) s → Begins opens_declarator s
-must_begin types lack (empty may e) = absurd cc
-must_begin types {n = n} lack (begun b) = weaker (λ x e. kind_named n types x lack e) b
+must_begin types lack (left_out may e) = absurd cc
+must_begin types {n = n} lack (opened b) = weaker (λ x e. kind_named n types x lack e) b
 
 pub named_begins : (types : List NameId) {n : Naming} {c : Core} {h : ℕ} {t : Declarator} {s : List Token} → may_lack n ≡ false → Declares types n c h t s → Begins opens_declarator s
 named_begins types lack d = must_begin types lack (declarator_begins types d)

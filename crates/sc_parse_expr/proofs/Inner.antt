@@ -27,7 +27,7 @@ use Rattle.sc_parse_expr.specs.Front.{punct_of, reserved_of, front, front_reserv
 use Rattle.sc_parse_expr.specs.Read.{Read, read, Parse, node, Listed, commas, listed, listing, many}
 use Rattle.sc_parse_expr.specs.Reading.{operand, declared, inner_expr, inner_specs, inner_declarator, inner_head, headed}
 use Rattle.sc_parse_expr.specs.Laws.{ends_expr, ends_specs, ends_declarator}
-use Rattle.sc_parse_expr.proofs.Begins.{Begins, by_first, longer, first_stays, MayBegin, empty, begun, opens_declared, specs_begin, declarator_begins, declarator_is_high}
+use Rattle.sc_parse_expr.proofs.Begins.{Begins, by_first, longer, first_stays, MayBegin, left_out, opened, opens_declared, specs_begin, declarator_begins, declarator_is_high}
 
 -- ---- steps
 
@@ -80,7 +80,7 @@ pub record IsInner (types : List NameId) (below : ℕ) (inner : Wanted → Parse
 
 -- ---- heads
 
-and_false : {A : Type 0} (b : Bool) → (b && false) ≡ true → A
+pub and_false : {A : Type 0} (b : Bool) → (b && false) ≡ true → A
 and_false true e = absurd cc
 and_false false e = absurd cc
 
@@ -92,8 +92,8 @@ kind_ends_specs n types (k.Word w) e = refl
 kind_ends_specs n types _ e = absurd cc
 
 may_end_specs : (types : List NameId) {n : Naming} {s : List Token} → MayBegin n (opens_declared n types) s → (rest : List Token) → ends_specs rest ≡ true → ends_specs (s ++ rest) ≡ true
-may_end_specs types (empty may e) rest ends = ap (λ (z : List Token). ends_specs (z ++ rest)) e ∙ ends
-may_end_specs types {n = n} (begun b) rest ends = by_first ends_specs true (longer b rest) (λ t ts e. kind_ends_specs n types t.kind e)
+may_end_specs types (left_out may e) rest ends = ap (λ (z : List Token). ends_specs (z ++ rest)) e ∙ ends
+may_end_specs types {n = n} (opened b) rest ends = by_first ends_specs true (longer b rest) (λ t ts e. kind_ends_specs n types t.kind e)
 
 pub declarator_ends_specs : (types : List NameId) {n : Naming} {c : Core} {h : ℕ} {t : Declarator} {s : List Token} → Declares types n c h t s → (rest : List Token) → ends_specs rest ≡ true → ends_specs (s ++ rest) ≡ true
 declarator_ends_specs types d rest ends = may_end_specs types (declarator_begins types d) rest ends

@@ -6,3 +6,8 @@ pub mod SoundExpr
 pub mod SoundSpecs
 pub mod SoundDeclarator
 pub mod SoundReading
+pub mod CompleteExpr
+pub mod CompleteSpecs
+pub mod CompleteDeclarator
+pub mod Completeness
+pub mod Whole
