@@ -9,3 +9,5 @@ pub mod SoundDecl
 pub mod SoundStmt
 pub mod SoundOutline
 pub mod SoundAll
+pub mod Completeness
+pub mod Segments

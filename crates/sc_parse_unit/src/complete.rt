@@ -1,52 +1,55 @@
-// Laws of the reading: what the grammar spells is read, and no tokens spell two trees.
+// Laws of the reading: what the grammar spells is read, no tokens spell two trees, and each segment of a
+// file fits one tree alone.
 #![tactic(auto)]
 
-ghost use Rattle.std.specs.Prelude.{◌≡◌, ◌≤◌, ℕ, Bool, List, [], None, Some, true, false, ◌++◌};
-ghost use Rattle.sc_tree.specs.declared.token.Token.{Token};
+ghost use Rattle.std.specs.Prelude.{◌≡◌, ℕ, Bool, List};
 ghost use Rattle.sc_base.specs.declared.pos.NameId.{NameId};
-ghost use Rattle.sc_tree.specs.declared.expr.Expr.{Expr};
-ghost use Rattle.sc_tree.specs.declared.decl.Init.{Init};
-ghost use Rattle.sc_tree.specs.declared.grammar.Level.{Level};
-ghost use Rattle.sc_tree.specs.declared.grammar.Level.TheVariants.{Assignment};
-ghost use Rattle.sc_tree.specs.Grammar.{Spells};
-ghost use Rattle.sc_tree.specs.Statements.{Initialises, ADeclaration, States};
+ghost use Rattle.sc_tree.specs.declared.token.Token.{Token};
 ghost use Rattle.sc_tree.specs.declared.decl.Decl.{Decl};
+ghost use Rattle.sc_tree.specs.declared.decl.Init.{Init};
 ghost use Rattle.sc_tree.specs.declared.stmt.Stmt.{Stmt};
-ghost use Rattle.sc_parse_expr.specs.Front.{front, front_reserved, is_colon};
-ghost use Rattle.sc_parse_expr.specs.Read.{read};
-ghost use Rattle.sc_parse_expr.specs.Laws.{ends_expr};
-ghost use Rattle.sc_parse_expr.specs.Laws as below;
-ghost use Rattle.sc_parse_unit.specs.Reading.{label_at, initialiser, body_declaration, statement, is_else, outlined, outline_of};
-ghost use Rattle.sc_tree.specs.Units.{IsDeclaration, IsFunction};
-ghost use Rattle.sc_tree.specs.declared.expr.Head.{Head};
-ghost use Rattle.sc_parse_unit.specs.declared.found.Outline.TheVariants as outline;
+ghost use Rattle.sc_tree.specs.declared.unit.Segment.{Segment};
+ghost use Rattle.sc_tree.specs.Statements.{Initialises, ADeclaration, States};
+ghost use Rattle.sc_parse_unit.specs.Laws.{IsComplete, IsOutline, IsSegment, AreSegments};
 
-/// No expression begins as a label does.
-#[tactic(auto, using(crate::proofs::BeginsStmt::expr_no_label))]
-pub fn no_expression_is_labelled()
-    ensures { (types : List NameId) (level : Level) (h : ℕ) (t : Expr) (s rest : List Token) → Spells types level h t s → is_colon (front rest) ≡ false → label_at (s ++ rest) ≡ None }
+/// Each initialiser, declaration and statement that is spelled with a tree of at most the limit is read,
+/// whatever follows that does not go on with it. An `else` behind a statement that could take it does.
+#[tactic(auto, using(crate::proofs::Completeness::complete))]
+pub fn reading_is_complete()
+    ensures { (types : List NameId) (limit : ℕ) → IsComplete types limit }
 {}
 
-#[tactic(auto, using(crate::proofs::CompleteInit::initialiser_read))]
-pub fn inits_complete()
-    ensures { (types : List NameId) → ((limit : ℕ) → below.IsComplete types limit) → (limit : ℕ) (h : ℕ) (t : Init) (s rest : List Token) → Initialises types h t s → h ≤ limit → ends_expr Assignment rest ≡ true
-      → initialiser types limit (s ++ rest) ≡ Some (read t h rest) }
+/// Tokens spell at most one initialiser, and at one height.
+#[tactic(auto, using(crate::proofs::Completeness::one_initialiser))]
+pub fn one_initialiser()
+    ensures { (types : List NameId) (h m : ℕ) (x y : Init) (s : List Token) → Initialises types h x s → Initialises types m y s → (x ≡ y) × (h ≡ m) }
 {}
 
-#[tactic(auto, using(crate::proofs::CompleteDecl::declaration_read))]
-pub fn declarations_complete()
-    ensures { (types : List NameId) → ((limit : ℕ) → below.IsComplete types limit) → (limit : ℕ) (h : ℕ) (t : Decl) (s rest : List Token) → ADeclaration types h t s → h ≤ limit → 1 ≤ limit
-      → body_declaration types limit (s ++ rest) ≡ Some (read t h rest) }
+/// Tokens spell at most one declaration of a body, and at one height.
+#[tactic(auto, using(crate::proofs::Completeness::one_declaration))]
+pub fn one_declaration()
+    ensures { (types : List NameId) (h m : ℕ) (x y : Decl) (s : List Token) → ADeclaration types h x s → ADeclaration types m y s → (x ≡ y) × (h ≡ m) }
 {}
 
-#[tactic(auto, using(crate::proofs::CompleteStmt::statement_read))]
-pub fn statements_complete()
-    ensures { (types : List NameId) → ((limit : ℕ) → below.IsComplete types limit) → (limit : ℕ) (b : Bool) (h : ℕ) (t : Stmt) (s rest : List Token) → States types b h t s → h ≤ limit → (b ≡ true → is_else (front_reserved rest) ≡ false)
-      → statement types limit (s ++ rest) ≡ Some (read t h rest) }
+/// Tokens spell at most one statement, and at one height: an `else` belongs to one `if` alone.
+#[tactic(auto, using(crate::proofs::Completeness::one_statement))]
+pub fn one_statement()
+    ensures { (types : List NameId) (b c : Bool) (h m : ℕ) (x y : Stmt) (s : List Token) → States types b h x s → States types c m y s → (x ≡ y) × (h ≡ m) }
 {}
 
-#[tactic(auto, using(crate::proofs::CompleteOutline::declaration_outlined, crate::proofs::CompleteOutline::function_outlined))]
-pub fn outlines_complete()
-    ensures declaration { ((types : List NameId) (limit : ℕ) → below.IsComplete types limit) → (types : List NameId) (ts : List Token) (behind : List NameId) (x : Decl) → IsDeclaration types behind ts x → outline_of types ts ≡ Some (outlined (outline.Decl x) behind []) }
-    ensures function { ((types : List NameId) (limit : ℕ) → below.IsComplete types limit) → (types : List NameId) (ts : List Token) (x : Head) (inside : List Token) → IsFunction types ts x inside → outline_of types ts ≡ Some (outlined (outline.Function x) types inside) }
+/// A segment is read as a declaration or as the head of a function exactly where it is one.
+#[tactic(auto, using(crate::proofs::Completeness::outline))]
+pub fn outline_is_read()
+    ensures { (types : List NameId) (ts : List Token) → IsOutline types ts }
+{}
+
+/// A segment fits what it is read as, and nothing else: the body of a function is a tree exactly where its
+/// tokens spell a block, and a segment is skipped exactly where it is neither a declaration nor a function.
+pub fn segment_is_read()
+    ensures { (types : List NameId) (ts : List Token) → IsSegment types ts }
+{}
+
+/// All segments of a file fit what they are read as, and nothing else.
+pub fn segments_are_read()
+    ensures { (types : List NameId) (ts : List Token) (from : ℕ) (ends : List ℕ) → AreSegments types ts from ends }
 {}
