@@ -46,10 +46,6 @@ no_word_no_label ts e = by (is_colon (front (behind ts)))
     by true = e
     by false = refl
 
--- and a colon
-pub no_colon_no_label : (ts : List Token) → is_colon (front (behind ts)) ≡ false → label_at ts ≡ None
-no_colon_no_label ts e = rw e refl
-
 field_no_colon : (o : Punct) (arrow : Bool) → field o ≡ Some arrow → is_colon (Some o) ≡ false
 field_no_colon sign.Colon arrow e = absurd cc
 field_no_colon _ arrow e = refl
@@ -280,8 +276,3 @@ declarator_kind_no_piece _ e = refl
 
 pub declarator_no_piece : {s : List Token} → BeginsDeclarator s → (rest : List Token) → begins_piece (front_reserved (s ++ rest)) ≡ false
 declarator_no_piece b rest = of_declarator (λ z. begins_piece (front_reserved z)) false b (λ t ts e. declarator_kind_no_piece t.kind e) rest
-
--- ---- lengths
-
-pub filled_length : (s : List Token) (x : Token) (xs : List Token) → s ≡ x ∷ xs → 1 ≤ length s
-filled_length s x xs e = subst (λ (z : List Token). 1 ≤ length z) (sym e) (omega arith)

@@ -40,9 +40,6 @@ longer_specs b r = record { first = b.first; others = b.others ++ r; whole = ap 
 pub specs_first : {types : List NameId} {s : List Token} → BeginsSpecs types s → (rest : List Token) → first_pos (s ++ rest) ≡ first_pos s
 specs_first b rest = ap (λ (z : List Token). first_pos (z ++ rest)) b.whole ∙ sym (ap first_pos b.whole)
 
-pub specs_not_empty : {types : List NameId} {s : List Token} → BeginsSpecs types s → 1 ≤ length s
-specs_not_empty b = subst (λ (z : List Token). 1 ≤ length z) (sym b.whole) (omega arith)
-
 pub declarator_not_empty : {s : List Token} → BeginsDeclarator s → 1 ≤ length s
 declarator_not_empty b = subst (λ (z : List Token). 1 ≤ length z) (sym b.whole) (omega arith)
 

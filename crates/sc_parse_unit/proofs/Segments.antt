@@ -170,3 +170,18 @@ all_only types ts from ends xs (units.next {types = us} {behind = after} {from =
 
 pub all_segments : (types : List NameId) (ts : List Token) (from : ℕ) (ends : List ℕ) → AreSegments types ts from ends
 all_segments types ts from ends = record { fit = all_fit types ts from ends; only = λ xs f. all_only types ts from ends xs f }
+
+-- ---- at most one
+
+pub one_fit : (types us vs : List NameId) (ts : List Token) (x y : Segment) → Fits types us ts x → Fits types vs ts y → (x ≡ y) × (us ≡ vs)
+one_fit types us vs ts x y f g =
+    let all = one_segment types ts in
+    let one = all.only us x f in
+    let two = all.only vs y g in
+    (one.0 ∙ sym two.0, one.1 ∙ sym two.1)
+
+pub one_list : (types : List NameId) (ts : List Token) (from : ℕ) (ends : List ℕ) (xs ys : List Segment) → AllFit types ts from ends xs → AllFit types ts from ends ys → xs ≡ ys
+one_list types ts from ends xs ys f g = all_only types ts from ends xs f ∙ sym (all_only types ts from ends ys g)
+
+pub some_list : (types : List NameId) (ts : List Token) (from : ℕ) (ends : List ℕ) → (xs : List Segment) × AllFit types ts from ends xs
+some_list types ts from ends = (segments_of types ts from ends, all_fit types ts from ends)

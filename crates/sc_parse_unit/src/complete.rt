@@ -10,6 +10,7 @@ ghost use Rattle.sc_tree.specs.declared.decl.Init.{Init};
 ghost use Rattle.sc_tree.specs.declared.stmt.Stmt.{Stmt};
 ghost use Rattle.sc_tree.specs.declared.unit.Segment.{Segment};
 ghost use Rattle.sc_tree.specs.Statements.{Initialises, ADeclaration, States};
+ghost use Rattle.sc_tree.specs.Units.{Fits, AllFit};
 ghost use Rattle.sc_parse_unit.specs.Laws.{IsComplete, IsOutline, IsSegment, AreSegments};
 
 /// Each initialiser, declaration and statement that is spelled with a tree of at most the limit is read,
@@ -52,4 +53,17 @@ pub fn segment_is_read()
 /// All segments of a file fit what they are read as, and nothing else.
 pub fn segments_are_read()
     ensures { (types : List NameId) (ts : List Token) (from : ℕ) (ends : List ℕ) → AreSegments types ts from ends }
+{}
+
+/// A segment fits one tree, and leaves the typedef names behind it in one way.
+#[tactic(auto, using(crate::proofs::Segments::one_fit))]
+pub fn one_segment()
+    ensures { (types us vs : List NameId) (ts : List Token) (x y : Segment) → Fits types us ts x → Fits types vs ts y → (x ≡ y) × (us ≡ vs) }
+{}
+
+/// A file, cut at any ends, has segments that fit, and only one list of them.
+#[tactic(auto, using(crate::proofs::Segments::some_list, crate::proofs::Segments::one_list))]
+pub fn one_list_of_segments()
+    ensures some { (types : List NameId) (ts : List Token) (from : ℕ) (ends : List ℕ) → (xs : List Segment) × AllFit types ts from ends xs }
+    ensures one { (types : List NameId) (ts : List Token) (from : ℕ) (ends : List ℕ) (xs ys : List Segment) → AllFit types ts from ends xs → AllFit types ts from ends ys → xs ≡ ys }
 {}
