@@ -1,6 +1,6 @@
 -- How phrases begin: by recursion on what spells them.
-use Rattle.std.proofs.Common.{◌≡◌, ℕ, zero, suc, ◌≤◌, max, Bool, true, false, not, ◌&&◌, ◌||◌, List, [], ◌∷◌, ◌++◌, length, Option, Some, None, refl, sym, ap, subst, ◌∙◌, append_assoc, arith, ◌⊎◌, inl, inr}
-use Rattle.std.proofs.lemmas.Bool.{or_left, or_right}
+use Rattle.std.proofs.Common.{◌≡◌, ℕ, ◌≤◌, Bool, true, false, not, ◌&&◌, ◌||◌, List, [], ◌∷◌, ◌++◌, length, Some, None, refl, sym, ap, subst, ◌∙◌, append_assoc, arith}
+use Rattle.std.proofs.lemmas.Bool.{and_left, not-true, or_left, or_right}
 use Rattle.sc_base.specs.declared.pos.NameId.{NameId}
 use Rattle.sc_tree.specs.declared.token.Token.{Token}
 use Rattle.sc_tree.specs.declared.token.Kind.{Kind}
@@ -13,11 +13,8 @@ use Rattle.sc_tree.specs.declared.token.Reserved.TheVariants as key
 use Rattle.sc_tree.specs.declared.expr.Expr.{Expr}
 use Rattle.sc_tree.specs.declared.expr.Head.{Head}
 use Rattle.sc_tree.specs.declared.expr.Declarator.{Declarator}
-use Rattle.sc_tree.specs.declared.expr.Part.{Part}
-use Rattle.sc_tree.specs.declared.expr.Member.{Member}
-use Rattle.sc_tree.specs.declared.expr.Enumerator.{Enumerator}
 use Rattle.sc_tree.specs.declared.grammar.Level.{Level}
-use Rattle.sc_tree.specs.declared.grammar.Level.TheVariants.{Primary, Postfix, Prefix, Cast, Operators, Choice, Assignment, Whole}
+use Rattle.sc_tree.specs.declared.grammar.Level.TheVariants.{Primary, Postfix, Prefix}
 use Rattle.sc_tree.specs.declared.grammar.Naming.{Naming}
 use Rattle.sc_tree.specs.declared.grammar.Naming.TheVariants as naming
 use Rattle.sc_tree.specs.declared.grammar.Core.{Core}
@@ -30,7 +27,7 @@ use Rattle.sc_tree.specs.Specifiers.{no_pieces, with_pieces, finished}
 use Rattle.sc_tree.specs.Tokens.{token, word, punct, reserved, first_pos, is_type}
 use Rattle.sc_tree.specs.Grammar as g
 use Rattle.sc_tree.specs.Grammar.{record_word, may_name, may_lack, Strings, one_string, more_strings, Spells, Arguments, Listed, Heads, a_head, Specifies, pieces, Pieces, no_piece, more_pieces, APiece, Members, AMember, Parts, APart, Enumerators, AnEnumerator, Declares, a_direct, a_pointer, Directs, Parameters, ManyHeads}
-use Rattle.sc_parse_expr.specs.Front.{punct_of, word_of, reserved_of, string_of, front, front_word, front_reserved, front_string, behind, is_left_paren, is_right_paren, is_left_bracket, is_right_bracket, is_left_brace, is_right_brace, is_comma, is_colon, is_semicolon, is_star, is_some, is_sizeof, is_enum, is_type_word, begins_piece, begins_type, unary_at, step_at}
+use Rattle.sc_parse_expr.specs.Front.{punct_of, word_of, reserved_of, front, front_reserved, behind, is_left_paren, is_right_paren, is_left_bracket, is_right_bracket, is_star, is_some, is_sizeof, is_type_word, begins_piece, begins_type, unary_at, step_at}
 use Rattle.sc_parse_expr.specs.Laws.{opens_expr, BeginsExpr, BeginsSpecs, opens_declarator, BeginsDeclarator}
 
 -- ---- tokens that begin with one that the test takes
@@ -133,11 +130,7 @@ begins_expr types level h t s d =
 
 -- an expression begins with no word of a type
 kind_not_type : (types : List NameId) (x : Kind) → opens_expr types x ≡ true → (begins_piece (reserved_of x) || is_type_word types (word_of x)) ≡ false
-kind_not_type types (k.Word w) e = turned (is_type types w) e
-  where
-    turned : (b : Bool) → not b ≡ true → b ≡ false
-    turned true e = absurd cc
-    turned false e = refl
+kind_not_type types (k.Word w) e = not-true (is_type types w) e
 kind_not_type types (k.Reserved key.Sizeof) e = refl
 kind_not_type types (k.Reserved _) e = absurd cc
 kind_not_type types _ e = refl
@@ -145,14 +138,14 @@ kind_not_type types _ e = refl
 pub no_type : (types : List NameId) {s : List Token} → Begins (opens_expr types) s → begins_type types s ≡ false
 no_type types b = by_first (begins_type types) false b (λ t ts e. kind_not_type types t.kind e)
 
--- nor with an end of what holds it
-kind_not_end : (types : List NameId) (x : Kind) → opens_expr types x ≡ true → is_right_paren (punct_of x) ≡ false
-kind_not_end types (k.Punct sign.RightParen) e = absurd cc
-kind_not_end types (k.Punct _) e = refl
-kind_not_end types _ e = refl
+-- nor with an end of what may hold it
+kind_not_paren : (types : List NameId) (x : Kind) → opens_expr types x ≡ true → is_right_paren (punct_of x) ≡ false
+kind_not_paren types (k.Punct sign.RightParen) e = absurd cc
+kind_not_paren types (k.Punct _) e = refl
+kind_not_paren types _ e = refl
 
 pub no_right_paren : (types : List NameId) {s : List Token} → Begins (opens_expr types) s → is_right_paren (front s) ≡ false
-no_right_paren types b = by_first (λ s. is_right_paren (front s)) false b (λ t ts e. kind_not_end types t.kind e)
+no_right_paren types b = by_first (λ s. is_right_paren (front s)) false b (λ t ts e. kind_not_paren types t.kind e)
 
 kind_not_bracket : (types : List NameId) (x : Kind) → opens_expr types x ≡ true → is_right_bracket (punct_of x) ≡ false
 kind_not_bracket types (k.Punct sign.RightBracket) e = absurd cc
@@ -190,9 +183,6 @@ no_sizeof types b = by_first (λ s. is_sizeof (front_reserved s)) false b (λ t 
 abbrev opens_cast : List NameId → List Token → Bool
 opens_cast types ts = is_left_paren (front ts) && begins_type types (behind ts)
 
-kind_no_bracket : (types : List NameId) (x : Kind) (b : Bool) → is_left_paren (punct_of x) ≡ false → (is_left_paren (punct_of x) && b) ≡ false
-kind_no_bracket types x b e = rw e refl
-
 strings_no_cast : (types : List NameId) {xs : List StrToken} {s : List Token} → Strings xs s → (rest : List Token) → opens_cast types (s ++ rest) ≡ false
 strings_no_cast types (one_string x p) rest = refl
 strings_no_cast types (more_strings x p more) rest = refl
@@ -222,8 +212,8 @@ step_no_bracket _ e = refl
 
 pub prefix_no_cast : (types : List NameId) {h : ℕ} {t : Expr} {s : List Token} → Spells types Prefix h t s → (rest : List Token) → opens_cast types (s ++ rest) ≡ false
 prefix_no_cast types (g.a_postfix d) rest = postfix_no_cast types d rest
-prefix_no_cast types (g.a_unary o op p e d) rest = kind_no_bracket types (k.Punct o) _ (unary_no_bracket o (ap is_some e))
-prefix_no_cast types (g.a_step_before o by p e d) rest = kind_no_bracket types (k.Punct o) _ (step_no_bracket o (ap is_some e))
+prefix_no_cast types (g.a_unary o op p e d) rest = and_left (is_left_paren (Some o)) _ (unary_no_bracket o (ap is_some e))
+prefix_no_cast types (g.a_step_before o by p e d) rest = and_left (is_left_paren (Some o)) _ (step_no_bracket o (ap is_some e))
 prefix_no_cast types (g.a_size p d) rest = refl
 prefix_no_cast types (g.a_size_of_type p q o d) rest = refl
 

@@ -1,7 +1,8 @@
 -- What is spelled is read: declarators. By recursion on what spells them; parts under a node are read by
 -- `inner`.
-use Rattle.std.proofs.Common.{◌≡◌, ℕ, zero, suc, ◌+◌, ◌≤◌, max, Bool, true, false, not, ◌&&◌, ◌||◌, if◌then◌else◌, List, [], ◌∷◌, ◌++◌, length, Option, Some, None, refl, sym, ap, ap₂, subst, ◌∙◌, append_assoc, append-nil, arith, length-append}
-use Rattle.std.proofs.lemmas.Bool.{and_parts, or_right}
+use Rattle.std.proofs.Common.{◌≡◌, ℕ, zero, suc, ◌+◌, ◌≤◌, max, Bool, true, false, not, ◌&&◌, ◌||◌, if◌then◌else◌, List, [], ◌∷◌, ◌++◌, length, Option, Some, None, refl, ap, ap₂, ◌∙◌, append_assoc, append-nil, arith, length-append}
+use Rattle.std.proofs.lemmas.Bool.{and_parts, and_right, not-true, or_right}
+use Rattle.std.proofs.Math.Bool.{and_assoc}
 use Rattle.sc_base.specs.declared.pos.Pos.{Pos}
 use Rattle.sc_base.specs.declared.pos.NameId.{NameId}
 use Rattle.sc_tree.specs.declared.token.Token.{Token}
@@ -21,38 +22,21 @@ use Rattle.sc_tree.specs.declared.grammar.Core.{Core}
 use Rattle.sc_tree.specs.declared.grammar.Core.TheVariants as core
 use Rattle.sc_tree.specs.declared.grammar.Piece.{Piece}
 use Rattle.sc_tree.specs.declared.grammar.Specified.{Specified}
-use Rattle.sc_tree.specs.Tokens.{word, punct, reserved, is_type}
-use Rattle.sc_tree.specs.Tables.{◌>>=◌}
+use Rattle.sc_tree.specs.Tokens.{punct, is_type}
 use Rattle.sc_tree.specs.Grammar as g
 use Rattle.sc_tree.specs.Grammar.{may_name, may_lack, covered, called, is_void_word, is_void, Spells, Heads, a_head, Specifies, pieces, Pieces, no_piece, more_pieces, APiece, Declares, a_direct, a_pointer, Directs, Parameters, ManyHeads, one_head, more_heads}
 use Rattle.sc_parse_expr.specs.declared.found.Wanted.{Wanted}
 use Rattle.sc_parse_expr.specs.declared.found.Phrase.{Phrase}
 use Rattle.sc_parse_expr.specs.declared.found.Declared.{Declared}
 use Rattle.sc_parse_expr.specs.declared.found.Headed.{Headed}
-use Rattle.sc_parse_expr.specs.Front.{punct_of, word_of, reserved_of, front, front_word, front_reserved, behind, is_left_paren, is_right_paren, is_right_bracket, is_star, is_ellipsis, is_comma, is_void_key, is_some, is_type_word, begins_piece, begins_type, Suffix, Indexing, Calling, suffix}
-use Rattle.sc_parse_expr.specs.Read.{Read, read, Parse, node, Listed, commas}
-use Rattle.sc_parse_expr.specs.Reading.{operand, declared, Params, params, Roll, enrolled, inner_expr, inner_declarator, inner_head, pointed, enclosed, encloses, unnamed, begun, open_array, long_array, array_of, listed_params, parameters, function_of, derived, derive, direct, declarator}
-use Rattle.sc_parse_expr.specs.Laws.{opens_expr, ends_specs, ends_declarator, is_derived}
+use Rattle.sc_parse_expr.specs.Front.{punct_of, word_of, reserved_of, front, front_word, front_reserved, behind, is_left_paren, is_right_paren, is_right_bracket, is_star, is_ellipsis, is_void_key, is_some, is_type_word, begins_piece, begins_type, Suffix, Indexing, Calling, suffix}
+use Rattle.sc_parse_expr.specs.Read.{Read, read, Parse, Listed, commas}
+use Rattle.sc_parse_expr.specs.Reading.{operand, declared, params, Roll, enrolled, inner_expr, inner_head, pointed, enclosed, encloses, unnamed, begun, open_array, long_array, array_of, parameters, function_of, derived, derive, direct, declarator}
+use Rattle.sc_parse_expr.specs.Laws.{ends_specs, ends_declarator, is_derived}
 use Rattle.sc_parse_expr.proofs.Begins.{Begins, by_first, longer, not_empty, expr_begins, no_right_bracket, head_begins, opens_piece, piece_begins, piece_no_sign, is_a_type, no_specs, MayBegin, left_out, opened, opens_direct, opens_declared, direct_begins, declarator_begins}
-use Rattle.sc_parse_expr.proofs.Inner.{node_is, has_turn, commas_last, commas_end, commas_more, IsInner, and_false, head_read}
+use Rattle.sc_parse_expr.proofs.Inner.{no_value, node_is, has_turn, commas_last, commas_end, commas_more, IsInner, and_false, head_read}
 
 -- ---- tokens
-
-and_none : (b : Bool) → (b && false) ≡ false
-and_none true = refl
-and_none false = refl
-
-and_assoc : (a b c : Bool) → ((a && b) && c) ≡ (a && (b && c))
-and_assoc true b c = refl
-and_assoc false b c = refl
-
-false_is : (b : Bool) → not b ≡ true → b ≡ false
-false_is true e = absurd cc
-false_is false e = refl
-
-none_is : {A : Type 0} (o : Option A) → not (is_some o) ≡ true → o ≡ None
-none_is (Some x) e = absurd cc
-none_is None e = refl
 
 -- a declarator in brackets begins neither with `)` nor with a type
 word_no_type : (n : Naming) (types : List NameId) (w : NameId) → may_name n types w ≡ true → (may_lack n && is_type types w) ≡ false
@@ -69,7 +53,7 @@ kind_encloses : (n : Naming) (types : List NameId) (x : Kind) → opens_declared
     → (may_lack n && (is_right_paren (punct_of x) || (begins_piece (reserved_of x) || is_type_word types (word_of x)))) ≡ false
 kind_encloses n types (k.Word w) e = word_no_type n types w e
 kind_encloses n types (k.Punct sign.RightParen) e = and_false (may_lack n) e
-kind_encloses n types (k.Punct _) e = and_none (may_lack n)
+kind_encloses n types (k.Punct _) e = and_right (may_lack n) false refl
 kind_encloses n types _ e = absurd cc
 
 may_enclose : (n : Naming) (types : List NameId) (x : Token) (s : List Token) → MayBegin n (opens_declared n types) (x ∷ s) → (may_lack n && (is_right_paren (punct_of x.kind) || begins_type types (x ∷ []))) ≡ false
@@ -139,18 +123,18 @@ no_void : (s rest : List Token) → 1 ≤ length s → is_void s ≡ false → i
     → (is_void_key (front_reserved (s ++ rest)) && is_right_paren (front (behind (s ++ rest)))) ≡ false
 no_void [] rest some void second = let bad : ⊥ = omega arith in absurd bad
 no_void (t ∷ []) rest some void second = rw (kind_no_void t.kind void) refl
-no_void (t ∷ u ∷ us) rest some void second = rw second (and_none (is_void_key (reserved_of t.kind)))
+no_void (t ∷ u ∷ us) rest some void second = rw second (and_right (is_void_key (reserved_of t.kind)) false refl)
 
 -- ---- what follows
 
 ends_word : (ts : List Token) → ends_declarator ts ≡ true → front_word ts ≡ None
-ends_word ts e = none_is (front_word ts) (and_parts (not (is_some (front_word ts))) _ e).0
+ends_word ts e = no_value (front_word ts) (not-true (is_some (front_word ts)) (and_parts (not (is_some (front_word ts))) _ e).0)
 
 ends_star : (ts : List Token) → ends_declarator ts ≡ true → is_star (front ts) ≡ false
-ends_star ts e = false_is (is_star (front ts)) (and_parts (not (is_star (front ts))) _ (and_parts (not (is_some (front_word ts))) _ e).1).0
+ends_star ts e = not-true (is_star (front ts)) (and_parts (not (is_star (front ts))) _ (and_parts (not (is_some (front_word ts))) _ e).1).0
 
 ends_derived : (ts : List Token) → ends_declarator ts ≡ true → is_derived (suffix (front ts)) ≡ false
-ends_derived ts e = false_is (is_derived (suffix (front ts))) (and_parts (not (is_star (front ts))) _ (and_parts (not (is_some (front_word ts))) _ e).1).1
+ends_derived ts e = not-true (is_derived (suffix (front ts))) (and_parts (not (is_star (front ts))) _ (and_parts (not (is_some (front_word ts))) _ e).1).1
 
 derived_paren : (o : Option Punct) → is_derived (suffix o) ≡ false → is_left_paren o ≡ false
 derived_paren (Some sign.LeftParen) e = absurd cc
@@ -188,7 +172,7 @@ module _ (types : List NameId) (below : ℕ) (inner : Wanted → Parse Phrase) w
         comes = ap (direct types (suc below) inner n) (append_assoc s x rest ∙ ap (λ (z : List Token). s ++ z) flat)
             ∙ (it.comes
             ∙ (ap (λ (z : ℕ). derive types (suc below) inner z (read (declared t c) h tail)) same
-            ∙ step turn.0))
+            ∙ step turn.0));
       }
 
   derived_stop : (go : Read Declared → Option (Read Declared)) (x : Suffix) (t : Read Declared) → is_derived x ≡ false → derived types (suc below) inner go x t ≡ Some t
@@ -204,7 +188,7 @@ module _ (types : List NameId) (below : ℕ) (inner : Wanted → Parse Phrase) w
 
   array_step : (m : ℕ) (p q : Pos) (t : Declarator) (c : Core) (h : ℕ) (rest : List Token) → h ≤ below
       → derive types (suc below) inner (suc m) (read (declared t c) h (punct sign.LeftBracket p ∷ punct sign.RightBracket q ∷ rest))
-        ≡ derive types (suc below) inner m (read (declared (d.Array t None) (covered c)) (suc h) rest)
+      ≡ derive types (suc below) inner m (read (declared (d.Array t None) (covered c)) (suc h) rest)
   unfolding derive derived array_of open_array
   array_step m p q t c h rest low = rw (node_is below (declared (d.Array t None) (covered c)) h rest low) refl
 
@@ -212,14 +196,14 @@ module _ (types : List NameId) (below : ℕ) (inner : Wanted → Parse Phrase) w
       → is_right_bracket (front (r ++ punct sign.RightBracket q ∷ rest)) ≡ false
       → inner_expr types (suc below) inner Choice (r ++ punct sign.RightBracket q ∷ rest) ≡ Some (read (operand l u) j (punct sign.RightBracket q ∷ rest))
       → derive types (suc below) inner (suc m) (read (declared t c) h (punct sign.LeftBracket p ∷ (r ++ punct sign.RightBracket q ∷ rest)))
-        ≡ derive types (suc below) inner m (read (declared (d.Array t (Some l)) (covered c)) (suc (max h j)) rest)
+      ≡ derive types (suc below) inner m (read (declared (d.Array t (Some l)) (covered c)) (suc (max h j)) rest)
   unfolding derive derived array_of long_array
   length_step m p q t c l u h j r rest low other one = rw (other, one, node_is below (declared (d.Array t (Some l)) (covered c)) (max h j) rest low) refl
 
   function_step : (m : ℕ) (p q : Pos) (t : Declarator) (c : Core) (ps : Option (List Head)) (named dots : Bool) (h j : ℕ) (r rest : List Token) → max h j ≤ below
       → parameters types (suc below) inner (r ++ punct sign.RightParen q ∷ rest) ≡ Some (read (params ps named dots) j (punct sign.RightParen q ∷ rest))
       → derive types (suc below) inner (suc m) (read (declared t c) h (punct sign.LeftParen p ∷ (r ++ punct sign.RightParen q ∷ rest)))
-        ≡ derive types (suc below) inner m (read (declared (d.Func t ps dots) (called named c)) (suc (max h j)) rest)
+      ≡ derive types (suc below) inner m (read (declared (d.Func t ps dots) (called named c)) (suc (max h j)) rest)
   unfolding derive derived function_of
   function_step m p q t c ps named dots h j r rest low one = rw (one, node_is below (declared (d.Func t ps dots) (called named c)) (max h j) rest low) refl
 
@@ -229,10 +213,10 @@ module _ (types : List NameId) (below : ℕ) (inner : Wanted → Parse Phrase) (
   -- heads with commas between, up to where the last one is read
   heads_listed : (tail : List Token) (last : Roll → ℕ → Option (Read (Listed Roll))) → ends_specs tail ≡ true → ends_declarator tail ≡ true
       → ((n : ℕ) (xs : Roll) (h : ℕ) (ts : List Token) (x : Headed) (high : ℕ) → inner_head types (suc below) inner naming.Optional ts ≡ Some (read x high tail)
-          → commas (inner_head types (suc below) inner naming.Optional) enrolled is_ellipsis (suc n) xs h ts ≡ last (enrolled xs x) (max h high))
+      → commas (inner_head types (suc below) inner naming.Optional) enrolled is_ellipsis (suc n) xs h ts ≡ last (enrolled xs x) (max h high))
       → {named : Bool} {m : ℕ} {ts : List Head} {s : List Token} → ManyHeads types named m ts s → m ≤ below → (n : ℕ) → length s ≤ n → (xs : List Head) (all : Bool) (h : ℕ)
       → commas (inner_head types (suc below) inner naming.Optional) enrolled is_ellipsis n (record { heads = xs; named = all }) h (s ++ tail)
-        ≡ last (record { heads = xs ++ ts; named = all && named }) (max h m)
+      ≡ last (record { heads = xs ++ ts; named = all && named }) (max h m)
   heads_listed tail last ends_s ends_d end (one_head {named = named} {h = m} {x = t} {s = s} x) low n room xs all h =
       let one = head_read types below inner parts x low tail ends_s ends_d in
       let some = not_empty (head_begins types x) in
@@ -248,7 +232,7 @@ module _ (types : List NameId) (below : ℕ) (inner : Wanted → Parse Phrase) (
       let rest = heads_listed tail last ends_s ends_d end more (omega arith) turn.0 (omega (arith, room, long, same)) (xs ++ t ∷ []) (all && named) (max h m) in
       let roll : ((xs ++ t ∷ []) ++ ts ≡ xs ++ t ∷ ts) × (((all && named) && others) ≡ (all && (named && others))) = (append_assoc xs (t ∷ []) ts, and_assoc all named others) in
       rw (same, append_assoc s (punct sign.Comma p ∷ r) tail)
-        (step ∙ (rest ∙ (ap₂ (λ (z : List Head) (w : Bool). last (record { heads = z; named = w }) (max (max h m) j)) roll.0 roll.1 ∙ ap (λ (w : ℕ). last (record { heads = xs ++ t ∷ ts; named = all && (named && others) }) w) (omega arith))))
+      (step ∙ (rest ∙ (ap₂ (λ (z : List Head) (w : Bool). last (record { heads = z; named = w }) (max (max h m) j)) roll.0 roll.1 ∙ ap (λ (w : ℕ). last (record { heads = xs ++ t ∷ ts; named = all && (named && others) }) w) (omega arith))))
 
   parameters_begin : {named dots : Bool} {m : ℕ} {ps : Option (List Head)} {s : List Token} → Parameters types named m ps dots s → (q : Pos) (rest : List Token)
       → (is_right_paren (front (s ++ punct sign.RightParen q ∷ rest)) || begins_type types (s ++ punct sign.RightParen q ∷ rest)) ≡ true
@@ -274,22 +258,22 @@ module _ (types : List NameId) (below : ℕ) (inner : Wanted → Parse Phrase) (
       let long = length-append s tail in
       let last : Roll → ℕ → Option (Read (Listed Roll)) = λ xs h. Some (read (record { items = xs; comma = false }) h tail) in
       let all = heads_listed tail last refl refl (λ n xs h ts y high one. commas_last (inner_head types (suc below) inner naming.Optional) enrolled is_ellipsis n xs h ts y high tail one refl)
-              x low (length (s ++ tail)) (omega (arith, long)) [] true 0 in
+      x low (length (s ++ tail)) (omega (arith, long)) [] true 0 in
       let high : max 0 m ≡ m = omega arith in
       rw (piece_no_sign types (longer begins tail), no_void s tail (not_empty begins) void second, all)
-        (ap (λ (w : ℕ). Some (read (params (Some ts) named false) w tail)) high)
+      (ap (λ (w : ℕ). Some (read (params (Some ts) named false) w tail)) high)
   parameters_read (g.and_more {named = named} {h = m} {hs = ts} {s = s} p o x) low q rest =
       let tail = punct sign.Comma p ∷ punct sign.Ellipsis o ∷ punct sign.RightParen q ∷ rest in
       let behind_it = punct sign.Ellipsis o ∷ punct sign.RightParen q ∷ rest in
       let begins = many_begin types x in
-      let void : (is_void_key (front_reserved (s ++ tail)) && is_right_paren (front (behind (s ++ tail)))) ≡ false = rw (many_second types x tail refl) (and_none (is_void_key (front_reserved (s ++ tail)))) in
+      let void : (is_void_key (front_reserved (s ++ tail)) && is_right_paren (front (behind (s ++ tail)))) ≡ false = rw (many_second types x tail refl) (and_right (is_void_key (front_reserved (s ++ tail))) false refl) in
       let long = length-append s tail in
       let last : Roll → ℕ → Option (Read (Listed Roll)) = λ xs h. Some (read (record { items = xs; comma = true }) h behind_it) in
       let all = heads_listed tail last refl refl (λ n xs h ts y high one. commas_end (inner_head types (suc below) inner naming.Optional) enrolled is_ellipsis n xs h ts y high p behind_it one refl)
-              x low (length (s ++ tail)) (omega (arith, long)) [] true 0 in
+      x low (length (s ++ tail)) (omega (arith, long)) [] true 0 in
       let high : max 0 m ≡ m = omega arith in
       rw (append_assoc s (punct sign.Comma p ∷ punct sign.Ellipsis o ∷ []) (punct sign.RightParen q ∷ rest), piece_no_sign types (longer begins tail), void, all)
-        (ap (λ (w : ℕ). Some (read (params (Some ts) named true) w (punct sign.RightParen q ∷ rest))) high)
+      (ap (λ (w : ℕ). Some (read (params (Some ts) named true) w (punct sign.RightParen q ∷ rest))) high)
 
   -- ---- declarators
 
@@ -308,22 +292,22 @@ module _ (types : List NameId) (below : ℕ) (inner : Wanted → Parse Phrase) (
   read_direct (g.an_array {n = n} {c = c} {h = h} {t = t} {s = s} p q y) low rest quiet =
       let tail = punct sign.LeftBracket p ∷ punct sign.RightBracket q ∷ rest in
       further types below inner n c h t s tail (read_direct y (omega arith) tail (λ _. record { word = refl; bracket = refl })) (omega arith)
-        (covered c) h (d.Array t None) (punct sign.LeftBracket p ∷ punct sign.RightBracket q ∷ []) rest refl (omega arith)
-        (λ m. array_step types below inner m p q t c h rest (omega arith))
+      (covered c) h (d.Array t None) (punct sign.LeftBracket p ∷ punct sign.RightBracket q ∷ []) rest refl (omega arith)
+      (λ m. array_step types below inner m p q t c h rest (omega arith))
   read_direct (g.an_array_of {n = n} {c = c} {h = h} {m = j} {t = t} {l = l} {s = s} {r = r} p q y z) low rest quiet =
       let tail = punct sign.LeftBracket p ∷ (r ++ punct sign.RightBracket q ∷ rest) in
       let one = parts.expr Choice j l r (punct sign.RightBracket q ∷ rest) z (omega arith) refl in
       further types below inner n c h t s tail (read_direct y (omega arith) tail (λ _. record { word = refl; bracket = refl })) (omega arith)
-        (covered c) (max h j) (d.Array t (Some l)) (punct sign.LeftBracket p ∷ (r ++ punct sign.RightBracket q ∷ [])) rest
-        (ap (λ (w : List Token). punct sign.LeftBracket p ∷ w) (append_assoc r (punct sign.RightBracket q ∷ []) rest)) (omega arith)
-        (λ m. length_step types below inner m p q t c l one.0 h j r rest (omega arith) (no_right_bracket types (longer (expr_begins types z) _)) one.1)
+      (covered c) (max h j) (d.Array t (Some l)) (punct sign.LeftBracket p ∷ (r ++ punct sign.RightBracket q ∷ [])) rest
+      (ap (λ (w : List Token). punct sign.LeftBracket p ∷ w) (append_assoc r (punct sign.RightBracket q ∷ []) rest)) (omega arith)
+      (λ m. length_step types below inner m p q t c l one.0 h j r rest (omega arith) (no_right_bracket types (longer (expr_begins types z) _)) one.1)
   read_direct (g.a_function {n = n} {c = c} {named = named} {dots = dots} {h = h} {m = j} {t = t} {ps = ps} {s = s} {r = r} p q y z) low rest quiet =
       let tail = punct sign.LeftParen p ∷ (r ++ punct sign.RightParen q ∷ rest) in
       let one = parameters_read z (omega arith) q rest in
       further types below inner n c h t s tail (read_direct y (omega arith) tail (λ lack. record { word = refl; bracket = rw (lack, parameters_begin z q rest) refl })) (omega arith)
-        (called named c) (max h j) (d.Func t ps dots) (punct sign.LeftParen p ∷ (r ++ punct sign.RightParen q ∷ [])) rest
-        (ap (λ (w : List Token). punct sign.LeftParen p ∷ w) (append_assoc r (punct sign.RightParen q ∷ []) rest)) (omega arith)
-        (λ m. function_step types below inner m p q t c ps named dots h j r rest (omega arith) one)
+      (called named c) (max h j) (d.Func t ps dots) (punct sign.LeftParen p ∷ (r ++ punct sign.RightParen q ∷ [])) rest
+      (ap (λ (w : List Token). punct sign.LeftParen p ∷ w) (append_assoc r (punct sign.RightParen q ∷ []) rest)) (omega arith)
+      (λ m. function_step types below inner m p q t c ps named dots h j r rest (omega arith) one)
 
   pub read_declarator : {n : Naming} {c : Core} {h : ℕ} {t : Declarator} {s : List Token} → Declares types n c h t s → h ≤ suc below → (rest : List Token) → ends_declarator rest ≡ true
       → declarator types (suc below) inner n (s ++ rest) ≡ Some (read (declared t c) h rest)
@@ -331,7 +315,7 @@ module _ (types : List NameId) (below : ℕ) (inner : Wanted → Parse Phrase) (
   read_declarator (a_direct {n = n} {c = c} {h = h} {t = t} {s = s} y) low rest ends =
       let it = read_direct y low rest (λ _. ends_quietly types below inner n rest ends) in
       rw (no_star n types s (direct_begins types y) rest (ends_star rest ends))
-        (it.comes ∙ derive_stop types below inner it.turns (read (declared t c) h rest) (ends_derived rest ends))
+      (it.comes ∙ derive_stop types below inner it.turns (read (declared t c) h rest) (ends_derived rest ends))
   read_declarator (a_pointer {n = n} {c = c} {h = h} {t = t} {s = s} p y) low rest ends =
       let one = parts.declarator n c h t s rest y (omega arith) ends in
       rw one (node_is below (declared (d.Pointer t) (covered c)) h rest (omega arith))

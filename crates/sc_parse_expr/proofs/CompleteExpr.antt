@@ -1,52 +1,39 @@
 -- What is spelled is read: expressions. By recursion on what spells them; parts under a node are read by
 -- `inner`.
-use Rattle.std.proofs.Common.{◌≡◌, ℕ, zero, suc, ◌+◌, ◌≤◌, max, nat_le, nat_eq, Bool, true, false, not, ◌&&◌, ◌||◌, List, [], ◌∷◌, ◌++◌, length, Option, Some, None, refl, sym, ap, subst, ◌∙◌, ap₂, append_assoc, arith, length-append, ne_eqb, eq-eqb, le-leb}
-use Rattle.std.proofs.lemmas.Bool.{and_parts, leb-true}
+use Rattle.std.proofs.Common.{◌≡◌, ℕ, zero, suc, ◌+◌, ◌≤◌, max, nat_eq, Bool, true, false, not, ◌&&◌, List, [], ◌∷◌, ◌++◌, length, Option, Some, None, refl, sym, ap, ◌∙◌, ap₂, append_assoc, arith, length-append, ne_eqb, eq-eqb, le-leb}
+use Rattle.std.proofs.lemmas.Bool.{and_parts, leb-true, not-true}
 use Rattle.sc_base.specs.declared.pos.Pos.{Pos}
 use Rattle.sc_base.specs.declared.pos.NameId.{NameId}
 use Rattle.sc_tree.specs.declared.token.Token.{Token}
 use Rattle.sc_tree.specs.declared.token.Kind.{Kind}
-use Rattle.sc_tree.specs.declared.token.Kind.TheVariants as k
 use Rattle.sc_tree.specs.declared.token.StrToken.{StrToken}
 use Rattle.sc_tree.specs.declared.token.Punct.{Punct}
 use Rattle.sc_tree.specs.declared.token.Punct.TheVariants as sign
-use Rattle.sc_tree.specs.declared.token.Reserved.TheVariants as key
 use Rattle.sc_tree.specs.declared.op.BinaryOp.{BinaryOp}
-use Rattle.sc_tree.specs.declared.op.UnaryOp.{UnaryOp}
 use Rattle.sc_tree.specs.declared.op.AssignOp.{AssignOp}
 use Rattle.sc_tree.specs.declared.op.Step.{Step}
 use Rattle.sc_tree.specs.declared.op.Step.TheVariants as steps
 use Rattle.sc_tree.specs.declared.expr.Expr.{Expr}
 use Rattle.sc_tree.specs.declared.expr.Expr.TheVariants as e
-use Rattle.sc_tree.specs.declared.expr.Head.{Head}
 use Rattle.sc_tree.specs.declared.grammar.Level.{Level}
 use Rattle.sc_tree.specs.declared.grammar.Level.TheVariants.{Primary, Postfix, Prefix, Cast, Operators, Choice, Assignment, Whole}
-use Rattle.sc_tree.specs.declared.grammar.Naming.TheVariants as naming
 use Rattle.sc_tree.specs.Operators.{Binding, binding, binary, unary, step, assign, field}
-use Rattle.sc_tree.specs.Tokens.{token, word, punct, reserved, first_pos, at, after, is_type}
+use Rattle.sc_tree.specs.Tokens.{word, punct, first_pos, at, after}
 use Rattle.sc_tree.specs.Tables.{◌>>=◌}
 use Rattle.sc_tree.specs.Grammar as g
 use Rattle.sc_tree.specs.Grammar.{Strings, one_string, more_strings, Spells, Arguments, Listed, one_argument, more_arguments, Heads}
 use Rattle.sc_parse_expr.specs.declared.found.Wanted.{Wanted}
 use Rattle.sc_parse_expr.specs.declared.found.Phrase.{Phrase}
 use Rattle.sc_parse_expr.specs.declared.found.Operand.{Operand}
-use Rattle.sc_parse_expr.specs.Front.{string_of, is_left_paren, begins_type, front, front_word, front_string, behind, is_right_paren, is_comma, is_question, is_some, at_level, binary_at, unary_at, assign_at, Suffix, Indexing, Calling, Fielding, Stepping, NoSuffix, suffix}
-use Rattle.sc_parse_expr.specs.Read.{Read, read, Parse, node, commas}
+use Rattle.sc_parse_expr.specs.Front.{string_of, is_left_paren, begins_type, front, front_string, behind, is_comma, is_question, is_some, at_level, binary_at, assign_at, Suffix, Fielding, Stepping, NoSuffix, suffix}
+use Rattle.sc_parse_expr.specs.Read.{Read, read, Parse, commas}
 use Rattle.sc_parse_expr.specs.Reading
 use Rattle.sc_parse_expr.specs.Reading.{operand, strings, past_strings, with_tree, never, inner_expr, inner_head, bracketed, primary_by, primary, arguments, indexed, calling, fielded, stepped, suffixed, suffixes, postfix, applied, stepped_first, size_of_type, size_of, sized, prefix_by, prefix, cast, casts, combined, chained, chain, operators, chosen, choosing, choice, assigned, assigning, assignment, sequenced, sequencing, sequence, whole}
 use Rattle.sc_parse_expr.specs.Laws.{is_no_suffix, is_weaker, ends_operators, ends_choice, ends_assignment, ends_expr, opens_expr}
-use Rattle.sc_parse_expr.proofs.Begins.{Begins, longer, not_empty, first_stays, expr_begins, postfix_begins, prefix_no_cast, no_type, no_right_paren, no_unary, no_step, no_sizeof, head_begins, is_a_type, expr_is_high}
-use Rattle.sc_parse_expr.proofs.Inner.{node_is, has_turn, commas_last, commas_more, IsInner, head_read}
+use Rattle.sc_parse_expr.proofs.Begins.{Begins, longer, not_empty, first_stays, expr_begins, postfix_begins, prefix_no_cast, no_right_paren, no_unary, no_step, no_sizeof, head_begins, is_a_type}
+use Rattle.sc_parse_expr.proofs.Inner.{no_value, node_is, has_turn, commas_last, commas_more, IsInner, head_read}
 
 -- ---- what follows
-
-none_is : {A : Type 0} (o : Option A) → not (is_some o) ≡ true → o ≡ None
-none_is (Some x) e = absurd cc
-none_is None e = refl
-
-false_is : (b : Bool) → not b ≡ true → b ≡ false
-false_is true e = absurd cc
-false_is false e = refl
 
 no_suffix_is : (x : Suffix) → is_no_suffix x ≡ true → x ≡ NoSuffix
 no_suffix_is NoSuffix e = refl
@@ -87,14 +74,14 @@ ends_binary l ts e = no_binary l (front ts) (ends_weaker l ts e)
 
 -- ---- string literals
 
-no_strings : (o : Option StrToken) (t : Token) (ts : List Token) → string_of t.kind ≡ None → (strings (t ∷ ts) ≡ []) × (past_strings (t ∷ ts) ≡ t ∷ ts)
+no_strings : (t : Token) (ts : List Token) → string_of t.kind ≡ None → (strings (t ∷ ts) ≡ []) × (past_strings (t ∷ ts) ≡ t ∷ ts)
 unfolding strings past_strings
-no_strings o t ts e = (rw e refl, rw e refl)
+no_strings t ts e = (rw e refl, rw e refl)
 
 ended_strings : (rest : List Token) → not (is_some (front_string rest)) ≡ true → (strings rest ≡ []) × (past_strings rest ≡ rest)
 unfolding strings past_strings
 ended_strings [] e = (refl, refl)
-ended_strings (t ∷ ts) e = no_strings None t ts (none_is (string_of t.kind) e)
+ended_strings (t ∷ ts) e = no_strings t ts (no_value (string_of t.kind) (not-true (is_some (string_of t.kind)) e))
 
 strings_read : {xs : List StrToken} {s : List Token} → Strings xs s → (rest : List Token) → not (is_some (front_string rest)) ≡ true
     → (strings (s ++ rest) ≡ xs) × (past_strings (s ++ rest) ≡ rest)
@@ -128,7 +115,7 @@ further below f loop test h t u s tail begins c low high t2 u2 x rest flat rise 
           ∙ (c.comes
           ∙ (ap (λ (z : ℕ). loop z (first_pos s) (read (operand t u) h tail)) same
           ∙ (step turn.0
-          ∙ ap (λ (z : Pos). loop turn.0 z (read (operand t2 u2) (suc high) rest)) (sym (first_stays begins x)))))
+          ∙ ap (λ (z : Pos). loop turn.0 z (read (operand t2 u2) (suc high) rest)) (sym (first_stays begins x)))));
     }
 
 -- ---- steps of the reading
@@ -137,7 +124,7 @@ module _ (types : List NameId) (below : ℕ) (inner : Wanted → Parse Phrase) w
   index_step : (n : ℕ) (begin p q : Pos) (a b : Expr) (u : Bool) (h m : ℕ) (r rest : List Token) → max h m ≤ below
       → inner_expr types (suc below) inner Whole (r ++ punct sign.RightBracket q ∷ rest) ≡ Some (read (operand b u) m (punct sign.RightBracket q ∷ rest))
       → suffixes types (suc below) inner (suc n) begin (read (operand a true) h (punct sign.LeftBracket p ∷ (r ++ punct sign.RightBracket q ∷ rest)))
-        ≡ suffixes types (suc below) inner n begin (read (operand (e.Index a b (record { token = p; first = begin })) true) (suc (max h m)) rest)
+      ≡ suffixes types (suc below) inner n begin (read (operand (e.Index a b (record { token = p; first = begin })) true) (suc (max h m)) rest)
   unfolding suffixes suffixed indexed
   index_step n begin p q a b u h m r rest low one =
       rw (one, node_is below (operand (e.Index a b (record { token = p; first = begin })) true) (max h m) rest low) refl
@@ -145,21 +132,21 @@ module _ (types : List NameId) (below : ℕ) (inner : Wanted → Parse Phrase) w
   call_step : (n : ℕ) (begin p q : Pos) (a : Expr) (bs : List Expr) (h m : ℕ) (r rest : List Token) → max h m ≤ below
       → arguments types (suc below) inner (r ++ punct sign.RightParen q ∷ rest) ≡ Some (read bs m (punct sign.RightParen q ∷ rest))
       → suffixes types (suc below) inner (suc n) begin (read (operand a true) h (punct sign.LeftParen p ∷ (r ++ punct sign.RightParen q ∷ rest)))
-        ≡ suffixes types (suc below) inner n begin (read (operand (e.Call a bs (record { token = p; first = begin })) true) (suc (max h m)) rest)
+      ≡ suffixes types (suc below) inner n begin (read (operand (e.Call a bs (record { token = p; first = begin })) true) (suc (max h m)) rest)
   unfolding suffixes suffixed calling
   call_step n begin p q a bs h m r rest low one =
       rw (one, node_is below (operand (e.Call a bs (record { token = p; first = begin })) true) (max h m) rest low) refl
 
   field_step : (n : ℕ) (begin p q : Pos) (o : Punct) (arrow : Bool) (w : NameId) (a : Expr) (h : ℕ) (rest : List Token) → h ≤ below → suffix (Some o) ≡ Fielding arrow
       → suffixes types (suc below) inner (suc n) begin (read (operand a true) h (punct o p ∷ word w q ∷ rest))
-        ≡ suffixes types (suc below) inner n begin (read (operand (e.Field a w arrow (record { token = q; first = begin })) true) (suc h) rest)
+      ≡ suffixes types (suc below) inner n begin (read (operand (e.Field a w arrow (record { token = q; first = begin })) true) (suc h) rest)
   unfolding suffixes suffixed fielded
   field_step n begin p q o arrow w a h rest low one =
       rw (one, node_is below (operand (e.Field a w arrow (record { token = q; first = begin })) true) h rest low) refl
 
   step_step : (n : ℕ) (begin p : Pos) (o : Punct) (by : Step) (a : Expr) (h : ℕ) (rest : List Token) → h ≤ below → suffix (Some o) ≡ Stepping by
       → suffixes types (suc below) inner (suc n) begin (read (operand a true) h (punct o p ∷ rest))
-        ≡ suffixes types (suc below) inner n begin (read (operand (e.PostInc by a (record { token = p; first = begin })) true) (suc h) rest)
+      ≡ suffixes types (suc below) inner n begin (read (operand (e.PostInc by a (record { token = p; first = begin })) true) (suc h) rest)
   unfolding suffixes suffixed stepped
   step_step n begin p o by a h rest low one =
       rw (one, node_is below (operand (e.PostInc by a (record { token = p; first = begin })) true) h rest low) refl
@@ -173,7 +160,7 @@ module _ (types : List NameId) (below : ℕ) (inner : Wanted → Parse Phrase) w
       → binary_at (suc l) (Some o) ≡ Some op
       → inner_expr types (suc below) inner (Operators l) (r ++ rest) ≡ Some (read (operand b v) m rest)
       → chain types (suc below) inner (suc n) l begin (read (operand a u) h (punct o p ∷ (r ++ rest)))
-        ≡ chain types (suc below) inner n l begin (read (operand (e.Binary op a b (record { token = p; first = begin })) false) (suc (max h m)) rest)
+      ≡ chain types (suc below) inner n l begin (read (operand (e.Binary op a b (record { token = p; first = begin })) false) (suc (max h m)) rest)
   unfolding chain chained combined
   chain_step n l begin p o op a b u v h m r rest low is one =
       rw (is, one, node_is below (operand (e.Binary op a b (record { token = p; first = begin })) false) (max h m) rest low) refl
@@ -186,7 +173,7 @@ module _ (types : List NameId) (below : ℕ) (inner : Wanted → Parse Phrase) w
   sequence_step : (n : ℕ) (begin p : Pos) (a b : Expr) (u v : Bool) (h m : ℕ) (r rest : List Token) → max h m ≤ below
       → inner_expr types (suc below) inner Assignment (r ++ rest) ≡ Some (read (operand b v) m rest)
       → sequence types (suc below) inner (suc n) begin (read (operand a u) h (punct sign.Comma p ∷ (r ++ rest)))
-        ≡ sequence types (suc below) inner n begin (read (operand (e.Comma a b (record { token = p; first = begin })) false) (suc (max h m)) rest)
+      ≡ sequence types (suc below) inner n begin (read (operand (e.Comma a b (record { token = p; first = begin })) false) (suc (max h m)) rest)
   unfolding sequence sequencing sequenced
   sequence_step n begin p a b u v h m r rest low one =
       rw (one, node_is below (operand (e.Comma a b (record { token = p; first = begin })) false) (max h m) rest low) refl
@@ -345,7 +332,7 @@ module _ (types : List NameId) (below : ℕ) (inner : Wanted → Parse Phrase) (
 
   args_listed : {m : ℕ} {ts : List Expr} {s : List Token} → Listed types m ts s → m ≤ below → (n : ℕ) → length s ≤ n → (xs : List Expr) (h : ℕ) (q : Pos) (rest : List Token)
       → commas (inner_expr types (suc below) inner Assignment) with_tree never n xs h (s ++ punct sign.RightParen q ∷ rest)
-        ≡ Some (read (record { items = xs ++ ts; comma = false }) (max h m) (punct sign.RightParen q ∷ rest))
+      ≡ Some (read (record { items = xs ++ ts; comma = false }) (max h m) (punct sign.RightParen q ∷ rest))
   args_listed (one_argument {h = m} {t = t} {s = s} d) low n room xs h q rest =
       let one = parts.expr Assignment m t s (punct sign.RightParen q ∷ rest) d low refl in
       let some = not_empty (expr_begins types d) in
@@ -359,7 +346,7 @@ module _ (types : List NameId) (below : ℕ) (inner : Wanted → Parse Phrase) (
       let step = commas_more (inner_expr types (suc below) inner Assignment) with_tree never turn.0 xs h (s ++ punct sign.Comma p ∷ (r ++ punct sign.RightParen q ∷ rest)) (operand t one.0) m p (r ++ punct sign.RightParen q ∷ rest) one.1 refl in
       let others = args_listed more (omega arith) turn.0 (omega (arith, room, long, same)) (xs ++ t ∷ []) (max h m) q rest in
       rw (same, append_assoc s (punct sign.Comma p ∷ r) (punct sign.RightParen q ∷ rest))
-        (step ∙ (others ∙ ap₂ (λ (z : List Expr) (w : ℕ). Some (read (record { items = z; comma = false }) w (punct sign.RightParen q ∷ rest))) (append_assoc xs (t ∷ []) ts) (omega arith)))
+      (step ∙ (others ∙ ap₂ (λ (z : List Expr) (w : ℕ). Some (read (record { items = z; comma = false }) w (punct sign.RightParen q ∷ rest))) (append_assoc xs (t ∷ []) ts) (omega arith)))
 
   listed_begins : {m : ℕ} {ts : List Expr} {s : List Token} → Listed types m ts s → Begins (opens_expr types) s
   listed_begins (one_argument d) = expr_begins types d
@@ -392,26 +379,26 @@ module _ (types : List NameId) (below : ℕ) (inner : Wanted → Parse Phrase) (
       let tail = punct sign.LeftBracket p ∷ (r ++ punct sign.RightBracket q ∷ rest) in
       let one = parts.expr Whole m b r (punct sign.RightBracket q ∷ rest) x (omega arith) refl in
       further below (postfix types (suc below) inner) (suffixes types (suc below) inner) (opens_expr types) h a true s tail (expr_begins types d) (read_expr d (omega arith) tail refl) (omega arith)
-        (max h m) (e.Index a b (after s p)) true (punct sign.LeftBracket p ∷ (r ++ punct sign.RightBracket q ∷ [])) rest
-        (ap (λ (z : List Token). punct sign.LeftBracket p ∷ z) (append_assoc r (punct sign.RightBracket q ∷ []) rest)) (omega arith)
-        (λ n. index_step types below inner n (first_pos s) p q a b one.0 h m r rest (omega arith) one.1)
+      (max h m) (e.Index a b (after s p)) true (punct sign.LeftBracket p ∷ (r ++ punct sign.RightBracket q ∷ [])) rest
+      (ap (λ (z : List Token). punct sign.LeftBracket p ∷ z) (append_assoc r (punct sign.RightBracket q ∷ []) rest)) (omega arith)
+      (λ n. index_step types below inner n (first_pos s) p q a b one.0 h m r rest (omega arith) one.1)
   read_expr (g.a_call {h = h} {m = m} {a = a} {args = bs} {s = s} {r = r} p q d x) low rest = λ ends.
       let tail = punct sign.LeftParen p ∷ (r ++ punct sign.RightParen q ∷ rest) in
       let one = args_read x (omega arith) q rest in
       further below (postfix types (suc below) inner) (suffixes types (suc below) inner) (opens_expr types) h a true s tail (expr_begins types d) (read_expr d (omega arith) tail refl) (omega arith)
-        (max h m) (e.Call a bs (after s p)) true (punct sign.LeftParen p ∷ (r ++ punct sign.RightParen q ∷ [])) rest
-        (ap (λ (z : List Token). punct sign.LeftParen p ∷ z) (append_assoc r (punct sign.RightParen q ∷ []) rest)) (omega arith)
-        (λ n. call_step types below inner n (first_pos s) p q a bs h m r rest (omega arith) one)
+      (max h m) (e.Call a bs (after s p)) true (punct sign.LeftParen p ∷ (r ++ punct sign.RightParen q ∷ [])) rest
+      (ap (λ (z : List Token). punct sign.LeftParen p ∷ z) (append_assoc r (punct sign.RightParen q ∷ []) rest)) (omega arith)
+      (λ n. call_step types below inner n (first_pos s) p q a bs h m r rest (omega arith) one)
   read_expr (g.a_field {h = h} {a = a} {s = s} o arrow w p q is d) low rest = λ ends.
       let tail = punct o p ∷ word w q ∷ rest in
       further below (postfix types (suc below) inner) (suffixes types (suc below) inner) (opens_expr types) h a true s tail (expr_begins types d) (read_expr d (omega arith) tail refl) (omega arith)
-        h (e.Field a w arrow (after s q)) true (punct o p ∷ word w q ∷ []) rest refl (omega arith)
-        (λ n. field_step types below inner n (first_pos s) p q o arrow w a h rest (omega arith) (field_suffix o arrow is))
+      h (e.Field a w arrow (after s q)) true (punct o p ∷ word w q ∷ []) rest refl (omega arith)
+      (λ n. field_step types below inner n (first_pos s) p q o arrow w a h rest (omega arith) (field_suffix o arrow is))
   read_expr (g.a_step_behind {h = h} {a = a} {s = s} o by p is d) low rest = λ ends.
       let tail = punct o p ∷ rest in
       further below (postfix types (suc below) inner) (suffixes types (suc below) inner) (opens_expr types) h a true s tail (expr_begins types d) (read_expr d (omega arith) tail refl) (omega arith)
-        h (e.PostInc by a (after s p)) true (punct o p ∷ []) rest refl (omega arith)
-        (λ n. step_step types below inner n (first_pos s) p o by a h rest (omega arith) (step_suffix o by is))
+      h (e.PostInc by a (after s p)) true (punct o p ∷ []) rest refl (omega arith)
+      (λ n. step_step types below inner n (first_pos s) p o by a h rest (omega arith) (step_suffix o by is))
   read_expr (g.a_postfix {h = h} {t = t} {s = s} d) low rest = λ ends.
       let c = read_expr d low rest (ends_string 0 rest ends) in
       let b = longer (postfix_begins types d) rest in
@@ -428,13 +415,15 @@ module _ (types : List NameId) (below : ℕ) (inner : Wanted → Parse Phrase) (
   read_expr (g.a_size_of_type {h = h} {t = t} {s = s} p q o d) low rest = λ ends.
       let one = head_read types below inner parts d (omega arith) (punct sign.RightParen o ∷ rest) refl refl in
       rw (append_assoc s (punct sign.RightParen o ∷ []) rest, is_a_type types (longer (head_begins types d) (punct sign.RightParen o ∷ rest)), one)
-        (node_is below (operand (e.SizeofType t (at p)) true) h rest (omega arith))
+      (node_is below (operand (e.SizeofType t (at p)) true) h rest (omega arith))
   read_expr (g.a_prefix d) low rest = λ ends. (true, rw (prefix_no_cast types d rest) (read_expr d low rest ends))
   read_expr (g.a_cast {h = h} {m = m} {t = t} {a = a} {s = s} {r = r} p q d x) low rest = λ ends.
       let one = head_read types below inner parts d (omega arith) (punct sign.RightParen q ∷ (r ++ rest)) refl refl in
-      let two = parts.expr Cast m a r rest x (omega arith) ends in
-      (false, rw (append_assoc s (punct sign.RightParen q ∷ r) rest, is_a_type types (longer (head_begins types d) (punct sign.RightParen q ∷ (r ++ rest))), one, two.1)
-        (node_is below (operand (e.Cast t a (at p)) false) (max h m) rest (omega arith)))
+      let two = parts.expr Cast m a r rest x (omega arith) ends in (
+        false,
+        rw (append_assoc s (punct sign.RightParen q ∷ r) rest, is_a_type types (longer (head_begins types d) (punct sign.RightParen q ∷ (r ++ rest))), one, two.1)
+            (node_is below (operand (e.Cast t a (at p)) false) (max h m) rest (omega arith)),
+      )
   read_expr (g.an_operand d) low rest = λ ends. read_expr d low rest ends
   read_expr (g.stronger {l = l} {h = h} {t = t} {s = s} d) low rest = λ ends.
       let one = operators_read types below inner l h t s rest (read_expr d low rest) ends in
@@ -442,26 +431,28 @@ module _ (types : List NameId) (below : ℕ) (inner : Wanted → Parse Phrase) (
   read_expr (g.a_binary {l = l} {h = h} {m = m} {a = a} {b = b} {s = s} {r = r} o op p is d x) low rest = λ ends.
       let tail = punct o p ∷ (r ++ rest) in
       let c = read_expr d (omega arith) tail (binary_ends l o op p (r ++ rest) is) in
-      let one = parts.expr (Operators l) m b r rest x (omega arith) ends in
-      (false, further below (operators types (suc below) inner (suc l)) (λ n begin y. chain types (suc below) inner n l begin y) (opens_expr types) h a c.0 s tail (expr_begins types d) c.1 (omega arith)
-        (max h m) (e.Binary op a b (after s p)) false (punct o p ∷ r) rest refl (omega arith)
-        (λ n. chain_step types below inner n l (first_pos s) p o op a b c.0 one.0 h m r rest (omega arith) (binary_is_at l o op is) one.1))
+      let one = parts.expr (Operators l) m b r rest x (omega arith) ends in (
+        false,
+        further below (operators types (suc below) inner (suc l)) (λ n begin y. chain types (suc below) inner n l begin y) (opens_expr types) h a c.0 s tail (expr_begins types d) c.1 (omega arith)
+            (max h m) (e.Binary op a b (after s p)) false (punct o p ∷ r) rest refl (omega arith)
+            (λ n. chain_step types below inner n l (first_pos s) p o op a b c.0 one.0 h m r rest (omega arith) (binary_is_at l o op is) one.1),
+      )
   read_expr (g.no_choice {h = h} {t = t} {s = s} d) low rest = λ ends.
       let both = and_parts (ends_operators 10 rest) _ ends in
       let one = operators_read types below inner 10 h t s rest (read_expr d low rest) both.0 in
-      (one.0, choice_stop types below inner (s ++ rest) (read (operand t one.0) h rest) one.1 (false_is (is_question (front rest)) both.1))
+      (one.0, choice_stop types below inner (s ++ rest) (read (operand t one.0) h rest) one.1 (not-true (is_question (front rest)) both.1))
   read_expr (g.a_choice {h = h} {m = m} {n = n} {a = a} {b = b} {c = c} {s = s} {r = r} {u = x} p q d y z) low rest = λ ends.
       let tail = punct sign.Question p ∷ (r ++ punct sign.Colon q ∷ (x ++ rest)) in
       let one = operators_read types below inner 10 h a s tail (read_expr d (omega arith) tail) refl in
       let two = parts.expr Whole m b r (punct sign.Colon q ∷ (x ++ rest)) y (omega arith) refl in
       let three = parts.expr Choice n c x rest z (omega arith) ends in
       let flat : (s ++ punct sign.Question p ∷ (r ++ punct sign.Colon q ∷ x)) ++ rest ≡ s ++ tail
-              = append_assoc s (punct sign.Question p ∷ (r ++ punct sign.Colon q ∷ x)) rest ∙ ap (λ (w : List Token). s ++ punct sign.Question p ∷ w) (append_assoc r (punct sign.Colon q ∷ x) rest) in
+      = append_assoc s (punct sign.Question p ∷ (r ++ punct sign.Colon q ∷ x)) rest ∙ ap (λ (w : List Token). s ++ punct sign.Question p ∷ w) (append_assoc r (punct sign.Colon q ∷ x) rest) in
       (false, rw flat (choice_step types below inner (first_pos s) (s ++ tail) p q a b c one.0 two.0 three.0 h m n r x rest (omega arith) (first_stays (expr_begins types d) tail) one.1 two.1 three.1))
   read_expr (g.no_assignment {h = h} {t = t} {s = s} d) low rest = λ ends.
       let both = and_parts (ends_choice rest) _ ends in
       let one = read_expr d low rest both.0 in
-      (one.0, assignment_stop types below inner (s ++ rest) (read (operand t one.0) h rest) one.1 (none_is (assign_at (front rest)) both.1))
+      (one.0, assignment_stop types below inner (s ++ rest) (read (operand t one.0) h rest) one.1 (no_value (assign_at (front rest)) (not-true (is_some (assign_at (front rest))) both.1)))
   read_expr (g.an_assignment {h = h} {m = m} {a = a} {b = b} {s = s} {r = r} o op p is d x) low rest = λ ends.
       let tail = punct o p ∷ (r ++ rest) in
       let one = read_expr d (omega arith) tail (assign_ends 0 o op p (r ++ rest) is) in
@@ -475,10 +466,12 @@ module _ (types : List NameId) (below : ℕ) (inner : Wanted → Parse Phrase) (
   read_expr (g.a_comma {h = h} {m = m} {a = a} {b = b} {s = s} {r = r} p d x) low rest = λ ends.
       let tail = punct sign.Comma p ∷ (r ++ rest) in
       let c = read_expr d (omega arith) tail refl in
-      let one = parts.expr Assignment m b r rest x (omega arith) ends in
-      (false, further below (whole types (suc below) inner) (sequence types (suc below) inner) (opens_expr types) h a c.0 s tail (expr_begins types d) c.1 (omega arith)
-        (max h m) (e.Comma a b (after s p)) false (punct sign.Comma p ∷ r) rest refl (omega arith)
-        (λ n. sequence_step types below inner n (first_pos s) p a b c.0 one.0 h m r rest (omega arith) one.1))
+      let one = parts.expr Assignment m b r rest x (omega arith) ends in (
+        false,
+        further below (whole types (suc below) inner) (sequence types (suc below) inner) (opens_expr types) h a c.0 s tail (expr_begins types d) c.1 (omega arith)
+            (max h m) (e.Comma a b (after s p)) false (punct sign.Comma p ∷ r) rest refl (omega arith)
+            (λ n. sequence_step types below inner n (first_pos s) p a b c.0 one.0 h m r rest (omega arith) one.1),
+      )
 
   -- each level by itself, where what follows does not go on with it
   pub level_read : (level : Level) (h : ℕ) (t : Expr) (s rest : List Token) → Spells types level h t s → h ≤ suc below → ends_expr level rest ≡ true
@@ -496,4 +489,4 @@ module _ (types : List NameId) (below : ℕ) (inner : Wanted → Parse Phrase) (
   level_read Whole h t s rest d low ends =
       let both = and_parts (ends_assignment rest) _ ends in
       let c = read_expr d low rest both.0 in
-      (c.0, c.1.comes ∙ sequence_stop types below inner c.1.turns (first_pos s) (read (operand t c.0) h rest) (false_is (is_comma (front rest)) both.1))
+      (c.0, c.1.comes ∙ sequence_stop types below inner c.1.turns (first_pos s) (read (operand t c.0) h rest) (not-true (is_comma (front rest)) both.1))

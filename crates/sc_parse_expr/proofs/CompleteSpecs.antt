@@ -1,17 +1,15 @@
 -- What is spelled is read: specifiers, and the members and enumerators between their braces. By recursion
 -- on what spells them; parts under a node are read by `inner`.
-use Rattle.std.proofs.Common.{◌≡◌, ℕ, zero, suc, ◌+◌, ◌≤◌, max, Bool, true, false, not, ◌&&◌, ◌||◌, if◌then◌else◌, List, [], ◌∷◌, ◌++◌, length, Option, Some, None, refl, sym, ap, ap₂, subst, ◌∙◌, append_assoc, append-nil, arith, length-append}
-use Rattle.std.proofs.lemmas.Bool.{and_parts, or_parts}
+use Rattle.std.proofs.Common.{◌≡◌, ℕ, zero, suc, ◌≤◌, max, Bool, true, false, not, ◌&&◌, ◌||◌, List, [], ◌∷◌, ◌++◌, length, Option, Some, None, refl, sym, ap, ap₂, ◌∙◌, append_assoc, append-nil, arith, length-append}
+use Rattle.std.proofs.lemmas.Bool.{and_parts, both_ways, not-true, or_parts}
 use Rattle.sc_base.specs.declared.pos.Pos.{Pos}
 use Rattle.sc_base.specs.declared.pos.NameId.{NameId}
 use Rattle.sc_tree.specs.declared.token.Token.{Token}
 use Rattle.sc_tree.specs.declared.token.Kind.{Kind}
 use Rattle.sc_tree.specs.declared.token.Kind.TheVariants as k
-use Rattle.sc_tree.specs.declared.token.Punct.{Punct}
 use Rattle.sc_tree.specs.declared.token.Punct.TheVariants as sign
 use Rattle.sc_tree.specs.declared.token.Reserved.{Reserved}
 use Rattle.sc_tree.specs.declared.token.Reserved.TheVariants as key
-use Rattle.sc_tree.specs.declared.expr.Expr.{Expr}
 use Rattle.sc_tree.specs.declared.expr.Storage.{Storage}
 use Rattle.sc_tree.specs.declared.expr.Base.{Base}
 use Rattle.sc_tree.specs.declared.expr.Base.TheVariants as base
@@ -31,7 +29,7 @@ use Rattle.sc_tree.specs.declared.grammar.SoFar.TheVariants.{Untyped, Words, Typ
 use Rattle.sc_tree.specs.declared.grammar.Gathered.{Gathered}
 use Rattle.sc_tree.specs.declared.grammar.Specified.{Specified}
 use Rattle.sc_tree.specs.declared.ctype.CType.{CType}
-use Rattle.sc_tree.specs.Tokens.{word, punct, reserved, first_pos, is_type}
+use Rattle.sc_tree.specs.Tokens.{word, punct}
 use Rattle.sc_tree.specs.TypeWords.{storage_word, type_word, with_word, no_words, type_of}
 use Rattle.sc_tree.specs.Specifiers.{no_pieces, words_so_far, typed, stored, gathered_as, with_piece, with_pieces, specified, specified_words, finished_by, finished}
 use Rattle.sc_tree.specs.Tables.{◌>>=◌}
@@ -39,18 +37,14 @@ use Rattle.sc_tree.specs.Grammar as g
 use Rattle.sc_tree.specs.Grammar.{record_word, body_form, Spells, Specifies, pieces, Pieces, no_piece, more_pieces, APiece, Members, no_member, more_members, AMember, a_member, an_untagged, Parts, one_part, more_parts, APart, a_plain_part, a_bit_field, a_padding, Enumerators, last_enumerator, last_with_comma, more_enumerators, AnEnumerator, an_enumerator, an_enumerator_set, Declares}
 use Rattle.sc_parse_expr.specs.declared.found.Wanted.{Wanted}
 use Rattle.sc_parse_expr.specs.declared.found.Phrase.{Phrase}
-use Rattle.sc_parse_expr.specs.Front.{punct_of, word_of, reserved_of, front, front_word, front_reserved, behind, is_left_brace, is_right_brace, is_comma, is_colon, is_semicolon, is_equals, is_enum, is_some, is_star, is_left_paren, begins_piece}
-use Rattle.sc_parse_expr.specs.Read.{Read, read, Parse, node, Listed, commas, many}
-use Rattle.sc_parse_expr.specs.Reading.{Start, AStorage, AWord, ARecord, AnEnum, AName, NoStart, enum_start, record_start, word_start, storage_start, reserved_start, name_start, start, with_item, never, padding, with_width, part, lone_member, parts, member, member_of, record_piece, record_body, tagged_record, record_by, enumerator, enum_piece, enum_body, tagged_enum, enum_by, piece_by, starts, gathering, gather, specs}
+use Rattle.sc_parse_expr.specs.Front.{punct_of, reserved_of, front, front_word, front_reserved, is_left_brace, is_right_brace, is_colon, is_semicolon, is_equals, is_enum, is_some, begins_piece}
+use Rattle.sc_parse_expr.specs.Read.{read, Parse, commas, many}
+use Rattle.sc_parse_expr.specs.Reading.{Start, AStorage, AWord, ARecord, AnEnum, AName, NoStart, enum_start, record_start, word_start, storage_start, reserved_start, name_start, start, with_item, never, padding, with_width, part, parts, member, member_of, record_piece, record_body, tagged_record, record_by, enumerator, enum_piece, enum_body, tagged_enum, enum_by, piece_by, starts, gathering, gather, specs}
 use Rattle.sc_parse_expr.specs.Laws.{ends_choice, ends_specs, ends_declarator, opens_declarator}
 use Rattle.sc_parse_expr.proofs.Begins.{Begins, by_first, longer, weaker, not_empty, opens_piece, piece_begins, piece_no_sign, specs_begin, named_begins, expr_is_high, declarator_is_high}
-use Rattle.sc_parse_expr.proofs.Inner.{node_is, has_turn, commas_last, commas_end, commas_more, many_end, many_more, IsInner}
+use Rattle.sc_parse_expr.proofs.Inner.{no_value, node_is, has_turn, commas_last, commas_end, commas_more, many_end, many_more, IsInner}
 
 -- ---- what a word begins
-
-no_value : {A : Type 0} (o : Option A) → is_some o ≡ false → o ≡ None
-no_value (Some x) e = absurd cc
-no_value None e = refl
 
 word_not_storage : (w : Reserved) (x : TypeWord) → type_word w ≡ Some x → storage_word w ≡ None
 word_not_storage key.Typedef x e = absurd cc
@@ -124,19 +118,16 @@ whole_is Untyped b f so2 e = cc
 whole_is (Words ws) b f so2 e = absurd cc
 whole_is (Typed c x) b f so2 e = absurd cc
 
-not_both : {A : Type 0} (b : Bool) → b ≡ false → b ≡ true → A
-not_both b f t = absurd cc
-
 piece_is_high : {types : List NameId} {m : ℕ} {x : Piece} {s : List Token} → APiece types m x s → (so so2 : SoFar) (h : ℕ) → typed so x ≡ Some so2 → (is_untagged so ≡ true → 1 ≤ h) → is_untagged so2 ≡ true → 1 ≤ max h m
 piece_is_high (g.a_storage_word w x p e) so so2 h is high un =
     let same : so ≡ so2 = cc in
     let low = high (ap is_untagged same ∙ un) in omega arith
-piece_is_high (g.a_type_word w x p e) so so2 h is high un = not_both (is_untagged so2) (word_tagged so x so2 is) un
-piece_is_high (g.a_typedef_name w p e) so so2 h is high un = not_both (is_untagged so2) (ap is_untagged (sym (whole_is so _ _ so2 is))) un
-piece_is_high (g.a_record w u tag p q e) so so2 h is high un = not_both (is_untagged so2) (ap is_untagged (sym (whole_is so _ _ so2 is))) un
+piece_is_high (g.a_type_word w x p e) so so2 h is high un = absurd (both_ways (is_untagged so2) (word_tagged so x so2 is) un)
+piece_is_high (g.a_typedef_name w p e) so so2 h is high un = absurd (both_ways (is_untagged so2) (ap is_untagged (sym (whole_is so _ _ so2 is))) un)
+piece_is_high (g.a_record w u tag p q e) so so2 h is high un = absurd (both_ways (is_untagged so2) (ap is_untagged (sym (whole_is so _ _ so2 is))) un)
 piece_is_high (g.a_record_body w u p q o e ms) so so2 h is high un = omega arith
 piece_is_high (g.a_record_whole w u tag p q o v e ms) so so2 h is high un = omega arith
-piece_is_high (g.an_enum tag p q) so so2 h is high un = not_both (is_untagged so2) (ap is_untagged (sym (whole_is so _ _ so2 is))) un
+piece_is_high (g.an_enum tag p q) so so2 h is high un = absurd (both_ways (is_untagged so2) (ap is_untagged (sym (whole_is so _ _ so2 is))) un)
 piece_is_high (g.an_enum_body p q o xs) so so2 h is high un = omega arith
 piece_is_high (g.an_enum_whole tag p q o v xs) so so2 h is high un = omega arith
 
@@ -254,15 +245,11 @@ word_no_sign b = by_first front None b (λ t ts e. kind_word_sign t.kind e)
 
 -- ---- what follows
 
-false_is : (b : Bool) → not b ≡ true → b ≡ false
-false_is true e = absurd cc
-false_is false e = refl
-
 ends_piece : (ts : List Token) → ends_specs ts ≡ true → begins_piece (front_reserved ts) ≡ false
-ends_piece ts e = false_is (begins_piece (front_reserved ts)) (and_parts (not (begins_piece (front_reserved ts))) _ e).0
+ends_piece ts e = not-true (begins_piece (front_reserved ts)) (and_parts (not (begins_piece (front_reserved ts))) _ e).0
 
 ends_brace : (ts : List Token) → ends_specs ts ≡ true → is_left_brace (front ts) ≡ false
-ends_brace ts e = false_is (is_left_brace (front ts)) (and_parts (not (begins_piece (front_reserved ts))) _ e).1
+ends_brace ts e = not-true (is_left_brace (front ts)) (and_parts (not (begins_piece (front_reserved ts))) _ e).1
 
 pieces_no_brace : (types : List NameId) {h : ℕ} {ps : List Piece} {s : List Token} → Pieces types h ps s → (rest : List Token) → is_left_brace (front rest) ≡ false → is_left_brace (front (s ++ rest)) ≡ false
 pieces_no_brace types no_piece rest other = other
@@ -306,7 +293,7 @@ module _ (types : List NameId) (below : ℕ) (inner : Wanted → Parse Phrase) (
 
   parts_read : {m : ℕ} {xs : List Part} {s : List Token} → Parts types m xs s → m ≤ below → (n : ℕ) → length s ≤ n → (acc : List Part) (h : ℕ) (q : Pos) (rest : List Token)
       → commas (part types (suc below) inner) with_item never n acc h (s ++ punct sign.Semicolon q ∷ rest)
-        ≡ Some (read (record { items = acc ++ xs; comma = false }) (max h m) (punct sign.Semicolon q ∷ rest))
+      ≡ Some (read (record { items = acc ++ xs; comma = false }) (max h m) (punct sign.Semicolon q ∷ rest))
   parts_read (one_part {h = m} {x = x} {s = s} d) low n room acc h q rest =
       let one = part_read d low (punct sign.Semicolon q ∷ rest) refl refl refl in
       let some = not_empty (part_begins types d) in
@@ -320,7 +307,7 @@ module _ (types : List NameId) (below : ℕ) (inner : Wanted → Parse Phrase) (
       let step = commas_more (part types (suc below) inner) with_item never turn.0 acc h (s ++ punct sign.Comma p ∷ (r ++ punct sign.Semicolon q ∷ rest)) x m p (r ++ punct sign.Semicolon q ∷ rest) one refl in
       let others = parts_read more (omega arith) turn.0 (omega (arith, room, long, same)) (acc ++ x ∷ []) (max h m) q rest in
       rw (same, append_assoc s (punct sign.Comma p ∷ r) (punct sign.Semicolon q ∷ rest))
-        (step ∙ (others ∙ ap₂ (λ (z : List Part) (w : ℕ). Some (read (record { items = z; comma = false }) w (punct sign.Semicolon q ∷ rest))) (append_assoc acc (x ∷ []) xs) (omega arith)))
+      (step ∙ (others ∙ ap₂ (λ (z : List Part) (w : ℕ). Some (read (record { items = z; comma = false }) w (punct sign.Semicolon q ∷ rest))) (append_assoc acc (x ∷ []) xs) (omega arith)))
 
   member_read : {m : ℕ} {x : Member} {s : List Token} → AMember types m x s → m ≤ below → (rest : List Token) → member types (suc below) inner (s ++ rest) ≡ Some (read x m rest)
   unfolding member parts
@@ -343,7 +330,7 @@ module _ (types : List NameId) (below : ℕ) (inner : Wanted → Parse Phrase) (
       → many (member types (suc below) inner) with_item is_right_brace n acc h (s ++ punct sign.RightBrace q ∷ rest) ≡ Some (read (acc ++ xs) (max h m) (punct sign.RightBrace q ∷ rest))
   members_read no_member low n room acc h q rest =
       many_end (member types (suc below) inner) with_item is_right_brace n acc h (punct sign.RightBrace q ∷ rest) refl
-        ∙ ap₂ (λ (z : List Member) (w : ℕ). Some (read z w (punct sign.RightBrace q ∷ rest))) (sym (append-nil acc)) (omega arith)
+      ∙ ap₂ (λ (z : List Member) (w : ℕ). Some (read z w (punct sign.RightBrace q ∷ rest))) (sym (append-nil acc)) (omega arith)
   members_read (more_members {h = m} {m = j} {x = x} {xs = xs} {s = s} {r = r} d more) low n room acc h q rest =
       let tail = punct sign.RightBrace q ∷ rest in
       let begins = member_begins types d in
@@ -356,7 +343,7 @@ module _ (types : List NameId) (below : ℕ) (inner : Wanted → Parse Phrase) (
       let step = many_more (member types (suc below) inner) with_item is_right_brace turn.0 acc h (s ++ (r ++ tail)) x m (r ++ tail) no_brace one in
       let others = members_read more (omega arith) turn.0 (omega (arith, room, long, some, same)) (acc ++ x ∷ []) (max h m) q rest in
       rw (same, append_assoc s r tail)
-        (step ∙ (others ∙ ap₂ (λ (z : List Member) (w : ℕ). Some (read z w tail)) (append_assoc acc (x ∷ []) xs) (omega arith)))
+      (step ∙ (others ∙ ap₂ (λ (z : List Member) (w : ℕ). Some (read z w tail)) (append_assoc acc (x ∷ []) xs) (omega arith)))
 
   record_body_read : {m : ℕ} {xs : List Member} {s : List Token} → Members types m xs s → m ≤ below → (u : Bool) (p : Pos) (tag : Option NameId) (q : Pos) (rest : List Token)
       → record_body types (suc below) inner u p tag (s ++ punct sign.RightBrace q ∷ rest) ≡ Some (read (record_piece types (suc below) inner u p tag (Some xs) (body_form tag)) (suc m) rest)
@@ -379,7 +366,7 @@ module _ (types : List NameId) (below : ℕ) (inner : Wanted → Parse Phrase) (
 
   enumerators_read : {m : ℕ} {xs : List Enumerator} {s : List Token} → Enumerators types m xs s → m ≤ below → (n : ℕ) → length s ≤ n → (acc : List Enumerator) (h : ℕ) (q : Pos) (rest : List Token)
       → (c : Bool) × (commas (enumerator types (suc below) inner) with_item is_right_brace n acc h (s ++ punct sign.RightBrace q ∷ rest)
-        ≡ Some (read (record { items = acc ++ xs; comma = c }) (max h m) (punct sign.RightBrace q ∷ rest)))
+      ≡ Some (read (record { items = acc ++ xs; comma = c }) (max h m) (punct sign.RightBrace q ∷ rest)))
   enumerators_read (last_enumerator {h = m} {x = x} {s = s} d) low n room acc h q rest =
       let one = enumerator_read d low (punct sign.RightBrace q ∷ rest) refl refl in
       let some = not_empty (enumerator_begins d) in
@@ -399,11 +386,12 @@ module _ (types : List NameId) (below : ℕ) (inner : Wanted → Parse Phrase) (
       let same = turn.1 in
       let no_brace : is_right_brace (front (r ++ tail)) ≡ false = ap is_right_brace (word_no_sign (longer (enumerators_begin more) tail)) in
       let step = commas_more (enumerator types (suc below) inner) with_item is_right_brace turn.0 acc h (s ++ punct sign.Comma p ∷ (r ++ tail)) x m p (r ++ tail) one no_brace in
-      let others = enumerators_read more (omega arith) turn.0 (omega (arith, room, long, same)) (acc ++ x ∷ []) (max h m) q rest in
-      (others.0,
+      let others = enumerators_read more (omega arith) turn.0 (omega (arith, room, long, same)) (acc ++ x ∷ []) (max h m) q rest in (
+        others.0,
         ap (λ (z : ℕ). commas (enumerator types (suc below) inner) with_item is_right_brace z acc h ((s ++ punct sign.Comma p ∷ r) ++ tail)) same
-        ∙ (ap (λ (z : List Token). commas (enumerator types (suc below) inner) with_item is_right_brace (suc turn.0) acc h z) (append_assoc s (punct sign.Comma p ∷ r) tail)
-        ∙ (step ∙ (others.1 ∙ ap₂ (λ (z : List Enumerator) (w : ℕ). Some (read (record { items = z; comma = others.0 }) w tail)) (append_assoc acc (x ∷ []) xs) (omega arith)))))
+            ∙ (ap (λ (z : List Token). commas (enumerator types (suc below) inner) with_item is_right_brace (suc turn.0) acc h z) (append_assoc s (punct sign.Comma p ∷ r) tail)
+            ∙ (step ∙ (others.1 ∙ ap₂ (λ (z : List Enumerator) (w : ℕ). Some (read (record { items = z; comma = others.0 }) w tail)) (append_assoc acc (x ∷ []) xs) (omega arith)))),
+      )
 
   enum_body_read : {m : ℕ} {xs : List Enumerator} {s : List Token} → Enumerators types m xs s → m ≤ below → (p : Pos) (tag : Option NameId) (q : Pos) (rest : List Token)
       → enum_body types (suc below) inner p tag (s ++ punct sign.RightBrace q ∷ rest) ≡ Some (read (enum_piece types (suc below) inner p tag (Some xs) form.WithBody) (suc m) rest)
@@ -441,8 +429,8 @@ module _ (types : List NameId) (below : ℕ) (inner : Wanted → Parse Phrase) (
       let same : x ≡ y = cc in
       let none = none_starts types y.storage y.so_far f (front_reserved rest) (front_word rest) done (ends_piece rest ends) in
       ap (λ (z : Gathered). gather types (suc below) inner n z h rest) same
-        ∙ (gather_stop types below inner n y h rest none
-        ∙ ap (λ (w : ℕ). Some (read y w rest)) (omega arith))
+      ∙ (gather_stop types below inner n y h rest none
+      ∙ ap (λ (w : ℕ). Some (read y w rest)) (omega arith))
   pieces_read (more_pieces {h = i} {m = j} {x = p} {xs = ps} {s = s} {r = r} d more) low n room x h y f e done rest ends =
       let step = bind_is (with_piece x p) (λ z. with_pieces z ps) y e in
       let so = gathered_typed (stored x.storage p) (typed x.so_far p) step.0 step.1 in
@@ -453,8 +441,8 @@ module _ (types : List NameId) (below : ℕ) (inner : Wanted → Parse Phrase) (
       let same = turn.1 in
       let others = pieces_read more (omega arith) turn.0 (omega (arith, room, long, some, same)) step.0 (max h i) y f step.2 done rest ends in
       rw (same, append_assoc s r rest)
-        (gather_more types below inner turn.0 x step.0 h (s ++ (r ++ rest)) one.begun p i (r ++ rest) one.is one.real one.one step.1
-          ∙ (others ∙ ap (λ (w : ℕ). Some (read y w rest)) (omega arith)))
+      (gather_more types below inner turn.0 x step.0 h (s ++ (r ++ rest)) one.begun p i (r ++ rest) one.is one.real one.one step.1
+      ∙ (others ∙ ap (λ (w : ℕ). Some (read y w rest)) (omega arith)))
 
   pub read_specs : {h : ℕ} {f : Specified} {s : List Token} → Specifies types h f s → h ≤ suc below → (rest : List Token) → ends_specs rest ≡ true
       → specs types (suc below) inner (s ++ rest) ≡ Some (read f h rest)

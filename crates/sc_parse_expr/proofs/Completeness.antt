@@ -1,5 +1,5 @@
 -- What is spelled with a height of at most the limit is read: by recursion on the limit.
-use Rattle.std.proofs.Common.{◌≡◌, ℕ, zero, suc, ◌≤◌, Bool, true, List, ◌++◌, Some, refl, arith}
+use Rattle.std.proofs.Common.{◌≡◌, ℕ, zero, suc, ◌≤◌, List, ◌++◌, Some, refl, arith}
 use Rattle.sc_base.specs.declared.pos.NameId.{NameId}
 use Rattle.sc_tree.specs.declared.token.Token.{Token}
 use Rattle.sc_tree.specs.declared.grammar.Level.{Level}
@@ -33,24 +33,24 @@ none_below h high low = let bad : ⊥ = omega arith in absurd bad
 
 parts_of : (types : List NameId) (below : ℕ) → IsComplete types below → IsInner types below (parse types below)
 parts_of types below c = record {
-    expr = c.expr;
-    specs = c.specs;
-    declarator = c.declarator
-  }
+  expr = c.expr;
+  specs = c.specs;
+  declarator = c.declarator;
+}
 
 next : (types : List NameId) (below : ℕ) → IsInner types below (parse types below) → IsComplete types (suc below)
 next types below known = record {
-    expr = λ level h t s rest d low ends.
+  expr = λ level h t s rest d low ends.
       let one = level_read types below (parse types below) known level h t s rest d low ends in
       (one.0, expr_from types below level (s ++ rest) (read (operand t one.0) h rest) one.1);
-    specs = λ h f s rest d low some ends. specs_from types below (s ++ rest) _ (read_specs types below (parse types below) known d low rest ends);
-    declarator = λ n c h t s rest d low ends. declarator_from types below n (s ++ rest) _ (read_declarator types below (parse types below) known d low rest ends)
-  }
+  specs = λ h f s rest d low some ends. specs_from types below (s ++ rest) _ (read_specs types below (parse types below) known d low rest ends);
+  declarator = λ n c h t s rest d low ends. declarator_from types below n (s ++ rest) _ (read_declarator types below (parse types below) known d low rest ends);
+}
 
 pub complete : (types : List NameId) (limit : ℕ) → IsComplete types limit
 complete types zero = record {
-    expr = λ level h t s rest d low ends. none_below h (expr_is_high d) low;
-    specs = λ h f s rest d low some ends. none_below 1 (omega arith) some;
-    declarator = λ n c h t s rest d low ends. none_below h (declarator_is_high d) low
-  }
+  expr = λ level h t s rest d low ends. none_below h (expr_is_high d) low;
+  specs = λ h f s rest d low some ends. none_below 1 (omega arith) some;
+  declarator = λ n c h t s rest d low ends. none_below h (declarator_is_high d) low;
+}
 complete types (suc below) = next types below (parts_of types below (complete types below))

@@ -1,6 +1,5 @@
 -- What is known of the reading of parts, and lists that are read item by item.
-use Rattle.std.proofs.Common.{◌≡◌, ℕ, zero, suc, ◌≤◌, max, Bool, true, false, not, ◌&&◌, ◌||◌, List, [], ◌∷◌, ◌++◌, length, Option, Some, None, refl, sym, ap, subst, ◌∙◌, append_assoc, arith, lt-ltb}
-use Rattle.std.proofs.lemmas.Bool.{and_from}
+use Rattle.std.proofs.Common.{◌≡◌, ℕ, zero, suc, ◌≤◌, max, Bool, true, false, not, ◌&&◌, List, ◌∷◌, ◌++◌, Option, Some, None, refl, ap, ◌∙◌, append_assoc, arith, lt-ltb}
 use Rattle.sc_base.specs.declared.pos.Pos.{Pos}
 use Rattle.sc_base.specs.declared.pos.NameId.{NameId}
 use Rattle.sc_tree.specs.declared.token.Token.{Token}
@@ -15,21 +14,21 @@ use Rattle.sc_tree.specs.declared.grammar.Level.{Level}
 use Rattle.sc_tree.specs.declared.grammar.Naming.{Naming}
 use Rattle.sc_tree.specs.declared.grammar.Core.{Core}
 use Rattle.sc_tree.specs.declared.grammar.Specified.{Specified}
-use Rattle.sc_tree.specs.Tokens.{punct, first_pos, is_type}
-use Rattle.sc_tree.specs.Tables.{◌>>=◌}
+use Rattle.sc_tree.specs.Tokens.{punct}
 use Rattle.sc_tree.specs.Grammar.{may_lack, Spells, Heads, a_head, Specifies, Declares}
 use Rattle.sc_parse_expr.specs.declared.found.Wanted.{Wanted}
-use Rattle.sc_parse_expr.specs.declared.found.Wanted.TheVariants as want
 use Rattle.sc_parse_expr.specs.declared.found.Phrase.{Phrase}
-use Rattle.sc_parse_expr.specs.declared.found.Operand.{Operand}
-use Rattle.sc_parse_expr.specs.declared.found.Headed.{Headed}
-use Rattle.sc_parse_expr.specs.Front.{punct_of, reserved_of, front, front_reserved, behind, is_comma, is_left_brace, begins_piece}
-use Rattle.sc_parse_expr.specs.Read.{Read, read, Parse, node, Listed, commas, listed, listing, many}
+use Rattle.sc_parse_expr.specs.Front.{punct_of, reserved_of, front, is_comma, is_left_brace, is_some, begins_piece}
+use Rattle.sc_parse_expr.specs.Read.{read, Parse, node, commas, listed, listing, many}
 use Rattle.sc_parse_expr.specs.Reading.{operand, declared, inner_expr, inner_specs, inner_declarator, inner_head, headed}
 use Rattle.sc_parse_expr.specs.Laws.{ends_expr, ends_specs, ends_declarator}
-use Rattle.sc_parse_expr.proofs.Begins.{Begins, by_first, longer, first_stays, MayBegin, left_out, opened, opens_declared, specs_begin, declarator_begins, declarator_is_high}
+use Rattle.sc_parse_expr.proofs.Begins.{by_first, longer, first_stays, MayBegin, left_out, opened, opens_declared, specs_begin, declarator_begins, declarator_is_high}
 
 -- ---- steps
+
+pub no_value : {A : Type 0} (o : Option A) → is_some o ≡ false → o ≡ None
+no_value (Some x) e = absurd cc
+no_value None e = refl
 
 pub node_is : {A : Type 0} (below : ℕ) (x : A) (high : ℕ) (rest : List Token) → high ≤ below → node (suc below) x high rest ≡ Some (read x (suc high) rest)
 node_is below x high rest low = rw (lt-ltb high (suc below) (omega arith)) refl
@@ -97,9 +96,6 @@ may_end_specs types {n = n} (opened b) rest ends = by_first ends_specs true (lon
 
 pub declarator_ends_specs : (types : List NameId) {n : Naming} {c : Core} {h : ℕ} {t : Declarator} {s : List Token} → Declares types n c h t s → (rest : List Token) → ends_specs rest ≡ true → ends_specs (s ++ rest) ≡ true
 declarator_ends_specs types d rest ends = may_end_specs types (declarator_begins types d) rest ends
-
-
-
 
 module _ (types : List NameId) (below : ℕ) (inner : Wanted → Parse Phrase) (parts : IsInner types below inner) where
   pub head_read : {n : Naming} {named : Bool} {h : ℕ} {t : Head} {s : List Token} → Heads types n named h t s → h ≤ below → (rest : List Token) → ends_specs rest ≡ true → ends_declarator rest ≡ true

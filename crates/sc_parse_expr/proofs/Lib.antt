@@ -1,11 +1,11 @@
 pub mod Begins
-pub mod Inner
 pub mod Tools
 pub mod SoundLists
 pub mod SoundExpr
 pub mod SoundSpecs
 pub mod SoundDeclarator
 pub mod SoundReading
+pub mod Inner
 pub mod CompleteExpr
 pub mod CompleteSpecs
 pub mod CompleteDeclarator

@@ -1,18 +1,14 @@
 -- Declarators: what is read is spelled.
-use Rattle.std.proofs.Common.{◌≡◌, ℕ, zero, suc, ◌+◌, ◌≤◌, max, Bool, true, false, List, [], ◌∷◌, ◌++◌, length, Option, Some, None, ◌⊎◌, inl, inr, refl, sym, ap, subst, ◌∙◌, append_assoc, arith, ⊎_elim}
+use Rattle.std.proofs.Common.{◌≡◌, ℕ, zero, suc, ◌≤◌, max, Bool, true, false, List, [], ◌∷◌, ◌++◌, length, Option, Some, None, refl, sym, ap, subst, ◌∙◌, append_assoc, arith, ⊎_elim}
 use Rattle.std.specs.Prelude.{if◌then◌else◌, ◌&&◌, ◌||◌, not}
 use Rattle.std.proofs.lemmas.Bool.{and_parts}
 use Rattle.std.proofs.lemmas.List.{append-nil}
-use Rattle.sc_base.specs.declared.pos.Pos.{Pos}
 use Rattle.sc_base.specs.declared.pos.NameId.{NameId}
 use Rattle.sc_tree.specs.declared.token.Token.{Token}
 use Rattle.sc_tree.specs.declared.token.Kind.{Kind}
 use Rattle.sc_tree.specs.declared.token.Kind.TheVariants as k
-use Rattle.sc_tree.specs.declared.token.Punct.{Punct}
 use Rattle.sc_tree.specs.declared.token.Punct.TheVariants as sign
-use Rattle.sc_tree.specs.declared.token.Reserved.{Reserved}
 use Rattle.sc_tree.specs.declared.token.Reserved.TheVariants as key
-use Rattle.sc_tree.specs.declared.expr.Expr.{Expr}
 use Rattle.sc_tree.specs.declared.expr.Head.{Head}
 use Rattle.sc_tree.specs.declared.expr.Declarator.{Declarator}
 use Rattle.sc_tree.specs.declared.expr.Declarator.TheVariants as d
@@ -22,20 +18,20 @@ use Rattle.sc_tree.specs.declared.grammar.Naming.TheVariants as naming
 use Rattle.sc_tree.specs.declared.grammar.Core.{Core}
 use Rattle.sc_tree.specs.declared.grammar.Core.TheVariants as core
 use Rattle.sc_tree.specs.Tables.{◌>>=◌}
-use Rattle.sc_tree.specs.Tokens.{word, punct, reserved, first_pos}
-use Rattle.sc_tree.specs.Grammar.{may_name, may_lack, covered, called, is_named, is_void_word, is_void, Heads, Declares, Directs, Parameters, ManyHeads, a_direct, a_pointer, a_declared_name, no_name, in_brackets, an_array, an_array_of, a_function, no_parameters, void_alone, the_parameters, and_more, one_head, more_heads}
+use Rattle.sc_tree.specs.Tokens.{punct, reserved, first_pos}
+use Rattle.sc_tree.specs.Grammar.{may_name, may_lack, covered, called, is_void_word, is_void, Heads, Declares, Directs, Parameters, ManyHeads, a_direct, a_pointer, a_declared_name, no_name, in_brackets, an_array, an_array_of, a_function, no_parameters, void_alone, the_parameters, and_more, one_head, more_heads}
 use Rattle.sc_parse_expr.specs.declared.found.Wanted.{Wanted}
 use Rattle.sc_parse_expr.specs.declared.found.Phrase.{Phrase}
 use Rattle.sc_parse_expr.specs.declared.found.Declared.{Declared}
 use Rattle.sc_parse_expr.specs.declared.found.Headed.{Headed}
-use Rattle.sc_parse_expr.specs.Front.{reserved_of, front, front_word, front_reserved, behind, is_left_paren, is_right_paren, is_right_bracket, is_comma, is_star, is_ellipsis, is_void_key, begins_type, Suffix, Indexing, Calling, Fielding, Stepping, NoSuffix, suffix}
+use Rattle.sc_parse_expr.specs.Front.{reserved_of, front, front_word, front_reserved, behind, is_left_paren, is_right_paren, is_right_bracket, is_star, is_ellipsis, is_void_key, begins_type, Suffix, Indexing, Calling, suffix}
 use Rattle.sc_parse_expr.specs.Read.{Read, read, Parse, node, taking, Listed, commas}
 use Rattle.sc_parse_expr.specs.Reading as r
 use Rattle.sc_parse_expr.specs.Reading.{declared, Params, params, Roll, enrolled}
 use Rattle.sc_parse_expr.specs.Laws.{TakesDeclarator}
-use Rattle.sc_parse_expr.proofs.Tools.{Bound, bind_some, some_is, if_is, test_is, given, node_is, Splits, none, glue, One, front_is, front_word_is, front_reserved_is, left_paren, right_paren, right_bracket, star, ellipsis, void_key, taken, index_there, call_there}
-use Rattle.sc_parse_expr.proofs.SoundLists.{Item, Chained, last, more, Ending, plain, with_comma, all_added, TookListed, commas_took}
-use Rattle.sc_parse_expr.proofs.SoundExpr.{SoundParts, TookHead, head_took}
+use Rattle.sc_parse_expr.proofs.Tools.{bind_some, if_is, test_is, given, node_is, Splits, none, glue, One, front_is, front_word_is, front_reserved_is, left_paren, right_paren, right_bracket, star, ellipsis, void_key, taken, index_there, call_there}
+use Rattle.sc_parse_expr.proofs.SoundLists.{Item, Chained, last, more, Ending, plain, with_comma, all_added, commas_took}
+use Rattle.sc_parse_expr.proofs.SoundExpr.{SoundParts, head_took}
 
 -- ---- a declarator that must have a name is not empty
 
@@ -131,7 +127,6 @@ record TookHeads (types : List NameId) (ts : List Token) (x : Read (Listed Roll)
   pub ending : Ending is_ellipsis x.it.comma tail x.rest
 
 module _ (types : List NameId) (limit below : ℕ) (inner : Wanted → Parse Phrase) (parts : SoundParts types below limit inner) where
-
   -- a node that was made over what was taken
   made : (n : Naming) (ts : List Token) (t : Declarator) (c : Core) (h : ℕ) (rest : List Token) (x : Read Declared) → node limit (declared t c) h rest ≡ Some x → {span : List Token}
       → Splits ts span rest → Directs types n c (suc h) t span → TookDirect types limit n ts x
@@ -152,14 +147,14 @@ module _ (types : List NameId) (limit below : ℕ) (inner : Wanted → Parse Phr
   unfolding r.unnamed r.enclosed
   unnamed_took n ts x is = ⊎_elim
       (λ y. let two = and_parts (is_left_paren (front ts)) (r.encloses types limit inner n (behind ts)) y.0 in
-          let a = bind_some (r.inner_declarator types limit inner n (behind ts)) (r.enclosed types limit inner) x y.1 in
-          let c = bind_some (taking is_right_paren a.value.rest) _ x a.gives in
-          let w = parts.declarator n (behind ts) a.value a.is in
-          enclosed_took n ts (behind ts) (front_is ts sign.LeftParen (left_paren (front ts) two.0)) two.1 a.value w c.value c.is x c.gives w.span (record { is = w.split }) w.spelled)
+      let a = bind_some (r.inner_declarator types limit inner n (behind ts)) (r.enclosed types limit inner) x y.1 in
+      let c = bind_some (taking is_right_paren a.value.rest) _ x a.gives in
+      let w = parts.declarator n (behind ts) a.value a.is in
+      enclosed_took n ts (behind ts) (front_is ts sign.LeftParen (left_paren (front ts) two.0)) two.1 a.value w c.value c.is x c.gives w.span (record { is = w.split }) w.spelled)
       (λ y. let t = test_is (may_lack n) (node limit (declared (d.Name None) core.Nameless) 0 ts) x y.1 in
-          made n ts (d.Name None) core.Nameless 0 ts x t.1 (none ts) (no_name n t.0))
+      made n ts (d.Name None) core.Nameless 0 ts x t.1 (none ts) (no_name n t.0))
       (if_is (is_left_paren (front ts) && r.encloses types limit inner n (behind ts)) (r.inner_declarator types limit inner n (behind ts) >>= r.enclosed types limit inner)
-        (if may_lack n then node limit (declared (d.Name None) core.Nameless) 0 ts else None) (Some x) is)
+      (if may_lack n then node limit (declared (d.Name None) core.Nameless) 0 ts else None) (Some x) is)
 
   begun_took : (n : Naming) (ts : List Token) (o : Option NameId) → front_word ts ≡ o → (x : Read Declared) → r.begun types limit inner n o ts ≡ Some x → TookDirect types limit n ts x
   unfolding r.begun
@@ -176,14 +171,14 @@ module _ (types : List NameId) (limit below : ℕ) (inner : Wanted → Parse Phr
   array_took n ts a t there x is =
       let o = index_there a.rest there in
       ⊎_elim
-        (λ y. made n ts (d.Array a.it.declarator None) (covered a.it.core) a.height (behind (behind a.rest)) x y.1
-          (glue t.split (glue o (front_is (behind a.rest) sign.RightBracket (right_bracket (front (behind a.rest)) y.0)))) (an_array (first_pos a.rest) (first_pos (behind a.rest)) t.spelled))
-        (λ y. let l = bind_some (r.inner_expr types limit inner Choice (behind a.rest)) _ x y.1 in
-            let c = bind_some (taking is_right_bracket l.value.rest) _ x l.gives in
-            let w = parts.expr Choice (behind a.rest) l.value l.is in
-            made n ts (d.Array a.it.declarator (Some l.value.it.tree)) (covered a.it.core) (max a.height l.value.height) c.value x c.gives
-              (glue t.split (glue o (glue (record { is = w.split }) (taken is_right_bracket sign.RightBracket right_bracket l.value.rest c.value c.is)))) (an_array_of (first_pos a.rest) (first_pos l.value.rest) t.spelled w.spelled))
-        (if_is (is_right_bracket (front (behind a.rest))) (r.open_array types limit inner a) (r.long_array types limit inner a) (Some x) is)
+      (λ y. made n ts (d.Array a.it.declarator None) (covered a.it.core) a.height (behind (behind a.rest)) x y.1
+      (glue t.split (glue o (front_is (behind a.rest) sign.RightBracket (right_bracket (front (behind a.rest)) y.0)))) (an_array (first_pos a.rest) (first_pos (behind a.rest)) t.spelled))
+      (λ y. let l = bind_some (r.inner_expr types limit inner Choice (behind a.rest)) _ x y.1 in
+      let c = bind_some (taking is_right_bracket l.value.rest) _ x l.gives in
+      let w = parts.expr Choice (behind a.rest) l.value l.is in
+      made n ts (d.Array a.it.declarator (Some l.value.it.tree)) (covered a.it.core) (max a.height l.value.height) c.value x c.gives
+      (glue t.split (glue o (glue (record { is = w.split }) (taken is_right_bracket sign.RightBracket right_bracket l.value.rest c.value c.is)))) (an_array_of (first_pos a.rest) (first_pos l.value.rest) t.spelled w.spelled))
+      (if_is (is_right_bracket (front (behind a.rest))) (r.open_array types limit inner a) (r.long_array types limit inner a) (Some x) is)
 
   -- ---- parameters
 
@@ -195,9 +190,14 @@ module _ (types : List NameId) (limit below : ℕ) (inner : Wanted → Parse Phr
       let t = commas_took (r.inner_head types limit inner naming.Optional) enrolled is_ellipsis (IsParameter types) parameter_took (length ts) (roll [] true) 0 ts x is in
       let items : roll (heads t.xs) (all_named t.xs) ≡ x.it.items = sym (t.whole ∙ all_enrolled (roll [] true) t.xs) in
       let tall : t.height ≡ x.height = (let e = t.tall in omega arith) in
-      record { span = t.span; tail = t.tail; split = t.split; ending = t.ending;
+      record {
+        span = t.span;
+        tail = t.tail;
+        split = t.split;
+        ending = t.ending;
         spelled = subst (λ (m : ℕ). ManyHeads types x.it.items.named m x.it.items.heads t.span) tall
-          (subst (λ (z : Roll). ManyHeads types z.named t.height z.heads t.span) items (heads_of t.chained)) }
+            (subst (λ (z : Roll). ManyHeads types z.named t.height z.heads t.span) items (heads_of t.chained));
+      }
 
   -- heads with nothing or with `, ...` behind, and not `void` alone
   heads_end : (ts span : List Token) (hs : Roll) (h : ℕ) → ManyHeads types hs.named h hs.heads span → (is_void_key (front_reserved ts) && is_right_paren (front (behind ts))) ≡ false
@@ -210,7 +210,7 @@ module _ (types : List NameId) (limit below : ℕ) (inner : Wanted → Parse Phr
   heads_end ts span hs h many alone _ _ _ (with_comma p rest dots) split z is =
       let q = first_pos rest in
       let here : Splits ts (span ++ punct sign.Comma p ∷ punct sign.Ellipsis q ∷ []) (behind rest) = subst (λ (u : List Token). Splits ts u (behind rest)) (append_assoc span (punct sign.Comma p ∷ []) (punct sign.Ellipsis q ∷ []))
-          (glue split (front_is rest sign.Ellipsis (ellipsis (front rest) dots))) in
+      (glue split (front_is rest sign.Ellipsis (ellipsis (front rest) dots))) in
       given (λ (y : Read Params). TookParameters types ts y) _ z is (record { span = span ++ punct sign.Comma p ∷ punct sign.Ellipsis q ∷ []; split = here; spelled = λ close. and_more p q many })
 
   void_took : (ts : List Token) → is_void_key (front_reserved ts) ≡ true → (x : Read Params) → Some (read (params (Some []) true false) 0 (behind ts)) ≡ Some x → TookParameters types ts x
@@ -231,12 +231,12 @@ module _ (types : List NameId) (limit below : ℕ) (inner : Wanted → Parse Phr
       let void_read : Option (Read Params) = Some (read (params (Some []) true false) 0 (behind ts)) in
       let heads_read = commas (r.inner_head types limit inner naming.Optional) enrolled is_ellipsis (length ts) (roll [] true) 0 ts >>= r.listed_params types limit inner in
       ⊎_elim
-        (λ y. given (λ (z : Read Params). TookParameters types ts z) (read (params None true false) 0 ts) x y.1 (record { span = []; split = none ts; spelled = λ close. no_parameters }))
-        (λ y. ⊎_elim
-          (λ z. void_took ts (and_parts (is_void_key (front_reserved ts)) (is_right_paren (front (behind ts))) z.0).0 x z.1)
-          (λ z. listed_took ts z.0 x z.1)
-          (if_is void_there void_read heads_read (Some x) y.1))
-        (if_is (is_right_paren (front ts)) (Some (read (params None true false) 0 ts)) (if void_there then void_read else heads_read) (Some x) is)
+      (λ y. given (λ (z : Read Params). TookParameters types ts z) (read (params None true false) 0 ts) x y.1 (record { span = []; split = none ts; spelled = λ close. no_parameters }))
+      (λ y. ⊎_elim
+      (λ z. void_took ts (and_parts (is_void_key (front_reserved ts)) (is_right_paren (front (behind ts))) z.0).0 x z.1)
+      (λ z. listed_took ts z.0 x z.1)
+      (if_is void_there void_read heads_read (Some x) y.1))
+      (if_is (is_right_paren (front ts)) (Some (read (params None true false) 0 ts)) (if void_there then void_read else heads_read) (Some x) is)
 
   function_took : (n : Naming) (ts : List Token) (a : Read Declared) → TookDirect types limit n ts a → suffix (front a.rest) ≡ Calling → (x : Read Declared) → r.function_of types limit inner a ≡ Some x → TookDirect types limit n ts x
   unfolding r.function_of
@@ -246,8 +246,8 @@ module _ (types : List NameId) (limit below : ℕ) (inner : Wanted → Parse Phr
       let w = parameters_took (behind a.rest) ps.value ps.is in
       let right = (test_is (is_right_paren (front ps.value.rest)) (Some (behind ps.value.rest)) c.value c.is).0 in
       made n ts (d.Func a.it.declarator ps.value.it.heads ps.value.it.dots) (called ps.value.it.named a.it.core) (max a.height ps.value.height) c.value x c.gives
-        (glue t.split (glue (call_there a.rest there) (glue w.split (taken is_right_paren sign.RightParen right_paren ps.value.rest c.value c.is))))
-        (a_function (first_pos a.rest) (first_pos ps.value.rest) t.spelled (w.spelled right))
+      (glue t.split (glue (call_there a.rest there) (glue w.split (taken is_right_paren sign.RightParen right_paren ps.value.rest c.value c.is))))
+      (a_function (first_pos a.rest) (first_pos ps.value.rest) t.spelled (w.spelled right))
 
   -- ---- what stands behind the name
 
@@ -276,7 +276,7 @@ module _ (types : List NameId) (limit below : ℕ) (inner : Wanted → Parse Phr
       let under : Splits (behind ts) w.span a.rest = record { is = w.split } in
       let o = glue (front_is ts sign.Star (star (front ts) there)) under in
       node_is (λ (y : Read Declared). TakesDeclarator types limit n ts y) limit (declared (d.Pointer a.it.declarator) (covered a.it.core)) a.height a.rest x is
-        (λ low. record { span = punct sign.Star (first_pos ts) ∷ w.span; split = o.is; spelled = a_pointer (first_pos ts) w.spelled; low = low })
+      (λ low. record { span = punct sign.Star (first_pos ts) ∷ w.span; split = o.is; spelled = a_pointer (first_pos ts) w.spelled; low = low })
 
   pub declarator_took : (n : Naming) (ts : List Token) (x : Read Declared) → r.declarator types limit inner n ts ≡ Some x → TakesDeclarator types limit n ts x
   unfolding r.declarator

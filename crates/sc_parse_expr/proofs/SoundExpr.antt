@@ -1,6 +1,6 @@
 -- Expressions: what is read is spelled.
-use Rattle.std.proofs.Common.{◌≡◌, ℕ, zero, suc, ◌+◌, ◌≤◌, max, Bool, true, false, List, [], ◌∷◌, ◌++◌, length, Option, Some, None, ◌⊎◌, inl, inr, refl, sym, ap, subst, ◌∙◌, append_assoc, arith, ⊎_elim}
-use Rattle.std.specs.Prelude.{if◌then◌else◌, ◌&&◌}
+use Rattle.std.proofs.Common.{◌≡◌, ℕ, zero, suc, ◌≤◌, max, Bool, true, false, List, [], ◌∷◌, ◌++◌, length, Option, Some, None, refl, sym, ap, subst, ◌∙◌, append_assoc, arith, ⊎_elim}
+use Rattle.std.specs.Prelude.{◌&&◌}
 use Rattle.std.proofs.lemmas.Bool.{and_parts}
 use Rattle.std.proofs.lemmas.List.{append-nil}
 use Rattle.sc_base.specs.declared.pos.Pos.{Pos}
@@ -10,30 +10,26 @@ use Rattle.sc_tree.specs.declared.token.Kind.{Kind}
 use Rattle.sc_tree.specs.declared.token.Kind.TheVariants as k
 use Rattle.sc_tree.specs.declared.token.Punct.{Punct}
 use Rattle.sc_tree.specs.declared.token.Punct.TheVariants as sign
-use Rattle.sc_tree.specs.declared.token.Reserved.{Reserved}
 use Rattle.sc_tree.specs.declared.token.Reserved.TheVariants as key
 use Rattle.sc_tree.specs.declared.token.StrToken.{StrToken}
 use Rattle.sc_tree.specs.declared.op.BinaryOp.{BinaryOp}
 use Rattle.sc_tree.specs.declared.op.UnaryOp.{UnaryOp}
 use Rattle.sc_tree.specs.declared.op.AssignOp.{AssignOp}
 use Rattle.sc_tree.specs.declared.op.Step.{Step}
-use Rattle.sc_tree.specs.declared.expr.Place.{Place}
 use Rattle.sc_tree.specs.declared.expr.Expr.{Expr}
 use Rattle.sc_tree.specs.declared.expr.Expr.TheVariants as e
-use Rattle.sc_tree.specs.declared.expr.Head.{Head, roll-Head}
-use Rattle.sc_tree.specs.declared.expr.Declarator.{Declarator}
+use Rattle.sc_tree.specs.declared.expr.Head.{roll-Head}
 use Rattle.sc_tree.specs.declared.grammar.Level.{Level}
 use Rattle.sc_tree.specs.declared.grammar.Level.TheVariants.{Primary, Postfix, Prefix, Cast, Operators, Choice, Assignment, Whole}
 use Rattle.sc_tree.specs.declared.grammar.Naming.{Naming}
 use Rattle.sc_tree.specs.declared.grammar.Naming.TheVariants as naming
-use Rattle.sc_tree.specs.declared.grammar.Core.{Core}
 use Rattle.sc_tree.specs.declared.grammar.Gathered.{Gathered}
 use Rattle.sc_tree.specs.declared.grammar.Specified.{Specified}
 use Rattle.sc_tree.specs.Specifiers.{no_pieces, finished}
 use Rattle.sc_tree.specs.declared.grammar.Piece.{Piece}
 use Rattle.sc_tree.specs.Tables.{◌>>=◌}
-use Rattle.sc_tree.specs.Tokens.{token, word, punct, reserved, first_pos, at, after, is_type}
-use Rattle.sc_tree.specs.Operators.{binding, binary, unary, step, assign, field}
+use Rattle.sc_tree.specs.Tokens.{token, word, punct, first_pos, at, is_type}
+use Rattle.sc_tree.specs.Operators.{unary}
 use Rattle.sc_tree.specs.Grammar.{is_named, Strings, one_string, more_strings, Spells, Arguments, Heads, Specifies, Declares, a_name, an_int, a_char, an_odd, a_string, brackets, a_primary, an_index, a_call, a_field, a_step_behind, a_postfix, a_unary, a_step_before, a_size, a_size_of_type, a_prefix, a_cast, an_operand, stronger, a_binary, no_choice, a_choice, no_assignment, an_assignment, no_comma, a_comma, no_arguments, arguments, one_argument, more_arguments, a_head, pieces, no_piece, more_pieces, APiece, a_storage_word, a_type_word, a_typedef_name, a_record, a_record_body, a_record_whole, an_enum, an_enum_body, an_enum_whole}
 use Rattle.sc_tree.specs.Grammar as grammar
 use Rattle.sc_parse_expr.specs.declared.found.Wanted.{Wanted}
@@ -41,12 +37,12 @@ use Rattle.sc_parse_expr.specs.declared.found.Phrase.{Phrase}
 use Rattle.sc_parse_expr.specs.declared.found.Operand.{Operand}
 use Rattle.sc_parse_expr.specs.declared.found.Declared.{Declared}
 use Rattle.sc_parse_expr.specs.declared.found.Headed.{Headed}
-use Rattle.sc_parse_expr.specs.Front.{string_of, front, front_word, front_reserved, behind, is_left_paren, is_right_paren, is_right_bracket, is_comma, is_colon, is_question, is_sizeof, begins_type, binary_at, unary_at, step_at, assign_at, Suffix, Indexing, Calling, Fielding, Stepping, NoSuffix, suffix}
+use Rattle.sc_parse_expr.specs.Front.{front, front_word, front_reserved, behind, is_left_paren, is_right_paren, is_right_bracket, is_comma, is_colon, is_question, is_sizeof, begins_type, binary_at, unary_at, step_at, assign_at, Suffix, Indexing, Calling, Fielding, Stepping, NoSuffix, suffix}
 use Rattle.sc_parse_expr.specs.Read.{Read, read, Parse, node, taking, Listed, commas}
 use Rattle.sc_parse_expr.specs.Reading as r
 use Rattle.sc_parse_expr.specs.Reading.{operand, place, strings, past_strings, joined, passed, with_tree, never}
 use Rattle.sc_parse_expr.specs.Laws.{TakesExpr, TakesSpecs, TakesDeclarator}
-use Rattle.sc_parse_expr.proofs.Tools.{Bound, bind_some, if_is, test_is, given, node_is, Splits, none, glue, One, front_is, front_word_is, front_reserved_is, left_paren, right_paren, right_bracket, comma, colon, question, sizeof, taken, IsOperator, unary_is, step_is, assign_is, binary_is, index_there, call_there, field_there, step_there}
+use Rattle.sc_parse_expr.proofs.Tools.{bind_some, if_is, test_is, given, node_is, Splits, none, glue, One, front_is, front_word_is, front_reserved_is, left_paren, right_paren, right_bracket, comma, colon, question, sizeof, taken, unary_is, step_is, assign_is, binary_is, index_there, call_there, field_there, step_there}
 use Rattle.sc_parse_expr.proofs.SoundLists.{Item, Chained, last, more, Ending, plain, with_comma, all_added, TookListed, commas_took}
 
 -- What the parser of the parts takes, with trees of at most that height.
@@ -135,7 +131,6 @@ all_trees before (x ∷ xs) = all_trees (before ++ x.tree ∷ []) xs ∙ append_
 -- ---- expressions
 
 module _ (types : List NameId) (limit below : ℕ) (inner : Wanted → Parse Phrase) (parts : SoundParts types below limit inner) where
-
   -- a node that was made over what was taken
   made : (level : Level) (ts : List Token) (t : Expr) (u : Bool) (h : ℕ) (rest : List Token) (x : Read Operand) → node limit (operand t u) h rest ≡ Some x → {first : Token} {others : List Token}
       → Splits ts (first ∷ others) rest → Spells types level (suc h) t (first ∷ others) → (u ≡ true → Spells types Prefix (suc h) t (first ∷ others)) → Took types limit level ts x
@@ -156,8 +151,11 @@ module _ (types : List NameId) (limit below : ℕ) (inner : Wanted → Parse Phr
       let d = parts.declarator n a.value.rest b.value b.is in
       let from : first_pos s.span ≡ first_pos ts = sym (specs_begin s.spelled a.value.rest) ∙ sym (ap first_pos s.split) in
       given (λ (y : Read Headed). TookHead types n ts y) (r.headed types limit inner ts a.value b.value) x b.gives
-        (record { span = s.span ++ d.span; split = glue (record { is = s.split }) (record { is = d.split });
-            spelled = subst (λ (p : Pos). Heads types n (is_named b.value.it.core) (max a.value.height b.value.height) (roll-Head (record { pos = p; specs = a.value.it.specs; declarator = b.value.it.declarator })) (s.span ++ d.span)) from (a_head s.spelled d.spelled) })
+      (record {
+        span = s.span ++ d.span;
+        split = glue (record { is = s.split }) (record { is = d.split });
+        spelled = subst (λ (p : Pos). Heads types n (is_named b.value.it.core) (max a.value.height b.value.height) (roll-Head (record { pos = p; specs = a.value.it.specs; declarator = b.value.it.declarator })) (s.span ++ d.span)) from (a_head s.spelled d.spelled);
+      })
 
   -- ---- operands
 
@@ -172,7 +170,7 @@ module _ (types : List NameId) (limit below : ℕ) (inner : Wanted → Parse Phr
   string_took y p us x is = let t = strings_took us in
       let spelled : Spells types Primary 1 (e.Str (y ∷ strings us) (at p)) (token (k.Str y) p ∷ t.span) = a_string (t.spelled y p) in
       made Primary (token (k.Str y) p ∷ us) (e.Str (y ∷ strings us) (at p)) true 0 (past_strings us) x is
-        (record { is = ap (λ (v : List Token). token (k.Str y) p ∷ v) t.split.is }) spelled (λ u. a_postfix (a_primary spelled))
+      (record { is = ap (λ (v : List Token). token (k.Str y) p ∷ v) t.split.is }) spelled (λ u. a_postfix (a_primary spelled))
 
   bracketed_took : (ts : List Token) (us : List Token) (a x : Read Operand) → One ts (punct sign.LeftParen (first_pos ts)) us → TakesExpr types below Whole us a → r.bracketed types limit inner a ≡ Some x → Took types limit Primary ts x
   unfolding r.bracketed
@@ -220,17 +218,20 @@ module _ (types : List NameId) (limit below : ℕ) (inner : Wanted → Parse Phr
   some_arguments ts y t =
       let items : trees t.xs ≡ y.it.items = sym (t.whole ∙ all_trees [] t.xs) in
       let tall : t.height ≡ y.height = (let h = t.tall in omega arith) in
-      record { span = t.span ++ t.tail; split = t.split;
+      record {
+        span = t.span ++ t.tail;
+        split = t.split;
         spelled = subst (λ (u : List Token). Arguments types y.height y.it.items u) (sym (ap (λ (u : List Token). t.span ++ u) (no_tail y.it.comma t.tail y.rest t.ending) ∙ append-nil t.span))
-          (subst (λ (m : ℕ). Arguments types m y.it.items t.span) tall (subst (λ (xs : List Expr). Arguments types t.height xs t.span) items (arguments (listed_of t.xs t.height t.span t.chained)))) }
+            (subst (λ (m : ℕ). Arguments types m y.it.items t.span) tall (subst (λ (xs : List Expr). Arguments types t.height xs t.span) items (arguments (listed_of t.xs t.height t.span t.chained))));
+      }
 
   arguments_took : (ts : List Token) (x : Read (List Expr)) → r.arguments types limit inner ts ≡ Some x → TookArguments types ts x
   unfolding r.arguments
   arguments_took ts x is = ⊎_elim
       (λ t. given (λ (y : Read (List Expr)). TookArguments types ts y) (read [] 0 ts) x t.1 (record { span = []; split = none ts; spelled = no_arguments }))
       (λ t. let a = bind_some (commas (r.inner_expr types limit inner Assignment) with_tree never (length ts) [] 0 ts) (λ y. Some (read y.it.items y.height y.rest)) x t.1 in
-          given (λ (y : Read (List Expr)). TookArguments types ts y) (read a.value.it.items a.value.height a.value.rest) x a.gives
-            (some_arguments ts a.value (commas_took (r.inner_expr types limit inner Assignment) with_tree never (λ (b : Operand) m u. Spells types Assignment m b.tree u) argument_took (length ts) [] 0 ts a.value a.is)))
+      given (λ (y : Read (List Expr)). TookArguments types ts y) (read a.value.it.items a.value.height a.value.rest) x a.gives
+      (some_arguments ts a.value (commas_took (r.inner_expr types limit inner Assignment) with_tree never (λ (b : Operand) m u. Spells types Assignment m b.tree u) argument_took (length ts) [] 0 ts a.value a.is)))
       (if_is (is_right_paren (front ts)) (Some (read [] 0 ts)) (commas (r.inner_expr types limit inner Assignment) with_tree never (length ts) [] 0 ts >>= λ y. Some (read y.it.items y.height y.rest)) (Some x) is)
 
   indexed_took : (ts : List Token) (a : Read Operand) → Took types limit Postfix ts a → suffix (front a.rest) ≡ Indexing → (x : Read Operand) → r.indexed types limit inner (first_pos ts) a ≡ Some x → Took types limit Postfix ts x
@@ -242,7 +243,7 @@ module _ (types : List NameId) (limit below : ℕ) (inner : Wanted → Parse Phr
       let close = taken is_right_bracket sign.RightBracket right_bracket b.value.rest c.value c.is in
       let spelled = moved (λ p. e.Index a.it.tree b.value.it.tree (place p (first_pos a.rest))) (first_is t.split) (an_index (first_pos a.rest) (first_pos b.value.rest) t.spelled w.spelled) in
       made Postfix ts (e.Index a.it.tree b.value.it.tree (place (first_pos ts) (first_pos a.rest))) true (max a.height b.value.height) c.value x c.gives
-        (glue t.split (glue (index_there a.rest there) (glue (record { is = w.split }) close))) spelled (λ u. a_postfix spelled)
+      (glue t.split (glue (index_there a.rest there) (glue (record { is = w.split }) close))) spelled (λ u. a_postfix spelled)
 
   calling_took : (ts : List Token) (a : Read Operand) → Took types limit Postfix ts a → suffix (front a.rest) ≡ Calling → (x : Read Operand) → r.calling types limit inner (first_pos ts) a ≡ Some x → Took types limit Postfix ts x
   unfolding r.calling
@@ -253,7 +254,7 @@ module _ (types : List NameId) (limit below : ℕ) (inner : Wanted → Parse Phr
       let close = taken is_right_paren sign.RightParen right_paren b.value.rest c.value c.is in
       let spelled = moved (λ p. e.Call a.it.tree b.value.it (place p (first_pos a.rest))) (first_is t.split) (a_call (first_pos a.rest) (first_pos b.value.rest) t.spelled w.spelled) in
       made Postfix ts (e.Call a.it.tree b.value.it (place (first_pos ts) (first_pos a.rest))) true (max a.height b.value.height) c.value x c.gives
-        (glue t.split (glue (call_there a.rest there) (glue w.split close))) spelled (λ u. a_postfix spelled)
+      (glue t.split (glue (call_there a.rest there) (glue w.split close))) spelled (λ u. a_postfix spelled)
 
   fielded_took : (arrow : Bool) (ts : List Token) (a : Read Operand) → Took types limit Postfix ts a → suffix (front a.rest) ≡ Fielding arrow → (x : Read Operand) → r.fielded types limit inner (first_pos ts) arrow a ≡ Some x → Took types limit Postfix ts x
   unfolding r.fielded
@@ -263,7 +264,7 @@ module _ (types : List NameId) (limit below : ℕ) (inner : Wanted → Parse Phr
       let q = first_pos (behind a.rest) in
       let spelled = moved (λ p. e.Field a.it.tree w.value arrow (place p q)) (first_is t.split) (a_field o.sign arrow w.value (first_pos a.rest) q o.row t.spelled) in
       made Postfix ts (e.Field a.it.tree w.value arrow (place (first_pos ts) q)) true a.height (behind (behind a.rest)) x w.gives
-        (glue t.split (glue o.there (front_word_is (behind a.rest) w.value w.is))) spelled (λ u. a_postfix spelled)
+      (glue t.split (glue o.there (front_word_is (behind a.rest) w.value w.is))) spelled (λ u. a_postfix spelled)
 
   stepped_took : (by : Step) (ts : List Token) (a : Read Operand) → Took types limit Postfix ts a → suffix (front a.rest) ≡ Stepping by → (x : Read Operand) → r.stepped types limit inner (first_pos ts) by a ≡ Some x → Took types limit Postfix ts x
   unfolding r.stepped
@@ -372,7 +373,7 @@ module _ (types : List NameId) (limit below : ℕ) (inner : Wanted → Parse Phr
       let c = bind_some (taking is_right_paren t.value.rest) _ x t.gives in
       let a = bind_some (r.inner_expr types limit inner Cast c.value) _ x c.gives in
       cast_made ts (behind ts) c.value t.value a.value x (front_is ts sign.LeftParen (left_paren (front ts) round)) (head_took naming.Absent (behind ts) t.value t.is)
-        (taken is_right_paren sign.RightParen right_paren t.value.rest c.value c.is) (parts.expr Cast c.value a.value a.is) a.gives
+      (taken is_right_paren sign.RightParen right_paren t.value.rest c.value c.is) (parts.expr Cast c.value a.value a.is) a.gives
 
   casts_took : (ts : List Token) (x : Read Operand) → r.casts types limit inner ts ≡ Some x → Took types limit Cast ts x
   unfolding r.casts
@@ -391,8 +392,8 @@ module _ (types : List NameId) (limit below : ℕ) (inner : Wanted → Parse Phr
       let b = bind_some (r.inner_expr types limit inner (Operators l) (behind a.rest)) _ x is in
       let w = parts.expr (Operators l) (behind a.rest) b.value b.is in
       made_loose (Operators (suc l)) ts (e.Binary op a.it.tree b.value.it.tree (place (first_pos ts) (first_pos a.rest))) (max a.height b.value.height) b.value.rest x b.gives
-        (glue t.split (glue o.there (record { is = w.split })))
-        (moved (λ p. e.Binary op a.it.tree b.value.it.tree (place p (first_pos a.rest))) (first_is t.split) (a_binary o.sign op (first_pos a.rest) o.row t.spelled w.spelled))
+      (glue t.split (glue o.there (record { is = w.split })))
+      (moved (λ p. e.Binary op a.it.tree b.value.it.tree (place p (first_pos a.rest))) (first_is t.split) (a_binary o.sign op (first_pos a.rest) o.row t.spelled w.spelled))
 
   chained_took : (go : Read Operand → Option (Read Operand)) (l : ℕ) (ts : List Token) → ((b y : Read Operand) → Took types limit (Operators (suc l)) ts b → go b ≡ Some y → Took types limit (Operators (suc l)) ts y)
       → (a : Read Operand) → Took types limit (Operators (suc l)) ts a → (o : Option BinaryOp) → binary_at (suc l) (front a.rest) ≡ o → (x : Read Operand) → r.chained types limit inner go l (first_pos ts) o a ≡ Some x
@@ -421,8 +422,8 @@ module _ (types : List NameId) (limit below : ℕ) (inner : Wanted → Parse Phr
       → node limit (operand (e.Cond a.it.tree b.it.tree c.it.tree (place (first_pos ts) (first_pos a.rest))) false) (max a.height (max b.height c.height)) c.rest ≡ Some x → Took types limit Choice ts x
   choice_made ts us vs a b c x t o w between v is =
       made_loose Choice ts (e.Cond a.it.tree b.it.tree c.it.tree (place (first_pos ts) (first_pos a.rest))) (max a.height (max b.height c.height)) c.rest x is
-        (glue t.split (glue o (glue (record { is = w.split }) (glue between (record { is = v.split })))))
-        (moved (λ p. e.Cond a.it.tree b.it.tree c.it.tree (place p (first_pos a.rest))) (first_is t.split) (a_choice (first_pos a.rest) (first_pos b.rest) t.spelled w.spelled v.spelled))
+      (glue t.split (glue o (glue (record { is = w.split }) (glue between (record { is = v.split })))))
+      (moved (λ p. e.Cond a.it.tree b.it.tree c.it.tree (place p (first_pos a.rest))) (first_is t.split) (a_choice (first_pos a.rest) (first_pos b.rest) t.spelled w.spelled v.spelled))
 
   chosen_took : (ts : List Token) (a : Read Operand) → Took types limit (Operators 10) ts a → is_question (front a.rest) ≡ true → (x : Read Operand) → r.chosen types limit inner (first_pos ts) a ≡ Some x → Took types limit Choice ts x
   unfolding r.chosen
@@ -431,7 +432,7 @@ module _ (types : List NameId) (limit below : ℕ) (inner : Wanted → Parse Phr
       let c = bind_some (taking is_colon b.value.rest) _ x b.gives in
       let d = bind_some (r.inner_expr types limit inner Choice c.value) _ x c.gives in
       choice_made ts (behind a.rest) c.value a b.value d.value x t (front_is a.rest sign.Question (question (front a.rest) there)) (parts.expr Whole (behind a.rest) b.value b.is)
-        (taken is_colon sign.Colon colon b.value.rest c.value c.is) (parts.expr Choice c.value d.value d.is) d.gives
+      (taken is_colon sign.Colon colon b.value.rest c.value c.is) (parts.expr Choice c.value d.value d.is) d.gives
 
   choosing_took : (ts : List Token) (a : Read Operand) → Took types limit (Operators 10) ts a → (x : Read Operand) → r.choosing types limit inner (first_pos ts) a ≡ Some x → Took types limit Choice ts x
   unfolding r.choosing
@@ -454,8 +455,8 @@ module _ (types : List NameId) (limit below : ℕ) (inner : Wanted → Parse Phr
       let b = bind_some (r.inner_expr types limit inner Assignment (behind a.rest)) _ x is in
       let w = parts.expr Assignment (behind a.rest) b.value b.is in
       made_loose Assignment ts (e.Assign op a.it.tree b.value.it.tree (place (first_pos ts) (first_pos a.rest))) (max a.height b.value.height) b.value.rest x b.gives
-        (glue t.split (glue o.there (record { is = w.split })))
-        (moved (λ p. e.Assign op a.it.tree b.value.it.tree (place p (first_pos a.rest))) (first_is t.split) (an_assignment o.sign op (first_pos a.rest) o.row (t.prefixed unary) w.spelled))
+      (glue t.split (glue o.there (record { is = w.split })))
+      (moved (λ p. e.Assign op a.it.tree b.value.it.tree (place p (first_pos a.rest))) (first_is t.split) (an_assignment o.sign op (first_pos a.rest) o.row (t.prefixed unary) w.spelled))
 
   assigning_took : (ts : List Token) (a : Read Operand) → Took types limit Choice ts a → (u : Bool) → a.it.unary ≡ u → (o : Option AssignOp) → assign_at (front a.rest) ≡ o
       → (x : Read Operand) → r.assigning types limit inner (first_pos ts) u o a ≡ Some x → Took types limit Assignment ts x
@@ -477,8 +478,8 @@ module _ (types : List NameId) (limit below : ℕ) (inner : Wanted → Parse Phr
       let b = bind_some (r.inner_expr types limit inner Assignment (behind a.rest)) _ x is in
       let w = parts.expr Assignment (behind a.rest) b.value b.is in
       made_loose Whole ts (e.Comma a.it.tree b.value.it.tree (place (first_pos ts) (first_pos a.rest))) (max a.height b.value.height) b.value.rest x b.gives
-        (glue t.split (glue o (record { is = w.split })))
-        (moved (λ p. e.Comma a.it.tree b.value.it.tree (place p (first_pos a.rest))) (first_is t.split) (a_comma (first_pos a.rest) t.spelled w.spelled))
+      (glue t.split (glue o (record { is = w.split })))
+      (moved (λ p. e.Comma a.it.tree b.value.it.tree (place p (first_pos a.rest))) (first_is t.split) (a_comma (first_pos a.rest) t.spelled w.spelled))
 
   sequencing_took : (go : Read Operand → Option (Read Operand)) (ts : List Token) → ((b y : Read Operand) → Took types limit Whole ts b → go b ≡ Some y → Took types limit Whole ts y)
       → (a : Read Operand) → Took types limit Whole ts a → (c : Bool) → is_comma (front a.rest) ≡ c → (x : Read Operand) → r.sequencing types limit inner go (first_pos ts) c a ≡ Some x → Took types limit Whole ts x

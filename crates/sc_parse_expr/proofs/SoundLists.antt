@@ -1,5 +1,5 @@
 -- What lists that are read item by item have taken.
-use Rattle.std.proofs.Common.{◌≡◌, ℕ, zero, suc, ◌+◌, ◌≤◌, max, Bool, true, false, List, [], ◌∷◌, ◌++◌, Option, Some, None, ◌⊎◌, inl, inr, refl, sym, ap, subst, ◌∙◌, append_assoc, arith, ⊎_elim}
+use Rattle.std.proofs.Common.{◌≡◌, ℕ, zero, suc, max, Bool, true, false, List, [], ◌∷◌, ◌++◌, Option, Some, refl, sym, subst, ◌∙◌, append_assoc, arith, ⊎_elim}
 use Rattle.std.specs.Prelude.{if◌then◌else◌}
 use Rattle.std.proofs.lemmas.List.{append-nil}
 use Rattle.sc_base.specs.declared.pos.Pos.{Pos}
@@ -69,13 +69,19 @@ regroup {ts = ts} {rest = rest} s x t e = subst (λ (u : List Token). Splits ts 
 
 module _ {A B : Type 0} (item : Parse A) (add : B → A → B) (ends : Option Punct → Bool) (Good : A → ℕ → List Token → Type 0)
     (reads : (ts : List Token) (a : Read A) → item ts ≡ Some a → Item Good ts a) where
-
   onto_more : (b : B) (h : ℕ) (ts : List Token) (a : Read A) (i : Item Good ts a) (us : List Token) (p : Pos) → One a.rest (punct sign.Comma p) us → (r : Read (Listed B))
       → TookListed add ends Good (add b a.it) (max h a.height) us r → TookListed add ends Good b h ts r
   onto_more b h ts a i us p c r t = record {
-      xs = a.it ∷ t.xs; height = max a.height t.height; span = i.span ++ punct sign.Comma p ∷ t.span; tail = t.tail;
-      split = regroup i.span (punct sign.Comma p ∷ t.span) t.tail (glue i.split (glue c t.split));
-      chained = more p i.good t.chained; tall = (let e = t.tall in omega arith); whole = t.whole; ending = t.ending }
+    xs = a.it ∷ t.xs;
+    height = max a.height t.height;
+    span = i.span ++ punct sign.Comma p ∷ t.span;
+    tail = t.tail;
+    split = regroup i.span (punct sign.Comma p ∷ t.span) t.tail (glue i.split (glue c t.split));
+    chained = more p i.good t.chained;
+    tall = (let e = t.tall in omega arith);
+    whole = t.whole;
+    ending = t.ending;
+  }
 
   listing_took : (go : B → ℕ → Parse (Listed B)) → ((ys : B) (m : ℕ) (us : List Token) (r : Read (Listed B)) → go ys m us ≡ Some r → TookListed add ends Good ys m us r)
       → (b : B) (h : ℕ) (ts : List Token) (a : Read A) → Item Good ts a → (r : Read (Listed B)) (c : Bool) → is_comma (front a.rest) ≡ c
@@ -86,11 +92,20 @@ module _ {A B : Type 0} (item : Parse A) (add : B → A → B) (ends : Option Pu
   listing_took go ih b h ts a i r true is e =
       let c = front_is a.rest sign.Comma (comma (front a.rest) is) in
       ⊎_elim
-        (λ t. given (λ (y : Read (Listed B)). TookListed add ends Good b h ts y) _ r (t.1)
-          (record { xs = a.it ∷ []; height = a.height; span = i.span; tail = punct sign.Comma (first_pos a.rest) ∷ []; split = glue i.split c; chained = last i.good; tall = refl; whole = refl;
-              ending = with_comma (first_pos a.rest) (behind a.rest) t.0 }))
-        (λ t. onto_more b h ts a i (behind a.rest) (first_pos a.rest) c r (ih (add b a.it) (max h a.height) (behind a.rest) r t.1))
-        (if_is (ends (front (behind a.rest))) (Some (read (record { items = add b a.it; comma = true }) (max h a.height) (behind a.rest))) (go (add b a.it) (max h a.height) (behind a.rest)) (Some r) e)
+      (λ t. given (λ (y : Read (Listed B)). TookListed add ends Good b h ts y) _ r (t.1)
+      (record {
+        xs = a.it ∷ [];
+        height = a.height;
+        span = i.span;
+        tail = punct sign.Comma (first_pos a.rest) ∷ [];
+        split = glue i.split c;
+        chained = last i.good;
+        tall = refl;
+        whole = refl;
+        ending = with_comma (first_pos a.rest) (behind a.rest) t.0;
+      }))
+      (λ t. onto_more b h ts a i (behind a.rest) (first_pos a.rest) c r (ih (add b a.it) (max h a.height) (behind a.rest) r t.1))
+      (if_is (ends (front (behind a.rest))) (Some (read (record { items = add b a.it; comma = true }) (max h a.height) (behind a.rest))) (go (add b a.it) (max h a.height) (behind a.rest)) (Some r) e)
 
   -- what stands between commas
   pub commas_took : (n : ℕ) (b : B) (h : ℕ) (ts : List Token) (r : Read (Listed B)) → commas item add ends n b h ts ≡ Some r → TookListed add ends Good b h ts r
@@ -105,8 +120,16 @@ module _ {A B : Type 0} (item : Parse A) (add : B → A → B) (ends : Option Pu
       (record { xs = []; height = 0; span = []; split = none ts; row = empty; tall = omega arith; whole = refl; ended = is })
 
   onto_next : (b : B) (h : ℕ) (ts : List Token) (a : Read A) (i : Item Good ts a) (r : Read B) → TookMany add ends Good (add b a.it) (max h a.height) a.rest r → TookMany add ends Good b h ts r
-  onto_next b h ts a i r t = record { xs = a.it ∷ t.xs; height = max a.height t.height; span = i.span ++ t.span; split = glue i.split t.split; row = next i.good t.row;
-      tall = (let e = t.tall in omega arith); whole = t.whole; ended = t.ended }
+  onto_next b h ts a i r t = record {
+    xs = a.it ∷ t.xs;
+    height = max a.height t.height;
+    span = i.span ++ t.span;
+    split = glue i.split t.split;
+    row = next i.good t.row;
+    tall = (let e = t.tall in omega arith);
+    whole = t.whole;
+    ended = t.ended;
+  }
 
   -- what stands up to where the test says that it ends
   pub many_took : (n : ℕ) (b : B) (h : ℕ) (ts : List Token) (r : Read B) → many item add ends n b h ts ≡ Some r → TookMany add ends Good b h ts r
@@ -115,5 +138,5 @@ module _ {A B : Type 0} (item : Parse A) (add : B → A → B) (ends : Option Pu
   many_took (suc n) b h ts r e = ⊎_elim
       (λ t. ended_there b h ts r t.0 t.1)
       (λ t. let a = bind_some (item ts) (λ a. many item add ends n (add b a.it) (max h a.height) a.rest) r t.1 in
-          onto_next b h ts a.value (reads ts a.value a.is) r (many_took n (add b a.value.it) (max h a.value.height) a.value.rest r a.gives))
+      onto_next b h ts a.value (reads ts a.value a.is) r (many_took n (add b a.value.it) (max h a.value.height) a.value.rest r a.gives))
       (if_is (ends (front ts)) (Some (read b h ts)) (item ts >>= λ a. many item add ends n (add b a.it) (max h a.height) a.rest) (Some r) e)

@@ -1,6 +1,6 @@
 -- Specifiers: what is read is spelled.
-use Rattle.std.proofs.Common.{◌≡◌, ℕ, zero, suc, ◌+◌, ◌≤◌, max, Bool, true, false, List, [], ◌∷◌, ◌++◌, length, Option, Some, None, ◌⊎◌, inl, inr, refl, sym, ap, subst, ◌∙◌, append_assoc, arith, ⊎_elim}
-use Rattle.std.specs.Prelude.{if◌then◌else◌, ◌&&◌}
+use Rattle.std.proofs.Common.{◌≡◌, ℕ, zero, suc, ◌≤◌, max, Bool, true, false, List, [], ◌∷◌, ◌++◌, length, Option, Some, None, refl, sym, ap, subst, ◌∙◌, append_assoc, arith, ⊎_elim}
+use Rattle.std.specs.Prelude.{if◌then◌else◌}
 use Rattle.std.proofs.lemmas.List.{append-nil}
 use Rattle.sc_base.specs.declared.pos.Pos.{Pos}
 use Rattle.sc_base.specs.declared.pos.NameId.{NameId}
@@ -9,23 +9,18 @@ use Rattle.sc_tree.specs.declared.token.Punct.{Punct}
 use Rattle.sc_tree.specs.declared.token.Punct.TheVariants as sign
 use Rattle.sc_tree.specs.declared.token.Reserved.{Reserved}
 use Rattle.sc_tree.specs.declared.token.Reserved.TheVariants as key
-use Rattle.sc_tree.specs.declared.expr.Expr.{Expr}
 use Rattle.sc_tree.specs.declared.expr.Storage.{Storage}
-use Rattle.sc_tree.specs.declared.expr.Base.TheVariants as base
-use Rattle.sc_tree.specs.declared.expr.Member.{Member, roll-Member}
-use Rattle.sc_tree.specs.declared.expr.Part.{Part, roll-Part}
-use Rattle.sc_tree.specs.declared.expr.Enumerator.{Enumerator, roll-Enumerator}
-use Rattle.sc_tree.specs.declared.grammar.Level.{Level}
+use Rattle.sc_tree.specs.declared.expr.Member.{Member}
+use Rattle.sc_tree.specs.declared.expr.Part.{Part}
+use Rattle.sc_tree.specs.declared.expr.Enumerator.{Enumerator}
 use Rattle.sc_tree.specs.declared.grammar.Level.TheVariants.{Choice}
-use Rattle.sc_tree.specs.declared.grammar.Naming.{Naming}
 use Rattle.sc_tree.specs.declared.grammar.Naming.TheVariants as naming
 use Rattle.sc_tree.specs.declared.grammar.BodyForm.{BodyForm}
 use Rattle.sc_tree.specs.declared.grammar.BodyForm.TheVariants as form
 use Rattle.sc_tree.specs.declared.grammar.TypeWord.{TypeWord}
 use Rattle.sc_tree.specs.declared.grammar.Piece.{Piece}
-use Rattle.sc_tree.specs.declared.grammar.Piece.TheVariants as piece
 use Rattle.sc_tree.specs.declared.grammar.SoFar.{SoFar}
-use Rattle.sc_tree.specs.declared.grammar.SoFar.TheVariants.{Untyped, Words, Typed}
+use Rattle.sc_tree.specs.declared.grammar.SoFar.TheVariants.{Untyped}
 use Rattle.sc_tree.specs.declared.grammar.Gathered.{Gathered}
 use Rattle.sc_tree.specs.declared.grammar.Specified.{Specified}
 use Rattle.sc_tree.specs.Tables.{◌>>=◌}
@@ -37,12 +32,12 @@ use Rattle.sc_parse_expr.specs.declared.found.Wanted.{Wanted}
 use Rattle.sc_parse_expr.specs.declared.found.Phrase.{Phrase}
 use Rattle.sc_parse_expr.specs.declared.found.Declared.{Declared}
 use Rattle.sc_parse_expr.specs.Front.{front, front_word, front_reserved, behind, is_left_brace, is_right_brace, is_colon, is_semicolon, is_equals, is_enum}
-use Rattle.sc_parse_expr.specs.Read.{Read, read, Parse, node, taking, Listed, commas, many}
+use Rattle.sc_parse_expr.specs.Read.{Read, read, Parse, taking, Listed, commas, many}
 use Rattle.sc_parse_expr.specs.Reading as r
 use Rattle.sc_parse_expr.specs.Reading.{Start, AStorage, AWord, ARecord, AnEnum, AName, NoStart, storage_start, word_start, record_start, enum_start, reserved_start, name_start, start, with_item, never}
 use Rattle.sc_parse_expr.specs.Laws.{TakesSpecs}
-use Rattle.sc_parse_expr.proofs.Tools.{Bound, bind_some, some_is, if_is, test_is, given, node_is, Splits, none, glue, One, front_is, front_word_is, front_reserved_is, left_brace, right_brace, colon, semicolon, equals, enum, taken}
-use Rattle.sc_parse_expr.proofs.SoundLists.{Item, Chained, last, more, Ending, plain, with_comma, Row, empty, next, all_added, all_items, TookListed, TookMany, commas_took, many_took}
+use Rattle.sc_parse_expr.proofs.Tools.{bind_some, some_is, if_is, test_is, given, node_is, Splits, none, glue, One, front_is, front_word_is, front_reserved_is, left_brace, right_brace, colon, semicolon, equals, enum, taken}
+use Rattle.sc_parse_expr.proofs.SoundLists.{Item, Chained, last, more, Ending, plain, with_comma, Row, empty, next, all_items, TookListed, TookMany, commas_took, many_took}
 use Rattle.sc_parse_expr.proofs.SoundExpr.{SoundParts}
 
 -- ---- lists of items
@@ -59,8 +54,13 @@ between : {A : Type 0} (ends : Option Punct → Bool) (Good : A → ℕ → List
 between ends Good ts x t =
     let items : t.xs ≡ x.it.items = sym (t.whole ∙ all_items [] t.xs) in
     let tall : t.height ≡ x.height = (let h = t.tall in omega arith) in
-    record { span = t.span; tail = t.tail; split = t.split; ending = t.ending;
-      chained = subst (λ (m : ℕ). Chained Good x.it.items m t.span) tall (subst (λ (xs : List _). Chained Good xs t.height t.span) items t.chained) }
+    record {
+      span = t.span;
+      tail = t.tail;
+      split = t.split;
+      ending = t.ending;
+      chained = subst (λ (m : ℕ). Chained Good x.it.items m t.span) tall (subst (λ (xs : List _). Chained Good xs t.height t.span) items t.chained);
+    }
 
 no_tail : {tail rest : List Token} (b : Bool) → Ending never b tail rest → tail ≡ []
 no_tail _ (plain rest) = refl
@@ -77,8 +77,12 @@ rows : {A : Type 0} (ends : Option Punct → Bool) (Good : A → ℕ → List To
 rows ends Good ts x t =
     let items : t.xs ≡ x.it = sym (t.whole ∙ all_items [] t.xs) in
     let tall : t.height ≡ x.height = (let h = t.tall in omega arith) in
-    record { span = t.span; split = t.split; ended = t.ended;
-      row = subst (λ (m : ℕ). Row Good x.it m t.span) tall (subst (λ (xs : List _). Row Good xs t.height t.span) items t.row) }
+    record {
+      span = t.span;
+      split = t.split;
+      ended = t.ended;
+      row = subst (λ (m : ℕ). Row Good x.it m t.span) tall (subst (λ (xs : List _). Row Good xs t.height t.span) items t.row);
+    }
 
 -- ---- the grammar's words with the tree first
 
@@ -143,8 +147,8 @@ module _ (types : List NameId) (ts : List Token) where
   by_reserved None is other s = s
   by_reserved (Some w) is other s = let o = front_reserved_is ts w is in
       by_storage w o (storage_word w) refl (word_start (type_word w) (record_start (record_word w) (enum_start (is_enum (Some w)))))
-        (by_word w o (type_word w) refl (record_start (record_word w) (enum_start (is_enum (Some w))))
-          (by_record w o (record_word w) refl (enum_start (is_enum (Some w))) (by_enum w o (is_enum (Some w)) refl)))
+      (by_word w o (type_word w) refl (record_start (record_word w) (enum_start (is_enum (Some w))))
+      (by_record w o (record_word w) refl (enum_start (is_enum (Some w))) (by_enum w o (is_enum (Some w)) refl)))
 
   by_type : (w : NameId) → front_word ts ≡ Some w → (b : Bool) → is_type types w ≡ b → Starts types ts (if b then AName w else NoStart)
   by_type w is true t = a_type w t (front_word_is ts w is)
@@ -185,7 +189,6 @@ record Braced (ts rest : List Token) (Good : List Token → Type 0) : Type 0 whe
   pub good : Good span
 
 module _ (types : List NameId) (limit below : ℕ) (inner : Wanted → Parse Phrase) (parts : SoundParts types below limit inner) where
-
   -- ---- the lines of a struct or union
 
   padding_took : (ts : List Token) (x : Read Part) → is_colon (front ts) ≡ true → r.padding types limit inner ts ≡ Some x → Item (IsPart types) ts x
@@ -201,14 +204,14 @@ module _ (types : List NameId) (limit below : ℕ) (inner : Wanted → Parse Phr
   with_width_took ts t there x is =
       let d = parts.declarator naming.Member ts t there in
       ⊎_elim
-        (λ y. let o = front_is t.rest sign.Colon (colon (front t.rest) y.0) in
-            let w = bind_some (r.inner_expr types limit inner Choice (behind t.rest)) _ x y.1 in
-            let v = parts.expr Choice (behind t.rest) w.value w.is in
-            given (λ (z : Read Part). Item (IsPart types) ts z) _ x w.gives
-              (record { span = d.span ++ punct sign.Colon (first_pos t.rest) ∷ v.span; split = glue (record { is = d.split }) (glue o (record { is = v.split })); good = a_bit_field (first_pos t.rest) d.spelled v.spelled }))
-        (λ y. given (λ (z : Read Part). Item (IsPart types) ts z) _ x y.1 (record { span = d.span; split = record { is = d.split }; good = a_plain_part d.spelled }))
-        (if_is (is_colon (front t.rest)) (r.inner_expr types limit inner Choice (behind t.rest) >>= λ w. Some (read (r.part_of types limit inner (Some t.it.declarator) (Some w.it.tree)) (max t.height w.height) w.rest))
-          (Some (read (r.part_of types limit inner (Some t.it.declarator) None) t.height t.rest)) (Some x) is)
+      (λ y. let o = front_is t.rest sign.Colon (colon (front t.rest) y.0) in
+      let w = bind_some (r.inner_expr types limit inner Choice (behind t.rest)) _ x y.1 in
+      let v = parts.expr Choice (behind t.rest) w.value w.is in
+      given (λ (z : Read Part). Item (IsPart types) ts z) _ x w.gives
+      (record { span = d.span ++ punct sign.Colon (first_pos t.rest) ∷ v.span; split = glue (record { is = d.split }) (glue o (record { is = v.split })); good = a_bit_field (first_pos t.rest) d.spelled v.spelled }))
+      (λ y. given (λ (z : Read Part). Item (IsPart types) ts z) _ x y.1 (record { span = d.span; split = record { is = d.split }; good = a_plain_part d.spelled }))
+      (if_is (is_colon (front t.rest)) (r.inner_expr types limit inner Choice (behind t.rest) >>= λ w. Some (read (r.part_of types limit inner (Some t.it.declarator) (Some w.it.tree)) (max t.height w.height) w.rest))
+      (Some (read (r.part_of types limit inner (Some t.it.declarator) None) t.height t.rest)) (Some x) is)
 
   part_took : (ts : List Token) (x : Read Part) → r.part types limit inner ts ≡ Some x → Item (IsPart types) ts x
   unfolding r.part
@@ -231,7 +234,7 @@ module _ (types : List NameId) (limit below : ℕ) (inner : Wanted → Parse Phr
       let split : Splits s.rest b.span xs.value.rest = subst (λ (u : List Token). Splits s.rest u xs.value.rest) (ap (λ (u : List Token). b.span ++ u) (no_tail xs.value.it.comma b.ending) ∙ append-nil b.span) b.split in
       let close = taken is_semicolon sign.Semicolon semicolon xs.value.rest c.value c.is in
       given (λ (z : Read Member). Item (IsMember types) ts z) _ x c.gives
-        (record { span = t.span ++ (b.span ++ punct sign.Semicolon (first_pos xs.value.rest) ∷ []); split = glue (record { is = t.split }) (glue split close); good = a_member (first_pos xs.value.rest) t.spelled (parts_of b.chained) })
+      (record { span = t.span ++ (b.span ++ punct sign.Semicolon (first_pos xs.value.rest) ∷ []); split = glue (record { is = t.split }) (glue split close); good = a_member (first_pos xs.value.rest) t.spelled (parts_of b.chained) })
 
   member_took : (ts : List Token) (x : Read Member) → r.member types limit inner ts ≡ Some x → Item (IsMember types) ts x
   unfolding r.member
@@ -239,9 +242,9 @@ module _ (types : List NameId) (limit below : ℕ) (inner : Wanted → Parse Phr
       let s = bind_some (r.inner_specs types limit inner ts) (λ s. if is_semicolon (front s.rest) then r.lone_member types limit inner s.it.form s else r.parts types limit inner s) x is in
       let t = parts.specs ts s.value s.is in
       ⊎_elim
-        (λ y. lone_took ts s.value t y.0 s.value.it.form refl x y.1)
-        (λ y. parts_took ts s.value t x y.1)
-        (if_is (is_semicolon (front s.value.rest)) (r.lone_member types limit inner s.value.it.form s.value) (r.parts types limit inner s.value) (Some x) s.gives)
+      (λ y. lone_took ts s.value t y.0 s.value.it.form refl x y.1)
+      (λ y. parts_took ts s.value t x y.1)
+      (if_is (is_semicolon (front s.value.rest)) (r.lone_member types limit inner s.value.it.form s.value) (r.parts types limit inner s.value) (Some x) s.gives)
 
   members_took : (ts : List Token) (x : Read (List Member)) → many (r.member types limit inner) with_item is_right_brace (length ts) [] 0 ts ≡ Some x → Braced ts (behind x.rest) (λ s. Members types x.height x.it s)
   members_took ts x is =
@@ -258,8 +261,12 @@ module _ (types : List NameId) (limit below : ℕ) (inner : Wanted → Parse Phr
       let xs = bind_some (many (r.member types limit inner) with_item is_right_brace (length vs) [] 0 vs) _ x is in
       let m = members_took vs xs.value xs.is in
       node_is (λ (y : Read Piece). TookPiece types limit ts y) limit (r.record_piece types limit inner u (first_pos ts) None (Some xs.value.it) form.Untagged) xs.value.height (behind xs.value.rest) x xs.gives
-        (λ low. record { span = reserved w (first_pos ts) ∷ punct sign.LeftBrace (first_pos us) ∷ (m.span ++ punct sign.RightBrace m.close ∷ []); split = glue o (glue l m.split);
-            good = a_record_body w u (first_pos ts) (first_pos us) m.close row m.good; low = low })
+      (λ low. record {
+        span = reserved w (first_pos ts) ∷ punct sign.LeftBrace (first_pos us) ∷ (m.span ++ punct sign.RightBrace m.close ∷ []);
+        split = glue o (glue l m.split);
+        good = a_record_body w u (first_pos ts) (first_pos us) m.close row m.good;
+        low = low;
+      })
 
   -- a struct with a tag, behind its brace
   whole_record_took : (ts us vs ws : List Token) (w : Reserved) (u : Bool) (tag : NameId) → record_word w ≡ Some u → One ts (reserved w (first_pos ts)) us → One us (word tag (first_pos us)) vs
@@ -269,8 +276,12 @@ module _ (types : List NameId) (limit below : ℕ) (inner : Wanted → Parse Phr
       let xs = bind_some (many (r.member types limit inner) with_item is_right_brace (length ws) [] 0 ws) _ x is in
       let m = members_took ws xs.value xs.is in
       node_is (λ (y : Read Piece). TookPiece types limit ts y) limit (r.record_piece types limit inner u (first_pos us) (Some tag) (Some xs.value.it) form.WithBody) xs.value.height (behind xs.value.rest) x xs.gives
-        (λ low. record { span = reserved w (first_pos ts) ∷ word tag (first_pos us) ∷ punct sign.LeftBrace (first_pos vs) ∷ (m.span ++ punct sign.RightBrace m.close ∷ []); split = glue o (glue n (glue l m.split));
-            good = a_record_whole w u tag (first_pos ts) (first_pos us) (first_pos vs) m.close row m.good; low = low })
+      (λ low. record {
+        span = reserved w (first_pos ts) ∷ word tag (first_pos us) ∷ punct sign.LeftBrace (first_pos vs) ∷ (m.span ++ punct sign.RightBrace m.close ∷ []);
+        split = glue o (glue n (glue l m.split));
+        good = a_record_whole w u tag (first_pos ts) (first_pos us) (first_pos vs) m.close row m.good;
+        low = low;
+      })
 
   tagged_record_took : (ts us vs : List Token) (w : Reserved) (u : Bool) (tag : NameId) → record_word w ≡ Some u → One ts (reserved w (first_pos ts)) us → One us (word tag (first_pos us)) vs
       → (x : Read Piece) → r.tagged_record types limit inner u (first_pos us) tag vs ≡ Some x → TookPiece types limit ts x
@@ -278,7 +289,7 @@ module _ (types : List NameId) (limit below : ℕ) (inner : Wanted → Parse Phr
   tagged_record_took ts us vs w u tag row o n x is = ⊎_elim
       (λ y. whole_record_took ts us vs (behind vs) w u tag row o n (front_is vs sign.LeftBrace (left_brace (front vs) y.0)) x y.1)
       (λ y. given (λ (z : Read Piece). TookPiece types limit ts z) _ x y.1
-        (record { span = reserved w (first_pos ts) ∷ word tag (first_pos us) ∷ []; split = glue o n; good = a_record w u tag (first_pos ts) (first_pos us) row; low = omega arith }))
+      (record { span = reserved w (first_pos ts) ∷ word tag (first_pos us) ∷ []; split = glue o n; good = a_record w u tag (first_pos ts) (first_pos us) row; low = omega arith }))
       (if_is (is_left_brace (front vs)) (r.record_body types limit inner u (first_pos us) (Some tag) (behind vs)) (Some (read (r.record_piece types limit inner u (first_pos us) (Some tag) None form.NoBody) 0 vs)) (Some x) is)
 
   record_took : (ts us : List Token) (w : Reserved) (u : Bool) → record_word w ≡ Some u → One ts (reserved w (first_pos ts)) us → (tag : Option NameId) → front_word us ≡ tag
@@ -297,17 +308,17 @@ module _ (types : List NameId) (limit below : ℕ) (inner : Wanted → Parse Phr
       let v = bind_some (r.inner_expr types limit inner Choice vs) _ x is in
       let t = parts.expr Choice vs v.value v.is in
       given (λ (z : Read Enumerator). Item (IsEnumerator types) ts z) _ x v.gives
-        (record { span = word w (first_pos ts) ∷ punct sign.Assign (first_pos us) ∷ t.span; split = glue o (glue q (record { is = t.split })); good = an_enumerator_set w (first_pos ts) (first_pos us) t.spelled })
+      (record { span = word w (first_pos ts) ∷ punct sign.Assign (first_pos us) ∷ t.span; split = glue o (glue q (record { is = t.split })); good = an_enumerator_set w (first_pos ts) (first_pos us) t.spelled })
 
   named_enumerator_took : (ts : List Token) (w : NameId) → One ts (word w (first_pos ts)) (behind ts) → (x : Read Enumerator)
       → (if is_equals (front (behind ts))
-          then (r.inner_expr types limit inner Choice (behind (behind ts)) >>= λ v. Some (read (r.enumerator_of types limit inner (first_pos ts) w (Some v.it.tree)) v.height v.rest))
-          else Some (read (r.enumerator_of types limit inner (first_pos ts) w None) 0 (behind ts))) ≡ Some x → Item (IsEnumerator types) ts x
+      then (r.inner_expr types limit inner Choice (behind (behind ts)) >>= λ v. Some (read (r.enumerator_of types limit inner (first_pos ts) w (Some v.it.tree)) v.height v.rest))
+      else Some (read (r.enumerator_of types limit inner (first_pos ts) w None) 0 (behind ts))) ≡ Some x → Item (IsEnumerator types) ts x
   named_enumerator_took ts w o x is = ⊎_elim
       (λ y. enumerator_set_took ts (behind ts) (behind (behind ts)) w o (front_is (behind ts) sign.Assign (equals (front (behind ts)) y.0)) x y.1)
       (λ y. given (λ (z : Read Enumerator). Item (IsEnumerator types) ts z) _ x y.1 (record { span = word w (first_pos ts) ∷ []; split = o; good = an_enumerator w (first_pos ts) }))
       (if_is (is_equals (front (behind ts))) (r.inner_expr types limit inner Choice (behind (behind ts)) >>= λ v. Some (read (r.enumerator_of types limit inner (first_pos ts) w (Some v.it.tree)) v.height v.rest))
-        (Some (read (r.enumerator_of types limit inner (first_pos ts) w None) 0 (behind ts))) (Some x) is)
+      (Some (read (r.enumerator_of types limit inner (first_pos ts) w None) 0 (behind ts))) (Some x) is)
 
   enumerator_took : (ts : List Token) (x : Read Enumerator) → r.enumerator types limit inner ts ≡ Some x → Item (IsEnumerator types) ts x
   unfolding r.enumerator
@@ -326,8 +337,12 @@ module _ (types : List NameId) (limit below : ℕ) (inner : Wanted → Parse Phr
       let c = bind_some (taking is_right_brace xs.value.rest) _ x xs.gives in
       let m = enumerators_took vs xs.value c.value xs.is c.is in
       node_is (λ (y : Read Piece). TookPiece types limit ts y) limit (r.enum_piece types limit inner (first_pos ts) None (Some xs.value.it.items) form.WithBody) xs.value.height c.value x c.gives
-        (λ low. record { span = reserved key.Enum (first_pos ts) ∷ punct sign.LeftBrace (first_pos us) ∷ (m.span ++ punct sign.RightBrace m.close ∷ []); split = glue o (glue l m.split);
-            good = an_enum_body (first_pos ts) (first_pos us) m.close m.good; low = low })
+      (λ low. record {
+        span = reserved key.Enum (first_pos ts) ∷ punct sign.LeftBrace (first_pos us) ∷ (m.span ++ punct sign.RightBrace m.close ∷ []);
+        split = glue o (glue l m.split);
+        good = an_enum_body (first_pos ts) (first_pos us) m.close m.good;
+        low = low;
+      })
 
   whole_enum_took : (ts us vs ws : List Token) (tag : NameId) → One ts (reserved key.Enum (first_pos ts)) us → One us (word tag (first_pos us)) vs → One vs (punct sign.LeftBrace (first_pos vs)) ws
       → (x : Read Piece) → r.enum_body types limit inner (first_pos us) (Some tag) ws ≡ Some x → TookPiece types limit ts x
@@ -337,15 +352,19 @@ module _ (types : List NameId) (limit below : ℕ) (inner : Wanted → Parse Phr
       let c = bind_some (taking is_right_brace xs.value.rest) _ x xs.gives in
       let m = enumerators_took ws xs.value c.value xs.is c.is in
       node_is (λ (y : Read Piece). TookPiece types limit ts y) limit (r.enum_piece types limit inner (first_pos us) (Some tag) (Some xs.value.it.items) form.WithBody) xs.value.height c.value x c.gives
-        (λ low. record { span = reserved key.Enum (first_pos ts) ∷ word tag (first_pos us) ∷ punct sign.LeftBrace (first_pos vs) ∷ (m.span ++ punct sign.RightBrace m.close ∷ []); split = glue o (glue n (glue l m.split));
-            good = an_enum_whole tag (first_pos ts) (first_pos us) (first_pos vs) m.close m.good; low = low })
+      (λ low. record {
+        span = reserved key.Enum (first_pos ts) ∷ word tag (first_pos us) ∷ punct sign.LeftBrace (first_pos vs) ∷ (m.span ++ punct sign.RightBrace m.close ∷ []);
+        split = glue o (glue n (glue l m.split));
+        good = an_enum_whole tag (first_pos ts) (first_pos us) (first_pos vs) m.close m.good;
+        low = low;
+      })
 
   tagged_enum_took : (ts us vs : List Token) (tag : NameId) → One ts (reserved key.Enum (first_pos ts)) us → One us (word tag (first_pos us)) vs → (x : Read Piece) → r.tagged_enum types limit inner (first_pos us) tag vs ≡ Some x → TookPiece types limit ts x
   unfolding r.tagged_enum
   tagged_enum_took ts us vs tag o n x is = ⊎_elim
       (λ y. whole_enum_took ts us vs (behind vs) tag o n (front_is vs sign.LeftBrace (left_brace (front vs) y.0)) x y.1)
       (λ y. given (λ (z : Read Piece). TookPiece types limit ts z) _ x y.1
-        (record { span = reserved key.Enum (first_pos ts) ∷ word tag (first_pos us) ∷ []; split = glue o n; good = an_enum tag (first_pos ts) (first_pos us); low = omega arith }))
+      (record { span = reserved key.Enum (first_pos ts) ∷ word tag (first_pos us) ∷ []; split = glue o n; good = an_enum tag (first_pos ts) (first_pos us); low = omega arith }))
       (if_is (is_left_brace (front vs)) (r.enum_body types limit inner (first_pos us) (Some tag) (behind vs)) (Some (read (r.enum_piece types limit inner (first_pos us) (Some tag) None form.NoBody) 0 vs)) (Some x) is)
 
   enum_took : (ts us : List Token) → One ts (reserved key.Enum (first_pos ts)) us → (tag : Option NameId) → front_word us ≡ tag → (x : Read Piece) → r.enum_by types limit inner (first_pos ts) tag us ≡ Some x → TookPiece types limit ts x
@@ -370,18 +389,26 @@ module _ (types : List NameId) (limit below : ℕ) (inner : Wanted → Parse Phr
 
   onto_piece : (g : Gathered) (h : ℕ) (ts : List Token) (a : Read Piece) → TookPiece types limit ts a → (g_then : Gathered) → with_piece g a.it ≡ Some g_then → (x : Read Gathered)
       → TookPieces types limit g_then (max h a.height) a.rest x → TookPieces types limit g h ts x
-  onto_piece g h ts a p g_then w x t = record { ps = a.it ∷ t.ps; height = max a.height t.height; span = p.span ++ t.span; split = glue p.split t.split; pieces = more_pieces p.good t.pieces;
-      tall = (let e = t.tall in omega arith); whole = ap (λ (o : Option Gathered). o >>= λ f. with_pieces f t.ps) w ∙ t.whole; low = (let a_low = p.low in let t_low = t.low in omega arith) }
+  onto_piece g h ts a p g_then w x t = record {
+    ps = a.it ∷ t.ps;
+    height = max a.height t.height;
+    span = p.span ++ t.span;
+    split = glue p.split t.split;
+    pieces = more_pieces p.good t.pieces;
+    tall = (let e = t.tall in omega arith);
+    whole = ap (λ (o : Option Gathered). o >>= λ f. with_pieces f t.ps) w ∙ t.whole;
+    low = (let a_low = p.low in let t_low = t.low in omega arith);
+  }
 
   gathering_took : (go : Gathered → ℕ → Parse Gathered) → ((g : Gathered) (h : ℕ) (us : List Token) (x : Read Gathered) → go g h us ≡ Some x → TookPieces types limit g h us x)
       → (s : Start) (g : Gathered) (h : ℕ) (ts : List Token) → Starts types ts s → (x : Read Gathered) → r.gathering types limit inner go s g h ts ≡ Some x → TookPieces types limit g h ts x
   unfolding r.gathering
   gathering_took go ih s g h ts begins x is = ⊎_elim
       (λ y. let a = bind_some (r.piece_by types limit inner s ts) (λ a. with_piece g a.it >>= λ f. go f (max h a.height) a.rest) x y.1 in
-          let w = bind_some (with_piece g a.value.it) (λ f. go f (max h a.value.height) a.value.rest) x a.gives in
-          onto_piece g h ts a.value (piece_took s ts begins a.value a.is) w.value w.is x (ih w.value (max h a.value.height) a.value.rest x w.gives))
+      let w = bind_some (with_piece g a.value.it) (λ f. go f (max h a.value.height) a.value.rest) x a.gives in
+      onto_piece g h ts a.value (piece_took s ts begins a.value a.is) w.value w.is x (ih w.value (max h a.value.height) a.value.rest x w.gives))
       (λ y. given (λ (z : Read Gathered). TookPieces types limit g h ts z) _ x y.1
-        (record { ps = []; height = 0; span = []; split = none ts; pieces = no_piece; tall = omega arith; whole = refl; low = omega arith }))
+      (record { ps = []; height = 0; span = []; split = none ts; pieces = no_piece; tall = omega arith; whole = refl; low = omega arith }))
       (if_is (r.starts types limit inner s) (r.piece_by types limit inner s ts >>= λ a. with_piece g a.it >>= λ f. go f (max h a.height) a.rest) (Some (read g h ts)) (Some x) is)
 
   gather_took : (n : ℕ) (g : Gathered) (h : ℕ) (ts : List Token) (x : Read Gathered) → r.gather types limit inner n g h ts ≡ Some x → TookPieces types limit g h ts x
@@ -397,4 +424,4 @@ module _ (types : List NameId) (limit below : ℕ) (inner : Wanted → Parse Phr
       let t = gather_took (length ts) no_pieces 0 ts g.value g.is in
       let tall : t.height ≡ g.value.height = (let e = t.tall in omega arith) in
       given (λ (y : Read Specified). TakesSpecs types limit ts y) (read f.value g.value.height g.value.rest) x f.gives
-        (record { span = t.span; split = t.split.is; spelled = subst (λ (m : ℕ). Specifies types m f.value t.span) tall (pieces t.pieces t.whole f.is); low = subst (λ (m : ℕ). m ≤ limit) tall t.low })
+      (record { span = t.span; split = t.split.is; spelled = subst (λ (m : ℕ). Specifies types m f.value t.span) tall (pieces t.pieces t.whole f.is); low = subst (λ (m : ℕ). m ≤ limit) tall t.low })

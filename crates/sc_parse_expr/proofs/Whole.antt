@@ -1,5 +1,5 @@
 -- Tokens spell at most one tree of a kind: both are what is read of them.
-use Rattle.std.proofs.Common.{◌≡◌, ℕ, suc, ◌≤◌, max, Bool, true, List, [], ◌++◌, Option, Some, refl, sym, ap, ◌∙◌, arith}
+use Rattle.std.proofs.Common.{◌≡◌, ℕ, max, true, List, [], Option, Some, refl, ap, arith}
 use Rattle.sc_base.specs.declared.pos.NameId.{NameId}
 use Rattle.sc_tree.specs.declared.token.Token.{Token}
 use Rattle.sc_tree.specs.declared.expr.Expr.{Expr}

@@ -1,5 +1,5 @@
 -- What lists that are read item by item have taken, where nothing was read before them.
-use Rattle.std.proofs.Common.{◌≡◌, ℕ, zero, suc, ◌≤◌, max, Bool, true, false, List, [], ◌∷◌, ◌++◌, Option, Some, None, refl, sym, ap, subst, ◌∙◌, arith}
+use Rattle.std.proofs.Common.{◌≡◌, ℕ, ◌≤◌, Bool, true, List, [], ◌++◌, Option, Some, refl, sym, ap, subst, ◌∙◌, arith}
 use Rattle.std.proofs.lemmas.List.{append-nil}
 use Rattle.sc_tree.specs.declared.token.Token.{Token}
 use Rattle.sc_tree.specs.declared.token.Punct.{Punct}
@@ -40,8 +40,13 @@ items_took item ends Good reads n ts x is =
     let t = commas_took item with_item ends Good reads n [] 0 ts x is in
     let tall : t.height ≡ x.height = (let e = t.tall in omega arith) in
     let whole : t.xs ≡ x.it.items = sym (t.whole ∙ all_items [] t.xs) in
-    record { span = t.span; tail = t.tail; split = t.split; ending = t.ending;
-      chained = subst (λ (h : ℕ). Chained Good x.it.items h t.span) tall (subst (λ ys. Chained Good ys t.height t.span) whole t.chained) }
+    record {
+      span = t.span;
+      tail = t.tail;
+      split = t.split;
+      ending = t.ending;
+      chained = subst (λ (h : ℕ). Chained Good x.it.items h t.span) tall (subst (λ ys. Chained Good ys t.height t.span) whole t.chained);
+    }
 
 -- items with commas between, and nothing behind the last
 pub record OnlyItems {A : Type 0} (Good : A → ℕ → List Token → Type 0) (ts : List Token) (x : Read (Listed (List A))) : Type 0 where
@@ -73,5 +78,9 @@ rows_took item ends Good reads n ts x is =
     let t = many_took item with_item ends Good reads n [] 0 ts x is in
     let tall : t.height ≡ x.height = (let e = t.tall in omega arith) in
     let whole : t.xs ≡ x.it = sym (t.whole ∙ all_items [] t.xs) in
-    record { span = t.span; split = t.split; ended = t.ended;
-      row = subst (λ (h : ℕ). Row Good x.it h t.span) tall (subst (λ ys. Row Good ys t.height t.span) whole t.row) }
+    record {
+      span = t.span;
+      split = t.split;
+      ended = t.ended;
+      row = subst (λ (h : ℕ). Row Good x.it h t.span) tall (subst (λ ys. Row Good ys t.height t.span) whole t.row);
+    }

@@ -1,5 +1,5 @@
 -- What is read is spelled: the laws.
-use Rattle.std.proofs.Common.{◌≡◌, ℕ, List, Option, Some}
+use Rattle.std.proofs.Common.{◌≡◌, ℕ, List, Some}
 use Rattle.sc_base.specs.declared.pos.NameId.{NameId}
 use Rattle.sc_tree.specs.declared.token.Token.{Token}
 use Rattle.sc_tree.specs.declared.decl.Decl.{Decl}
@@ -17,9 +17,10 @@ declarations types limit ts x is = declaration_took types limit (exprs.sound typ
 
 pub sound : (types : List NameId) (limit : ℕ) → IsSound types limit
 sound types limit = record {
-    init = λ ts x is. init_took types (exprs.sound types) limit ts x is;
-    declaration = λ ts x is. declarations types limit ts x is;
-    statement = λ ts x is. statement_took types (exprs.sound types) (declarations types) limit ts x is }
+  init = λ ts x is. init_took types (exprs.sound types) limit ts x is;
+  declaration = λ ts x is. declarations types limit ts x is;
+  statement = λ ts x is. statement_took types (exprs.sound types) (declarations types) limit ts x is;
+}
 
 pub outline_sound : (types : List NameId) (ts : List Token) (o : Outlined) → outline_of types ts ≡ Some o → Outlines types ts o.it o.types o.inside
 outline_sound types ts o is = outline_took exprs.sound types ts o is

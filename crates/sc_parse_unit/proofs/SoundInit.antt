@@ -1,8 +1,7 @@
 -- Initialisers: what is read is spelled.
-use Rattle.std.proofs.Common.{◌≡◌, ℕ, zero, suc, ◌≤◌, max, Bool, true, false, List, [], ◌∷◌, ◌++◌, length, Option, Some, None, ◌⊎◌, inl, inr, refl, sym, ap, subst, ◌∙◌, append_assoc, arith, ⊎_elim}
+use Rattle.std.proofs.Common.{◌≡◌, ℕ, zero, suc, ◌≤◌, max, Bool, true, false, List, [], ◌∷◌, ◌++◌, length, Option, Some, None, refl, sym, ap, subst, ◌∙◌, append_assoc, arith, ⊎_elim}
 use Rattle.std.specs.Prelude.{if◌then◌else◌, not}
 use Rattle.std.proofs.lemmas.List.{append-nil}
-use Rattle.sc_base.specs.declared.pos.Pos.{Pos}
 use Rattle.sc_base.specs.declared.pos.NameId.{NameId}
 use Rattle.sc_tree.specs.declared.token.Token.{Token}
 use Rattle.sc_tree.specs.declared.token.Punct.{Punct}
@@ -15,9 +14,9 @@ use Rattle.sc_tree.specs.declared.decl.Designator.TheVariants as designator
 use Rattle.sc_tree.specs.declared.grammar.Level.TheVariants.{Choice, Assignment}
 use Rattle.sc_tree.specs.Tables.{◌>>=◌}
 use Rattle.sc_tree.specs.Tokens.{punct, first_pos}
-use Rattle.sc_tree.specs.Statements.{ADesignator, of_field, of_index, Designates, one_designator, more_designators, Initialises, a_value, empty_braces, in_braces, InitItems, last_item, last_item_with_comma, more_items, AnInitItem, an_item, a_designated}
+use Rattle.sc_tree.specs.Statements.{ADesignator, of_field, of_index, Designates, one_designator, more_designators, a_value, empty_braces, in_braces, InitItems, last_item, last_item_with_comma, more_items, AnInitItem, an_item, a_designated}
 use Rattle.sc_parse_expr.specs.Front.{front, front_word, behind, is_left_brace, is_right_brace, is_right_bracket, is_equals}
-use Rattle.sc_parse_expr.specs.Read.{Read, read, Parse, node, taking, Listed, commas, many}
+use Rattle.sc_parse_expr.specs.Read.{Read, read, Parse, node, taking, commas, many}
 use Rattle.sc_parse_expr.specs.Reading.{expr_at, with_item}
 use Rattle.sc_parse_expr.specs.Laws as lower
 use Rattle.sc_parse_expr.proofs.Tools.{bind_some, if_is, given, node_is, Splits, glue, One, front_is, front_word_is, right_bracket, left_brace, right_brace, equals, taken}
@@ -25,7 +24,7 @@ use Rattle.sc_parse_expr.proofs.SoundLists.{Item, Chained, last, more, Ending, p
 use Rattle.sc_parse_unit.specs.Reading as u
 use Rattle.sc_parse_unit.specs.Reading.{is_dot, begins_designator, is_no_designator, a_designator, designators, item_of, initialiser}
 use Rattle.sc_parse_unit.specs.Laws.{TakesInit}
-use Rattle.sc_parse_unit.proofs.Rows.{chain_low, row_low, items_took, rows_took}
+use Rattle.sc_parse_unit.proofs.Rows.{row_low, items_took, rows_took}
 
 dot : (o : Option Punct) → is_dot o ≡ true → o ≡ Some sign.Dot
 dot (Some sign.Dot) e = refl
@@ -59,7 +58,7 @@ module _ (types : List NameId) (limit : ℕ) (exprs : lower.IsSound types limit)
   field_took ts x there is =
       let w = bind_some (front_word (behind ts)) _ x is in
       given (λ (y : Read Designator). Item (DesignatorFits types limit) ts y) (read (designator.Field w.value) 0 (behind (behind ts))) x w.gives
-        (record { span = _; split = glue (front_is ts sign.Dot (dot (front ts) there)) (front_word_is (behind ts) w.value w.is); good = (of_field w.value (first_pos ts) (first_pos (behind ts)), omega arith) })
+      (record { span = _; split = glue (front_is ts sign.Dot (dot (front ts) there)) (front_word_is (behind ts) w.value w.is); good = (of_field w.value (first_pos ts) (first_pos (behind ts)), omega arith) })
 
   index_took : (ts : List Token) (x : Read Designator) → front ts ≡ Some sign.LeftBracket
       → (expr_at types limit Choice (behind ts) >>= λ a. taking is_right_bracket a.rest >>= λ rest. Some (read (designator.Index a.it.tree) a.height rest)) ≡ Some x
@@ -70,7 +69,7 @@ module _ (types : List NameId) (limit : ℕ) (exprs : lower.IsSound types limit)
       let w = exprs.expr Choice (behind ts) a.value a.is in
       let close = taken is_right_bracket sign.RightBracket right_bracket a.value.rest c.value c.is in
       given (λ (y : Read Designator). Item (DesignatorFits types limit) ts y) (read (designator.Index a.value.it.tree) a.value.height c.value) x c.gives
-        (record { span = _; split = glue (front_is ts sign.LeftBracket there) (glue (record { is = w.split }) close); good = (of_index (first_pos ts) (first_pos a.value.rest) w.spelled, w.low) })
+      (record { span = _; split = glue (front_is ts sign.LeftBracket there) (glue (record { is = w.split }) close); good = (of_index (first_pos ts) (first_pos a.value.rest) w.spelled, w.low) })
 
   a_designator_took : (ts : List Token) (x : Read Designator) → is_no_designator ts ≡ false → a_designator types limit ts ≡ Some x → Item (DesignatorFits types limit) ts x
   unfolding a_designator
@@ -108,16 +107,25 @@ module _ (types : List NameId) (limit : ℕ) (exprs : lower.IsSound types limit)
   pub designators_took : (ts : List Token) (x : Read (List Designator)) → is_no_designator ts ≡ false → designators types limit (length ts) [] 0 ts ≡ Some x → Item (DesignatorsFit types limit) ts x
   designators_took ts x begins is =
       let t = rows_took tested no_designator (DesignatorFits types limit) tested_took (length ts) ts x (sym (as_many (length ts) [] 0 ts) ∙ is) in
-      record { span = t.span; split = t.split;
-        good = (some_row ts x.rest begins t.ended x.it x.height t.span t.row t.split, row_low limit (λ y h s g. g.1) x.it x.height t.span t.row) }
+      record {
+        span = t.span;
+        split = t.split;
+        good = (some_row ts x.rest begins t.ended x.it x.height t.span t.row t.split, row_low limit (λ y h s g. g.1) x.it x.height t.span t.row);
+      }
 
 -- ---- initialisers
 
 module _ (types : List NameId) (below : ℕ) (inner : Parse Init) (exprs : lower.IsSound types below) (values : lower.IsSound types (suc below))
     (parts : (ts : List Token) (x : Read Init) → inner ts ≡ Some x → TakesInit types below ts x) where
-
   abbrev ItemFits : InitItem → ℕ → List Token → Type 0
   ItemFits x h s = AnInitItem types h x s × (h ≤ below)
+
+  designated_item : (ts us : List Token) (ds : Read (List Designator)) (i : Read Init) → Item (DesignatorsFit types below) ts ds → One ds.rest (punct sign.Assign (first_pos ds.rest)) us → TakesInit types below us i
+      → Item ItemFits ts (read (item_of ds.it i.it) (max ds.height i.height) i.rest)
+  designated_item ts us ds i d sets w =
+      let a = d.good.1 in
+      let b = w.low in
+      record { span = _; split = glue d.split (glue sets (record { is = w.split })); good = (a_designated (first_pos ds.rest) d.good.0 w.spelled, omega arith) }
 
   designated_took : (ts : List Token) (x : Read InitItem) → is_no_designator ts ≡ false → u.designated types below inner ts ≡ Some x → Item ItemFits ts x
   unfolding u.designated
@@ -125,13 +133,8 @@ module _ (types : List NameId) (below : ℕ) (inner : Parse Init) (exprs : lower
       let ds = bind_some (designators types below (length ts) [] 0 ts) _ x is in
       let c = bind_some (taking is_equals ds.value.rest) _ x ds.gives in
       let i = bind_some (inner c.value) _ x c.gives in
-      let d = designators_took types below exprs ts ds.value begins ds.is in
-      let sets = taken is_equals sign.Assign equals ds.value.rest c.value c.is in
-      let w = parts c.value i.value i.is in
-      let a = d.good.1 in
-      let b = w.low in
       given (λ (y : Read InitItem). Item ItemFits ts y) (read (item_of ds.value.it i.value.it) (max ds.value.height i.value.height) i.value.rest) x i.gives
-        (record { span = _; split = glue d.split (glue sets (record { is = w.split })); good = (a_designated (first_pos ds.value.rest) d.good.0 w.spelled, omega arith) })
+      (designated_item ts c.value ds.value i.value (designators_took types below exprs ts ds.value begins ds.is) (taken is_equals sign.Assign equals ds.value.rest c.value c.is) (parts c.value i.value i.is))
 
   undesignated_took : (ts : List Token) (x : Read InitItem) → u.undesignated types below inner ts ≡ Some x → Item ItemFits ts x
   unfolding u.undesignated
@@ -139,7 +142,7 @@ module _ (types : List NameId) (below : ℕ) (inner : Parse Init) (exprs : lower
       let i = bind_some (inner ts) _ x is in
       let w = parts ts i.value i.is in
       given (λ (y : Read InitItem). Item ItemFits ts y) (read (item_of [] i.value.it) i.value.height i.value.rest) x i.gives
-        (record { span = w.span; split = record { is = w.split }; good = (an_item w.spelled, w.low) })
+      (record { span = w.span; split = record { is = w.split }; good = (an_item w.spelled, w.low) })
 
   init_item_took : (ts : List Token) (x : Read InitItem) → u.init_item types below inner ts ≡ Some x → Item ItemFits ts x
   unfolding u.init_item
@@ -165,13 +168,13 @@ module _ (types : List NameId) (below : ℕ) (inner : Parse Init) (exprs : lower
       let spelled = items_of xs.value.it.items xs.value.height t.span t.chained xs.value.it.comma t.tail xs.value.rest t.ending in
       let split = glue begins (glue t.split close) in
       node_is (λ (y : Read Init). TakesInit types (suc below) ts y) (suc below) (init.List xs.value.it.items) xs.value.height c.value x c.gives
-        (λ low. record { span = _; split = split.is; spelled = in_braces (first_pos ts) (first_pos xs.value.rest) spelled; low = low })
+      (λ low. record { span = _; split = split.is; spelled = in_braces (first_pos ts) (first_pos xs.value.rest) spelled; low = low })
 
   braces_took : (ts us : List Token) (x : Read Init) → One ts (punct sign.LeftBrace (first_pos ts)) us → u.braces types below inner us ≡ Some x → TakesInit types (suc below) ts x
   unfolding u.braces
   braces_took ts us x begins is = ⊎_elim
       (λ t. node_is (λ (y : Read Init). TakesInit types (suc below) ts y) (suc below) (init.List []) 0 (behind us) x t.1
-          (λ low. record { span = _; split = (glue begins (front_is us sign.RightBrace (right_brace (front us) t.0))).is; spelled = empty_braces (first_pos ts) (first_pos us); low = low }))
+      (λ low. record { span = _; split = (glue begins (front_is us sign.RightBrace (right_brace (front us) t.0))).is; spelled = empty_braces (first_pos ts) (first_pos us); low = low }))
       (λ t. some_braces ts us x begins t.1)
       (if_is (is_right_brace (front us)) _ _ (Some x) is)
 
@@ -181,7 +184,7 @@ module _ (types : List NameId) (below : ℕ) (inner : Parse Init) (exprs : lower
       let a = bind_some (expr_at types (suc below) Assignment ts) _ x is in
       let w = values.expr Assignment ts a.value a.is in
       given (λ (y : Read Init). TakesInit types (suc below) ts y) (read (init.One a.value.it.tree) a.value.height a.value.rest) x a.gives
-        (record { span = w.span; split = w.split; spelled = a_value w.spelled; low = w.low })
+      (record { span = w.span; split = w.split; spelled = a_value w.spelled; low = w.low })
 
   pub initialiser_took : (ts : List Token) (x : Read Init) → u.initialiser_by types below inner ts ≡ Some x → TakesInit types (suc below) ts x
   unfolding u.initialiser_by

@@ -1,5 +1,5 @@
 -- Segments before their bodies: what is read is spelled.
-use Rattle.std.proofs.Common.{◌≡◌, ℕ, zero, suc, ◌≤◌, max, Bool, true, false, List, [], ◌∷◌, ◌++◌, length, Option, Some, None, ◌⊎◌, inl, inr, refl, sym, ap, subst, ◌∙◌, append_assoc, arith, ⊎_elim}
+use Rattle.std.proofs.Common.{◌≡◌, ℕ, zero, suc, ◌≤◌, max, Bool, true, List, [], ◌∷◌, ◌++◌, length, Some, None, refl, sym, subst, ◌∙◌, append_assoc, arith, ⊎_elim}
 use Rattle.std.specs.Prelude.{if◌then◌else◌, ◌&&◌}
 use Rattle.std.proofs.lemmas.Bool.{and_parts}
 use Rattle.std.proofs.lemmas.List.{append-nil}
@@ -7,14 +7,12 @@ use Rattle.sc_base.specs.declared.pos.Pos.{Pos}
 use Rattle.sc_base.specs.declared.pos.NameId.{NameId}
 use Rattle.sc_tree.specs.declared.token.Token.{Token}
 use Rattle.sc_tree.specs.declared.token.Punct.TheVariants as sign
-use Rattle.sc_tree.specs.declared.expr.Head.{Head, roll-Head}
-use Rattle.sc_tree.specs.declared.decl.Init.{Init}
+use Rattle.sc_tree.specs.declared.expr.Head.{roll-Head}
 use Rattle.sc_tree.specs.declared.decl.InitDeclarator.{InitDeclarator}
 use Rattle.sc_tree.specs.declared.grammar.Naming.TheVariants as naming
 use Rattle.sc_tree.specs.declared.grammar.Core.{Core}
 use Rattle.sc_tree.specs.declared.grammar.Core.TheVariants as core
 use Rattle.sc_tree.specs.declared.grammar.Specified.{Specified}
-use Rattle.sc_tree.specs.Tables.{◌>>=◌}
 use Rattle.sc_tree.specs.Tokens.{punct, first_pos}
 use Rattle.sc_tree.specs.Trees.{max_height}
 use Rattle.sc_tree.specs.Grammar.{Declares}
@@ -29,9 +27,7 @@ use Rattle.sc_parse_expr.specs.Laws as lower
 use Rattle.sc_parse_expr.proofs.Tools.{bind_some, if_is, test_is, given, Splits, glue, front_is, comma, semicolon, taken}
 use Rattle.sc_parse_expr.proofs.SoundLists.{Item}
 use Rattle.sc_parse_expr.proofs.Begins.{specs_begin}
-use Rattle.sc_parse_unit.specs.declared.found.Outline.{Outline}
 use Rattle.sc_parse_unit.specs.declared.found.Outline.TheVariants as outline
-use Rattle.sc_parse_unit.specs.Reading as u
 use Rattle.sc_parse_unit.specs.Reading.{with_init, FileParts, file_parts, file_rest, file_declarator, file_declarators, Outlined, outlined, ended, is_function, function_head, first_declared, specified, is_lone_semicolon, outline_of}
 use Rattle.sc_parse_unit.specs.Laws.{Outlines}
 use Rattle.sc_parse_unit.proofs.SoundInit.{init_took}
@@ -73,17 +69,24 @@ rest_took : (go : List InitDeclarator → List NameId → ℕ → Parse FilePart
 unfolding file_rest
 rest_took go def ih types between xs h ts x a y is = ⊎_elim
     (λ t. let k = ih (with_item xs x.it) between (max h x.height) (behind x.rest) y t.1 in
-        let e = k.tall in
-        let m = a.good.1 in
-        let n = k.low in
-        record { ys = x.it ∷ k.ys; height = max x.height k.height; span = _; split = glue a.split (glue (front_is x.rest sign.Comma (comma (front x.rest) t.0)) k.split);
-          spelled = units.more (first_pos x.rest) a.good.0 k.spelled; tall = omega arith; whole = k.whole ∙ append_assoc xs (x.it ∷ []) k.ys; low = omega arith })
+    let e = k.tall in
+    let m = a.good.1 in
+    let n = k.low in
+    record {
+      ys = x.it ∷ k.ys;
+      height = max x.height k.height;
+      span = _;
+      split = glue a.split (glue (front_is x.rest sign.Comma (comma (front x.rest) t.0)) k.split);
+      spelled = units.more (first_pos x.rest) a.good.0 k.spelled;
+      tall = omega arith;
+      whole = k.whole ∙ append_assoc xs (x.it ∷ []) k.ys;
+      low = omega arith;
+    })
     (λ t. given (λ (z : Read FileParts). TookParts def types xs h ts z) (read (file_parts (with_item xs x.it) between) (max h x.height) x.rest) y t.1
-        (record { ys = x.it ∷ []; height = x.height; span = a.span; split = a.split; spelled = units.one a.good.0; tall = refl; whole = refl; low = a.good.1 }))
+    (record { ys = x.it ∷ []; height = x.height; span = a.span; split = a.split; spelled = units.one a.good.0; tall = refl; whole = refl; low = a.good.1 }))
     (if_is (is_comma (front x.rest)) _ _ (Some y) is)
 
 module _ (exprs : (types : List NameId) (limit : ℕ) → lower.IsSound types limit) where
-
   -- ---- declarators at file scope
 
   declarator_took : (go : List InitDeclarator → List NameId → ℕ → Parse FileParts) (def : Bool)
@@ -95,8 +98,8 @@ module _ (exprs : (types : List NameId) (limit : ℕ) → lower.IsSound types li
       let between = with_declared def types t.it.core in
       let x = bind_some (with_init between max_height t) (file_rest go xs between h) y is in
       let part = with_init_is between max_height (λ us i e. init_took between (exprs between) max_height us i e) (λ (z : Read InitDeclarator). Item (PartFits def types between) ts z) t x.value x.is
-          (record { span = w.span; split = record { is = w.split }; good = (units.plain def types w.spelled, w.low) })
-          (λ i p s split spelled low. let a = w.low in record { span = _; split = glue (record { is = w.split }) split; good = (units.set def types p w.spelled spelled, omega arith) }) in
+      (record { span = w.span; split = record { is = w.split }; good = (units.plain def types w.spelled, w.low) })
+      (λ i p s split spelled low. let a = w.low in record { span = _; split = glue (record { is = w.split }) split; good = (units.set def types p w.spelled spelled, omega arith) }) in
       rest_took go def ih types between xs h ts x.value part y x.gives
 
   declarators_took : (n : ℕ) (def : Bool) (xs : List InitDeclarator) (types : List NameId) (h : ℕ) (ts : List Token) (y : Read FileParts) → file_declarators n def xs types h ts ≡ Some y → TookParts def types xs h ts y
@@ -105,7 +108,7 @@ module _ (exprs : (types : List NameId) (limit : ℕ) → lower.IsSound types li
   declarators_took (suc n) def xs types h ts y is =
       let t = bind_some (declarator_at types max_height naming.Required ts) _ y is in
       declarator_took (λ ys us m rs. file_declarators n def ys us m rs) def (λ ys us m rs z e. declarators_took n def ys us m rs z e) types xs h ts t.value
-        ((exprs types max_height).declarator naming.Required ts t.value t.is) y t.gives
+      ((exprs types max_height).declarator naming.Required ts t.value t.is) y t.gives
 
   -- ---- what a segment is
 
@@ -124,11 +127,11 @@ module _ (exprs : (types : List NameId) (limit : ℕ) → lower.IsSound types li
       let all = all_taken ts _ c.value (glue before (glue t.split close)) e.0 in
       let parts = subst (λ ys. FileDeclarators f.it.typedef types xs.it.types t.height ys t.span) (sym t.whole) t.spelled in
       let spelled = subst (λ (p : Pos). AFileDeclaration types xs.it.types (max f.height t.height) (declaration p f.it xs.it.parts) (w.span ++ (t.span ++ punct sign.Semicolon (first_pos xs.rest) ∷ []))) (cut_begins before (specs_begin types w.spelled))
-          (units.full (first_pos xs.rest) w.spelled parts) in
+      (units.full (first_pos xs.rest) w.spelled parts) in
       let a = w.low in
       let b = t.low in
       given (Good types ts) (outlined (outline.Decl (declaration (first_pos ts) f.it xs.it.parts)) xs.it.types []) o e.1
-        (record { height = max f.height t.height; low = omega arith; spelled = subst (λ (us : List Token). AFileDeclaration types xs.it.types (max f.height t.height) (declaration (first_pos ts) f.it xs.it.parts) us) all spelled })
+      (record { height = max f.height t.height; low = omega arith; spelled = subst (λ (us : List Token). AFileDeclaration types xs.it.types (max f.height t.height) (declaration (first_pos ts) f.it xs.it.parts) us) all spelled })
 
   head_took : (types : List NameId) (ts : List Token) (f : Read Specified) → lower.TakesSpecs types max_height ts f → (t : Read Declared) → lower.TakesDeclarator types max_height naming.Required f.rest t
       → (o : Outlined) → function_head types (first_pos ts) f t ≡ Some o → Good types ts o
@@ -140,11 +143,11 @@ module _ (exprs : (types : List NameId) (limit : ℕ) → lower.IsSound types li
       let before : Splits ts w.span f.rest = record { is = w.split } in
       let declares = subst (λ (k : Core). Declares types naming.Required k t.height t.it.declarator v.span) c.is v.spelled in
       let spelled = subst (λ (p : Pos). AFunctionHead types (max f.height t.height) (roll-Head (record { pos = p; specs = f.it.specs; declarator = t.it.declarator })) (w.span ++ v.span)) (cut_begins before (specs_begin types w.spelled))
-          (a_function_head c.name w.spelled declares) in
+      (a_function_head c.name w.spelled declares) in
       let m = w.low in
       let n = v.low in
       given (Good types ts) (outlined (outline.Function (roll-Head (record { pos = first_pos ts; specs = f.it.specs; declarator = t.it.declarator }))) types t.rest) o e.1
-        (record { before = w.span ++ v.span; split = (glue before (record { is = v.split })).is; height = max f.height t.height; low = omega arith; spelled = spelled; braced = b.1 }, refl)
+      (record { before = w.span ++ v.span; split = (glue before (record { is = v.split })).is; height = max f.height t.height; low = omega arith; spelled = spelled; braced = b.1 }, refl)
 
   first_took : (types : List NameId) (ts : List Token) (f : Read Specified) → lower.TakesSpecs types max_height ts f → (t : Read Declared) → lower.TakesDeclarator types max_height naming.Required f.rest t
       → (o : Outlined) → first_declared types (first_pos ts) f t ≡ Some o → Good types ts o
@@ -152,8 +155,8 @@ module _ (exprs : (types : List NameId) (limit : ℕ) → lower.IsSound types li
   first_took types ts f w t v o is = ⊎_elim
       (λ a. head_took types ts f w t v o a.1)
       (λ a. let go : List InitDeclarator → List NameId → ℕ → Parse FileParts = λ xs us m rs. file_declarators (length rs) f.it.typedef xs us m rs in
-          let xs = bind_some (file_declarator go f.it.typedef [] types 0 t) (ended (first_pos ts) f) o a.1 in
-          ended_took types ts f w xs.value (declarator_took go f.it.typedef (λ ys us m rs y e. declarators_took (length rs) f.it.typedef ys us m rs y e) types [] 0 f.rest t v xs.value xs.is) o xs.gives)
+      let xs = bind_some (file_declarator go f.it.typedef [] types 0 t) (ended (first_pos ts) f) o a.1 in
+      ended_took types ts f w xs.value (declarator_took go f.it.typedef (λ ys us m rs y e. declarators_took (length rs) f.it.typedef ys us m rs y e) types [] 0 f.rest t v xs.value xs.is) o xs.gives)
       (if_is (is_left_brace (front t.rest)) _ _ (Some o) is)
 
   bare_took : (types : List NameId) (ts : List Token) (f : Read Specified) → lower.TakesSpecs types max_height ts f → is_semicolon (front f.rest) ≡ true
@@ -164,14 +167,14 @@ module _ (exprs : (types : List NameId) (limit : ℕ) → lower.IsSound types li
       let all = all_taken ts _ (behind f.rest) (glue before (front_is f.rest sign.Semicolon (semicolon (front f.rest) ends))) e.0 in
       let spelled = subst (λ (p : Pos). AFileDeclaration types types f.height (declaration p f.it []) (w.span ++ punct sign.Semicolon (first_pos f.rest) ∷ [])) (cut_begins before (specs_begin types w.spelled)) (units.bare (first_pos f.rest) w.spelled) in
       given (Good types ts) (outlined (outline.Decl (declaration (first_pos ts) f.it [])) types []) o e.1
-        (record { height = f.height; low = w.low; spelled = subst (λ (us : List Token). AFileDeclaration types types f.height (declaration (first_pos ts) f.it []) us) all spelled })
+      (record { height = f.height; low = w.low; spelled = subst (λ (us : List Token). AFileDeclaration types types f.height (declaration (first_pos ts) f.it []) us) all spelled })
 
   specified_took : (types : List NameId) (ts : List Token) (f : Read Specified) → lower.TakesSpecs types max_height ts f → (o : Outlined) → specified types (first_pos ts) f ≡ Some o → Good types ts o
   unfolding specified
   specified_took types ts f w o is = ⊎_elim
       (λ a. bare_took types ts f w a.0 o a.1)
       (λ a. let t = bind_some (declarator_at types max_height naming.Required f.rest) _ o a.1 in
-          first_took types ts f w t.value ((exprs types max_height).declarator naming.Required f.rest t.value t.is) o t.gives)
+      first_took types ts f w t.value ((exprs types max_height).declarator naming.Required f.rest t.value t.is) o t.gives)
       (if_is (is_semicolon (front f.rest)) _ _ (Some o) is)
 
   lone_took : (types : List NameId) (ts : List Token) → is_lone_semicolon ts ≡ true → Good types ts (outlined (outline.Decl (empty_declaration (first_pos ts))) types [])
@@ -185,5 +188,5 @@ module _ (exprs : (types : List NameId) (limit : ℕ) → lower.IsSound types li
   outline_took types ts o is = ⊎_elim
       (λ a. given (Good types ts) (outlined (outline.Decl (empty_declaration (first_pos ts))) types []) o a.1 (lone_took types ts a.0))
       (λ a. let f = bind_some (specs_at types max_height ts) (specified types (first_pos ts)) o a.1 in
-          specified_took types ts f.value ((exprs types max_height).specs ts f.value f.is) o f.gives)
+      specified_took types ts f.value ((exprs types max_height).specs ts f.value f.is) o f.gives)
       (if_is (is_lone_semicolon ts) _ _ (Some o) is)

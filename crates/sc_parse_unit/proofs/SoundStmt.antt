@@ -1,6 +1,6 @@
 -- Statements: what is read is spelled.
-use Rattle.std.proofs.Common.{◌≡◌, ℕ, zero, suc, ◌≤◌, max, Bool, true, false, List, [], ◌∷◌, ◌++◌, length, Option, Some, None, ◌⊎◌, inl, inr, refl, sym, ap, subst, ◌∙◌, arith, ⊎_elim}
-use Rattle.std.specs.Prelude.{if◌then◌else◌, not, ◌&&◌}
+use Rattle.std.proofs.Common.{◌≡◌, ℕ, zero, suc, ◌≤◌, max, Bool, true, false, List, [], ◌∷◌, ◌++◌, length, Option, Some, None, refl, sym, ap, subst, ◌∙◌, arith, ⊎_elim}
+use Rattle.std.specs.Prelude.{not, ◌&&◌}
 use Rattle.sc_base.specs.declared.pos.Pos.{Pos}
 use Rattle.sc_base.specs.declared.pos.NameId.{NameId}
 use Rattle.sc_tree.specs.declared.token.Token.{Token}
@@ -21,8 +21,8 @@ use Rattle.sc_tree.specs.Grammar.{Spells}
 use Rattle.sc_tree.specs.Statements as g
 use Rattle.sc_tree.specs.Statements.{ADeclaration, AtMost, left_out, there, Starts, with_nothing, with_expr, with_declaration, States, AnItem, a_statement, a_declared, a_case, a_default}
 use Rattle.sc_parse_expr.specs.Front.{front, front_word, front_reserved, behind, is_left_paren, is_right_paren, is_left_brace, is_right_brace, is_colon, is_semicolon, begins_type}
-use Rattle.sc_parse_expr.specs.Read.{Read, read, Parse, node, taking, many}
-use Rattle.sc_parse_expr.specs.Reading.{expr_at, with_item}
+use Rattle.sc_parse_expr.specs.Read.{Read, read, Parse, node, taking}
+use Rattle.sc_parse_expr.specs.Reading.{expr_at}
 use Rattle.sc_parse_expr.specs.Laws as lower
 use Rattle.sc_parse_expr.proofs.Tools.{bind_some, if_is, test_is, given, node_is, Splits, none, glue, One, front_is, front_word_is, front_reserved_is, left_paren, right_paren, left_brace, right_brace, colon, semicolon, taken}
 use Rattle.sc_parse_expr.proofs.SoundLists.{Item, Row, empty, next}
@@ -124,7 +124,6 @@ record TookAtMost (types : List NameId) (limit : ℕ) (ts : List Token) (a : Rea
 
 module _ (types : List NameId) (below : ℕ) (inner : Parse Stmt) (exprs : lower.IsSound types below) (decls : (ts : List Token) (x : Read Decl) → body_declaration types below ts ≡ Some x → TakesDecl types below ts x)
     (parts : (ts : List Token) (x : Read Stmt) → inner ts ≡ Some x → TakesStmt types below ts x) where
-
   -- a node that was made over what was taken
   made : (b : Bool) (ts : List Token) (t : Stmt) (h : ℕ) (rest : List Token) (x : Read Stmt) → node (suc below) t h rest ≡ Some x → {s : List Token} → Splits ts s rest → States types b (suc h) t s
       → (b ≡ true → is_else (front_reserved rest) ≡ false) → TakesStmt types (suc below) ts x
@@ -144,17 +143,26 @@ module _ (types : List NameId) (below : ℕ) (inner : Parse Stmt) (exprs : lower
       let q = bind_some (taking is_right_paren a.value.rest) _ c a.gives in
       let w = exprs.expr Whole o.value a.value a.is in
       given (λ (y : Read Expr). TookCondition types below ts y) (read a.value.it.tree a.value.height q.value) c q.gives
-        (record { inside = o.value; span = w.span; after = a.value.rest; end = first_pos a.value.rest; opens = taken is_left_paren sign.LeftParen left_paren ts o.value o.is; split = record { is = w.split };
-            closes = taken is_right_paren sign.RightParen right_paren a.value.rest q.value q.is; spelled = w.spelled; low = w.low })
+      (record {
+        inside = o.value;
+        span = w.span;
+        after = a.value.rest;
+        end = first_pos a.value.rest;
+        opens = taken is_left_paren sign.LeftParen left_paren ts o.value o.is;
+        split = record { is = w.split };
+        closes = taken is_right_paren sign.RightParen right_paren a.value.rest q.value q.is;
+        spelled = w.spelled;
+        low = w.low;
+      })
 
   at_most_took : (ends : Option Punct → Bool) (ts : List Token) (a : Read (Option Expr)) → u.at_most types below inner ends ts ≡ Some a → TookAtMost types below ts a
   unfolding u.at_most
   at_most_took ends ts a is = ⊎_elim
       (λ t. given (λ (y : Read (Option Expr)). TookAtMost types below ts y) (read None 0 ts) a t.1 (record { span = []; split = none ts; spelled = left_out; low = omega arith }))
       (λ t. let e = bind_some (expr_at types below Whole ts) _ a t.1 in
-          let w = exprs.expr Whole ts e.value e.is in
-          given (λ (y : Read (Option Expr)). TookAtMost types below ts y) (read (Some e.value.it.tree) e.value.height e.value.rest) a e.gives
-            (record { span = w.span; split = record { is = w.split }; spelled = there w.spelled; low = w.low }))
+      let w = exprs.expr Whole ts e.value e.is in
+      given (λ (y : Read (Option Expr)). TookAtMost types below ts y) (read (Some e.value.it.tree) e.value.height e.value.rest) a e.gives
+      (record { span = w.span; split = record { is = w.split }; spelled = there w.spelled; low = w.low }))
       (if_is (ends (front ts)) _ _ (Some a) is)
 
   -- ---- conditions and loops
@@ -168,8 +176,8 @@ module _ (types : List NameId) (below : ℕ) (inner : Parse Stmt) (exprs : lower
       let other = front_reserved_is y.rest key.Else (else_key (front_reserved y.rest) follows) in
       let first : States types false y.height y.it w.span = subst (λ (b : Bool). States types b y.height y.it w.span) (not_open w.is_open _ w.closed follows) w.spelled in
       made v.is_open ts (stmt.If c.it y.it (Some z.value.it) (first_pos ts)) (max c.height (max y.height z.value.height)) z.value.rest x z.gives
-        (glue k (glue d.opens (glue d.split (glue d.closes (glue (record { is = w.split }) (glue other (record { is = v.split })))))))
-        (g.an_if_else (first_pos ts) (first_pos (behind ts)) d.end (first_pos y.rest) d.spelled first v.spelled) v.closed
+      (glue k (glue d.opens (glue d.split (glue d.closes (glue (record { is = w.split }) (glue other (record { is = v.split })))))))
+      (g.an_if_else (first_pos ts) (first_pos (behind ts)) d.end (first_pos y.rest) d.spelled first v.spelled) v.closed
 
   if_rest_took : (ts : List Token) (c : Read Expr) (y : Read Stmt) → One ts (reserved key.If (first_pos ts)) (behind ts) → TookCondition types below (behind ts) c → TakesStmt types below c.rest y
       → (x : Read Stmt) → u.if_rest types below inner (first_pos ts) c y ≡ Some x → TakesStmt types (suc below) ts x
@@ -177,7 +185,7 @@ module _ (types : List NameId) (below : ℕ) (inner : Parse Stmt) (exprs : lower
   if_rest_took ts c y k d w x is = ⊎_elim
       (λ t. if_else_took ts c y k d w t.0 x t.1)
       (λ t. made true ts (stmt.If c.it y.it None (first_pos ts)) (max c.height y.height) y.rest x t.1 (glue k (glue d.opens (glue d.split (glue d.closes (record { is = w.split })))))
-          (g.an_if (first_pos ts) (first_pos (behind ts)) d.end d.spelled w.spelled) (λ b. t.0))
+      (g.an_if (first_pos ts) (first_pos (behind ts)) d.end d.spelled w.spelled) (λ b. t.0))
       (if_is (is_else (front_reserved y.rest)) _ _ (Some x) is)
 
   if_took : (ts : List Token) (x : Read Stmt) → One ts (reserved key.If (first_pos ts)) (behind ts) → u.an_if types below inner (first_pos ts) (behind ts) ≡ Some x → TakesStmt types (suc below) ts x
@@ -195,7 +203,17 @@ module _ (types : List NameId) (below : ℕ) (inner : Parse Stmt) (exprs : lower
       let d = condition_took (behind ts) c.value c.is in
       let w = parts c.value.rest y.value y.is in
       made w.is_open ts (stmt.While c.value.it y.value.it (first_pos ts)) (max c.value.height y.value.height) y.value.rest x y.gives (glue k (glue d.opens (glue d.split (glue d.closes (record { is = w.split })))))
-        (g.a_while (first_pos ts) (first_pos (behind ts)) d.end d.spelled w.spelled) w.closed
+      (g.a_while (first_pos ts) (first_pos (behind ts)) d.end d.spelled w.spelled) w.closed
+
+  do_end_took : (ts us : List Token) (y : Read Stmt) (c : Read Expr) → One ts (reserved key.Do (first_pos ts)) (behind ts) → TakesStmt types below (behind ts) y
+      → One y.rest (reserved key.While (first_pos y.rest)) us → TookCondition types below us c → (x : Read Stmt)
+      → (taking is_semicolon c.rest >>= λ more. node (suc below) (stmt.Do y.it c.it (first_pos ts)) (max y.height c.height) more) ≡ Some x → TakesStmt types (suc below) ts x
+  do_end_took ts us y c k w loop d x is =
+      let e = bind_some (taking is_semicolon c.rest) _ x is in
+      let end = taken is_semicolon sign.Semicolon semicolon c.rest e.value e.is in
+      made_whole ts (stmt.Do y.it c.it (first_pos ts)) (max y.height c.height) e.value x e.gives
+      (glue k (glue (record { is = w.split }) (glue loop (glue d.opens (glue d.split (glue d.closes end))))))
+      (g.a_do (first_pos ts) (first_pos y.rest) (first_pos us) d.end (first_pos c.rest) w.spelled d.spelled)
 
   do_took : (ts : List Token) (x : Read Stmt) → One ts (reserved key.Do (first_pos ts)) (behind ts) → u.a_do types below inner (first_pos ts) (behind ts) ≡ Some x → TakesStmt types (suc below) ts x
   unfolding u.a_do
@@ -203,14 +221,7 @@ module _ (types : List NameId) (below : ℕ) (inner : Parse Stmt) (exprs : lower
       let y = bind_some (inner (behind ts)) _ x is in
       let l = bind_some (taking_word is_while y.value.rest) _ x y.gives in
       let c = bind_some (u.condition types below inner l.value) _ x l.gives in
-      let e = bind_some (taking is_semicolon c.value.rest) _ x c.gives in
-      let w = parts (behind ts) y.value y.is in
-      let d = condition_took l.value c.value c.is in
-      let end = taken is_semicolon sign.Semicolon semicolon c.value.rest e.value e.is in
-      let loop = taken_while y.value.rest l.value l.is in
-      made_whole ts (stmt.Do y.value.it c.value.it (first_pos ts)) (max y.value.height c.value.height) e.value x e.gives
-        (glue k (glue (record { is = w.split }) (glue loop (glue d.opens (glue d.split (glue d.closes end))))))
-        (g.a_do (first_pos ts) (first_pos y.value.rest) (first_pos l.value) d.end (first_pos c.value.rest) w.spelled d.spelled)
+      do_end_took ts l.value y.value c.value k (parts (behind ts) y.value y.is) (taken_while y.value.rest l.value l.is) (condition_took l.value c.value c.is) x c.gives
 
   for_expr_took : (ts : List Token) (f : Read ForStart) → u.for_expr types below inner ts ≡ Some f → TookStart types below ts f
   unfolding u.for_expr
@@ -219,7 +230,7 @@ module _ (types : List NameId) (below : ℕ) (inner : Parse Stmt) (exprs : lower
       let e = bind_some (taking is_semicolon a.value.rest) _ f a.gives in
       let w = exprs.expr Whole ts a.value a.is in
       given (λ (y : Read ForStart). TookStart types below ts y) (read (first.Expr a.value.it.tree) a.value.height e.value) f e.gives
-        (record { span = _; split = glue (record { is = w.split }) (taken is_semicolon sign.Semicolon semicolon a.value.rest e.value e.is); spelled = with_expr (first_pos a.value.rest) w.spelled; low = w.low })
+      (record { span = _; split = glue (record { is = w.split }) (taken is_semicolon sign.Semicolon semicolon a.value.rest e.value e.is); spelled = with_expr (first_pos a.value.rest) w.spelled; low = w.low })
 
   -- a declaration begins where its tokens do
   from : {ts : List Token} {t : Read Decl} → (w : TakesDecl types below ts t) → first_pos w.span ≡ first_pos ts
@@ -231,16 +242,33 @@ module _ (types : List NameId) (below : ℕ) (inner : Parse Stmt) (exprs : lower
       let t = bind_some (body_declaration types below ts) _ f is in
       let w = decls ts t.value t.is in
       node_is (λ (y : Read ForStart). TookStart types below ts y) below (first.Decl t.value.it (first_pos ts)) t.value.height t.value.rest f t.gives
-        (λ low. record { span = w.span; split = record { is = w.split };
-            spelled = subst (λ (p : Pos). Starts types (suc t.value.height) (first.Decl t.value.it p) w.span) (from w) (with_declaration w.spelled); low = low })
+      (λ low. record {
+        span = w.span;
+        split = record { is = w.split };
+        spelled = subst (λ (p : Pos). Starts types (suc t.value.height) (first.Decl t.value.it p) w.span) (from w) (with_declaration w.spelled);
+        low = low;
+      })
 
   for_start_took : (ts : List Token) (f : Read ForStart) → u.for_start types below inner ts ≡ Some f → TookStart types below ts f
   unfolding u.for_start
   for_start_took ts f is = ⊎_elim
       (λ t. given (λ (y : Read ForStart). TookStart types below ts y) (read first.Nothing 0 (behind ts)) f t.1
-          (record { span = _; split = front_is ts sign.Semicolon (semicolon (front ts) t.0); spelled = with_nothing (first_pos ts); low = omega arith }))
+      (record { span = _; split = front_is ts sign.Semicolon (semicolon (front ts) t.0); spelled = with_nothing (first_pos ts); low = omega arith }))
       (λ t. ⊎_elim (λ v. for_local_took ts f v.1) (λ v. for_expr_took ts f v.1) (if_is (begins_type types ts) _ _ (Some f) t.1))
       (if_is (is_semicolon (front ts)) _ _ (Some f) is)
+
+  for_end_took : (ts us vs : List Token) (f : Read ForStart) (c e : Read (Option Expr)) → One ts (reserved key.For (first_pos ts)) (behind ts) → One (behind ts) (punct sign.LeftParen (first_pos (behind ts))) us
+      → TookStart types below us f → TookAtMost types below f.rest c → One c.rest (punct sign.Semicolon (first_pos c.rest)) vs → TookAtMost types below vs e → (x : Read Stmt)
+      → (taking is_right_paren e.rest >>= λ closed. inner closed >>= λ y. node (suc below) (stmt.For f.it c.it e.it y.it (first_pos ts)) (max f.height (max c.height (max e.height y.height))) y.rest) ≡ Some x
+      → TakesStmt types (suc below) ts x
+  for_end_took ts us vs f c e k opens s a middle b x is =
+      let q = bind_some (taking is_right_paren e.rest) _ x is in
+      let y = bind_some (inner q.value) _ x q.gives in
+      let closes = taken is_right_paren sign.RightParen right_paren e.rest q.value q.is in
+      let w = parts q.value y.value y.is in
+      made w.is_open ts (stmt.For f.it c.it e.it y.value.it (first_pos ts)) (max f.height (max c.height (max e.height y.value.height))) y.value.rest x y.gives
+      (glue k (glue opens (glue s.split (glue a.split (glue middle (glue b.split (glue closes (record { is = w.split }))))))))
+      (g.a_for (first_pos ts) (first_pos (behind ts)) (first_pos c.rest) (first_pos e.rest) s.spelled a.spelled b.spelled w.spelled) w.closed
 
   for_took : (ts : List Token) (x : Read Stmt) → One ts (reserved key.For (first_pos ts)) (behind ts) → u.a_for types below inner (first_pos ts) (behind ts) ≡ Some x → TakesStmt types (suc below) ts x
   unfolding u.a_for
@@ -250,18 +278,10 @@ module _ (types : List NameId) (below : ℕ) (inner : Parse Stmt) (exprs : lower
       let c = bind_some (u.at_most types below inner is_semicolon f.value.rest) _ x f.gives in
       let m = bind_some (taking is_semicolon c.value.rest) _ x c.gives in
       let e = bind_some (u.at_most types below inner is_right_paren m.value) _ x m.gives in
-      let q = bind_some (taking is_right_paren e.value.rest) _ x e.gives in
-      let y = bind_some (inner q.value) _ x q.gives in
       let opens = taken is_left_paren sign.LeftParen left_paren (behind ts) o.value o.is in
       let middle = taken is_semicolon sign.Semicolon semicolon c.value.rest m.value m.is in
-      let closes = taken is_right_paren sign.RightParen right_paren e.value.rest q.value q.is in
-      let s = for_start_took o.value f.value f.is in
-      let a = at_most_took is_semicolon f.value.rest c.value c.is in
-      let b = at_most_took is_right_paren m.value e.value e.is in
-      let w = parts q.value y.value y.is in
-      made w.is_open ts (stmt.For f.value.it c.value.it e.value.it y.value.it (first_pos ts)) (max f.value.height (max c.value.height (max e.value.height y.value.height))) y.value.rest x y.gives
-        (glue k (glue opens (glue s.split (glue a.split (glue middle (glue b.split (glue closes (record { is = w.split }))))))))
-        (g.a_for (first_pos ts) (first_pos (behind ts)) (first_pos c.value.rest) (first_pos e.value.rest) s.spelled a.spelled b.spelled w.spelled) w.closed
+      for_end_took ts o.value m.value f.value c.value e.value k opens (for_start_took o.value f.value f.is) (at_most_took is_semicolon f.value.rest c.value c.is) middle
+      (at_most_took is_right_paren m.value e.value e.is) x e.gives
 
   -- ---- jumps and expressions
 
@@ -272,7 +292,7 @@ module _ (types : List NameId) (below : ℕ) (inner : Parse Stmt) (exprs : lower
       let e = bind_some (taking is_semicolon (behind (behind ts))) _ x w.gives in
       let end = taken is_semicolon sign.Semicolon semicolon (behind (behind ts)) e.value e.is in
       made_whole ts (stmt.Goto w.value (first_pos ts)) 0 e.value x e.gives (glue k (glue (front_word_is (behind ts) w.value w.is) end))
-        (g.a_goto w.value (first_pos ts) (first_pos (behind ts)) (first_pos (behind (behind ts))))
+      (g.a_goto w.value (first_pos ts) (first_pos (behind ts)) (first_pos (behind (behind ts))))
 
   break_took : (ts : List Token) (x : Read Stmt) → One ts (reserved key.Break (first_pos ts)) (behind ts) → u.a_break types below inner (first_pos ts) (behind ts) ≡ Some x → TakesStmt types (suc below) ts x
   unfolding u.a_break
@@ -324,7 +344,7 @@ module _ (types : List NameId) (below : ℕ) (inner : Parse Stmt) (exprs : lower
       let y = bind_some (inner (behind (behind ts))) _ x is in
       let v = parts (behind (behind ts)) y.value y.is in
       made v.is_open ts (stmt.Label w y.value.it (first_pos ts)) y.value.height y.value.rest x y.gives (glue (label_word ts w at) (record { is = v.split }))
-        (g.a_label w (first_pos ts) (first_pos (behind ts)) v.spelled) v.closed
+      (g.a_label w (first_pos ts) (first_pos (behind ts)) v.spelled) v.closed
 
   -- ---- items
 
@@ -337,8 +357,11 @@ module _ (types : List NameId) (below : ℕ) (inner : Parse Stmt) (exprs : lower
       let t = bind_some (body_declaration types below ts) _ x is in
       let w = decls ts t.value t.is in
       node_is (λ (y : Read Stmt). Item (ItemFits switch) ts y) below (stmt.Decl t.value.it (first_pos ts)) t.value.height t.value.rest x t.gives
-        (λ low. record { span = w.span; split = record { is = w.split };
-            good = subst (λ (p : Pos). AnItem types switch (suc t.value.height) (stmt.Decl t.value.it p) w.span) (from w) (a_declared switch w.spelled) })
+      (λ low. record {
+        span = w.span;
+        split = record { is = w.split };
+        good = subst (λ (p : Pos). AnItem types switch (suc t.value.height) (stmt.Decl t.value.it p) w.span) (from w) (a_declared switch w.spelled);
+      })
 
   plain_item_took : (switch : Bool) (ts : List Token) (x : Read Stmt) → u.plain_item types below inner ts ≡ Some x → Item (ItemFits switch) ts x
   unfolding u.plain_item
@@ -355,14 +378,14 @@ module _ (types : List NameId) (below : ℕ) (inner : Parse Stmt) (exprs : lower
       let w = exprs.expr Choice (behind ts) a.value a.is in
       let end = taken is_colon sign.Colon colon a.value.rest e.value e.is in
       given (λ (y : Read Stmt). Item (ItemFits true) ts y) (read (stmt.Case a.value.it.tree (first_pos ts)) a.value.height e.value) x e.gives
-        (record { span = _; split = glue k (glue (record { is = w.split }) end); good = a_case (first_pos ts) (first_pos a.value.rest) w.spelled })
+      (record { span = _; split = glue k (glue (record { is = w.split }) end); good = a_case (first_pos ts) (first_pos a.value.rest) w.spelled })
 
   default_took : (ts : List Token) (x : Read Stmt) → One ts (reserved key.Default (first_pos ts)) (behind ts) → u.default_item types below inner ts ≡ Some x → Item (ItemFits true) ts x
   unfolding u.default_item
   default_took ts x k is =
       let e = bind_some (taking is_colon (behind ts)) _ x is in
       given (λ (y : Read Stmt). Item (ItemFits true) ts y) (read (stmt.Default (first_pos ts)) 0 e.value) x e.gives
-        (record { span = _; split = glue k (taken is_colon sign.Colon colon (behind ts) e.value e.is); good = a_default (first_pos ts) (first_pos (behind ts)) })
+      (record { span = _; split = glue k (taken is_colon sign.Colon colon (behind ts) e.value e.is); good = a_default (first_pos ts) (first_pos (behind ts)) })
 
   marked_took : (m : Marker) (ts : List Token) (x : Read Stmt) → marker (front_reserved ts) ≡ m → u.marked_item types below inner m ts ≡ Some x → Item (ItemFits true) ts x
   unfolding u.marked_item
@@ -398,7 +421,14 @@ module _ (types : List NameId) (below : ℕ) (inner : Parse Stmt) (exprs : lower
       let xs = bind_some (u.items types below inner false (behind ts)) _ x is in
       let t = items_took false (behind ts) xs.value xs.is in
       made_whole ts (stmt.Block xs.value.it (first_pos ts) (first_pos xs.value.rest)) xs.value.height (behind xs.value.rest) x xs.gives (glue k (glue t.split t.closes))
-        (g.a_block (first_pos ts) (first_pos xs.value.rest) t.spelled)
+      (g.a_block (first_pos ts) (first_pos xs.value.rest) t.spelled)
+
+  switch_end_took : (ts us : List Token) (c : Read Expr) (xs : Read (List Stmt)) → One ts (reserved key.Switch (first_pos ts)) (behind ts) → TookCondition types below (behind ts) c
+      → One c.rest (punct sign.LeftBrace (first_pos c.rest)) us → TookItems true us xs → (x : Read Stmt)
+      → node (suc below) (stmt.Switch c.it xs.it (first_pos ts) (first_pos xs.rest)) (max c.height xs.height) (behind xs.rest) ≡ Some x → TakesStmt types (suc below) ts x
+  switch_end_took ts us c xs k d begins t x is = made_whole ts (stmt.Switch c.it xs.it (first_pos ts) (first_pos xs.rest)) (max c.height xs.height) (behind xs.rest) x is
+      (glue k (glue d.opens (glue d.split (glue d.closes (glue begins (glue t.split t.closes))))))
+      (g.a_switch (first_pos ts) (first_pos (behind ts)) d.end (first_pos c.rest) (first_pos xs.rest) d.spelled t.spelled)
 
   switch_took : (ts : List Token) (x : Read Stmt) → One ts (reserved key.Switch (first_pos ts)) (behind ts) → u.a_switch types below inner (first_pos ts) (behind ts) ≡ Some x → TakesStmt types (suc below) ts x
   unfolding u.a_switch
@@ -406,12 +436,8 @@ module _ (types : List NameId) (below : ℕ) (inner : Parse Stmt) (exprs : lower
       let c = bind_some (u.condition types below inner (behind ts)) _ x is in
       let o = bind_some (taking is_left_brace c.value.rest) _ x c.gives in
       let xs = bind_some (u.items types below inner true o.value) _ x o.gives in
-      let d = condition_took (behind ts) c.value c.is in
       let begins = taken is_left_brace sign.LeftBrace left_brace c.value.rest o.value o.is in
-      let t = items_took true o.value xs.value xs.is in
-      made_whole ts (stmt.Switch c.value.it xs.value.it (first_pos ts) (first_pos xs.value.rest)) (max c.value.height xs.value.height) (behind xs.value.rest) x xs.gives
-        (glue k (glue d.opens (glue d.split (glue d.closes (glue begins (glue t.split t.closes))))))
-        (g.a_switch (first_pos ts) (first_pos (behind ts)) d.end (first_pos c.value.rest) (first_pos xs.value.rest) d.spelled t.spelled)
+      switch_end_took ts o.value c.value xs.value k (condition_took (behind ts) c.value c.is) begins (items_took true o.value xs.value xs.is) x xs.gives
 
   -- ---- all of them
 
