@@ -1,9 +1,7 @@
 -- How statements, declarations and initialisers begin: what tells a label, a keyword, a declaration and an
 -- expression apart.
-use Rattle.std.proofs.Common.{◌≡◌, ℕ, zero, suc, ◌≤◌, max, Bool, true, false, not, ◌&&◌, ◌||◌, List, [], ◌∷◌, ◌++◌, length, Option, Some, None, refl, sym, ap, subst, ◌∙◌, append_assoc, arith}
-use Rattle.std.proofs.lemmas.Bool.{or_left, or_right}
+use Rattle.std.proofs.Common.{◌≡◌, ℕ, Bool, true, false, not, ◌||◌, List, [], ◌∷◌, ◌++◌, Option, Some, None, refl, ap, ◌∙◌, append_assoc}
 use Rattle.std.specs.Prelude.{if◌then◌else◌}
-use Rattle.sc_base.specs.declared.pos.Pos.{Pos}
 use Rattle.sc_base.specs.declared.pos.NameId.{NameId}
 use Rattle.sc_tree.specs.declared.token.Token.{Token}
 use Rattle.sc_tree.specs.declared.token.Kind.{Kind}
@@ -11,30 +9,20 @@ use Rattle.sc_tree.specs.declared.token.Kind.TheVariants as k
 use Rattle.sc_tree.specs.declared.token.StrToken.{StrToken}
 use Rattle.sc_tree.specs.declared.token.Punct.{Punct}
 use Rattle.sc_tree.specs.declared.token.Punct.TheVariants as sign
-use Rattle.sc_tree.specs.declared.token.Reserved.{Reserved}
 use Rattle.sc_tree.specs.declared.token.Reserved.TheVariants as key
 use Rattle.sc_tree.specs.declared.op.AssignOp.{AssignOp}
 use Rattle.sc_tree.specs.declared.op.Step.{Step}
 use Rattle.sc_tree.specs.declared.expr.Expr.{Expr}
-use Rattle.sc_tree.specs.declared.expr.Declarator.{Declarator}
-use Rattle.sc_tree.specs.declared.stmt.Stmt.{Stmt}
-use Rattle.sc_tree.specs.declared.decl.Decl.{Decl}
 use Rattle.sc_tree.specs.declared.grammar.Level.{Level}
-use Rattle.sc_tree.specs.declared.grammar.Naming.{Naming}
-use Rattle.sc_tree.specs.declared.grammar.Naming.TheVariants as naming
-use Rattle.sc_tree.specs.declared.grammar.Core.{Core}
 use Rattle.sc_tree.specs.declared.grammar.Piece.{Piece}
 use Rattle.sc_tree.specs.declared.grammar.Specified.{Specified}
-use Rattle.sc_tree.specs.Operators.{Binding, binary, unary, step, assign, field}
-use Rattle.sc_tree.specs.TypeWords.{storage_word, type_word}
-use Rattle.sc_tree.specs.Tokens.{token, word, punct, reserved, first_pos, is_type}
+use Rattle.sc_tree.specs.Operators.{Binding, binary, step, assign, field}
+use Rattle.sc_tree.specs.Tokens.{token, word, punct, reserved, is_type}
 use Rattle.sc_tree.specs.Grammar as g
 use Rattle.sc_tree.specs.Grammar.{may_lack, Strings, one_string, more_strings, Spells, Specifies, pieces, Pieces, no_piece, more_pieces, APiece, Declares}
-use Rattle.sc_tree.specs.Statements as s
-use Rattle.sc_tree.specs.Statements.{States, Items, AnItem, ADeclaration, Initialises}
-use Rattle.sc_parse_expr.specs.Front.{punct_of, word_of, reserved_of, front, front_word, front_reserved, behind, is_left_paren, is_right_paren, is_left_bracket, is_left_brace, is_right_brace, is_comma, is_colon, is_semicolon, is_star, is_equals, is_some, is_sizeof, is_enum, is_type_word, begins_piece, begins_type}
+use Rattle.sc_parse_expr.specs.Front.{punct_of, word_of, reserved_of, front, front_word, front_reserved, behind, is_right_paren, is_left_brace, is_right_brace, is_colon, is_semicolon, is_type_word, begins_piece, begins_type}
 use Rattle.sc_parse_expr.specs.Laws.{opens_expr, BeginsExpr, BeginsSpecs, opens_declarator, BeginsDeclarator}
-use Rattle.sc_parse_unit.specs.Reading.{is_dot, begins_designator, label_at, is_label, keyword, Keyword, NoKeyword, marker, Marker, NoMarker, is_no_designator}
+use Rattle.sc_parse_unit.specs.Reading.{begins_designator, label_at, keyword, NoKeyword, marker, NoMarker}
 
 -- ---- labels
 

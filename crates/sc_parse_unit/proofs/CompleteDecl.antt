@@ -1,10 +1,8 @@
 -- What is spelled is read: declarations in a body.
-use Rattle.std.proofs.Common.{◌≡◌, ℕ, zero, suc, ◌+◌, ◌≤◌, max, Bool, true, false, not, ◌&&◌, ◌||◌, List, [], ◌∷◌, ◌++◌, length, Option, Some, None, refl, sym, ap, ap₂, subst, ◌∙◌, append_assoc, arith, length-append}
-use Rattle.std.specs.Prelude.{if◌then◌else◌}
+use Rattle.std.proofs.Common.{◌≡◌, ℕ, ◌≤◌, max, true, false, List, [], ◌∷◌, ◌++◌, length, Some, None, refl, sym, ap, ap₂, subst, ◌∙◌, append_assoc, arith, length-append}
 use Rattle.sc_base.specs.declared.pos.Pos.{Pos}
 use Rattle.sc_base.specs.declared.pos.NameId.{NameId}
 use Rattle.sc_tree.specs.declared.token.Token.{Token}
-use Rattle.sc_tree.specs.declared.token.Punct.{Punct}
 use Rattle.sc_tree.specs.declared.token.Punct.TheVariants as sign
 use Rattle.sc_tree.specs.declared.expr.Declarator.{Declarator}
 use Rattle.sc_tree.specs.declared.decl.Init.{Init}
@@ -14,19 +12,18 @@ use Rattle.sc_tree.specs.declared.grammar.Level.TheVariants.{Assignment}
 use Rattle.sc_tree.specs.declared.grammar.Naming.TheVariants as naming
 use Rattle.sc_tree.specs.declared.grammar.Core.{Core}
 use Rattle.sc_tree.specs.declared.grammar.Specified.{Specified}
-use Rattle.sc_tree.specs.Tables.{◌>>=◌}
 use Rattle.sc_tree.specs.Tokens.{punct, first_pos}
-use Rattle.sc_tree.specs.Grammar.{Specifies, Declares}
-use Rattle.sc_tree.specs.Statements.{Initialises, AnInitDeclarator, uninitialised, initialised, InitDeclarators, one_declared, more_declared, IsPlain, declaration, ADeclaration, without_declarators, with_declarators}
-use Rattle.sc_parse_expr.specs.Front.{front, behind, front_reserved, begins_piece, is_left_brace, is_equals, is_comma, is_semicolon, is_colon}
-use Rattle.sc_parse_expr.specs.Read.{Read, read, Parse, commas, Listed}
-use Rattle.sc_parse_expr.specs.Reading.{specs_at, declarator_at, declared, with_item, never}
+use Rattle.sc_tree.specs.Grammar.{Declares}
+use Rattle.sc_tree.specs.Statements.{AnInitDeclarator, uninitialised, initialised, InitDeclarators, one_declared, more_declared, IsPlain, ADeclaration, without_declarators, with_declarators}
+use Rattle.sc_parse_expr.specs.Front.{front, is_equals}
+use Rattle.sc_parse_expr.specs.Read.{read, commas}
+use Rattle.sc_parse_expr.specs.Reading.{declared, with_item, never}
 use Rattle.sc_parse_expr.specs.Laws.{ends_expr, ends_specs, ends_declarator, BeginsSpecs, BeginsDeclarator}
 use Rattle.sc_parse_expr.specs.Laws as below
 use Rattle.sc_parse_expr.proofs.Begins.{begins_specs, begins_declarator}
 use Rattle.sc_parse_expr.proofs.Inner.{has_turn, commas_last, commas_more}
-use Rattle.sc_parse_unit.specs.Reading.{initialiser, declared_as, with_init, init_declarator, is_plain, is_plain_form, declarators, declared_plain, body_declaration, label_at}
-use Rattle.sc_parse_unit.proofs.BeginsStmt.{is_end, declarator_no_end, declarator_no_piece, no_left_brace, no_semicolon, no_colon, specs_no_label}
+use Rattle.sc_parse_unit.specs.Reading.{initialiser, declared_as, with_init, init_declarator, is_plain, declarators, declared_plain, body_declaration, label_at}
+use Rattle.sc_parse_unit.proofs.BeginsStmt.{declarator_no_end, declarator_no_piece, no_left_brace, no_semicolon, no_colon, specs_no_label}
 use Rattle.sc_parse_unit.proofs.CompleteInit.{initialiser_read}
 
 -- ---- how they begin
@@ -67,7 +64,7 @@ decl_no_label {types = types} (without_declarators {s = s} p d plain) rest =
     rw (append_assoc s (punct sign.Semicolon p ∷ []) rest) (specs_no_label d (begins_specs types _ _ _ d) (punct sign.Semicolon p ∷ rest) refl)
 decl_no_label {types = types} (with_declarators {s = s} {r = r} p d plain xs) rest =
     rw (append_assoc s (r ++ punct sign.Semicolon p ∷ []) rest, append_assoc r (punct sign.Semicolon p ∷ []) rest)
-      (specs_no_label d (begins_specs types _ _ _ d) (r ++ punct sign.Semicolon p ∷ rest) (no_colon _ (declarator_no_end (parts_begin xs) (punct sign.Semicolon p ∷ rest))))
+    (specs_no_label d (begins_specs types _ _ _ d) (r ++ punct sign.Semicolon p ∷ rest) (no_colon _ (declarator_no_end (parts_begin xs) (punct sign.Semicolon p ∷ rest))))
 
 -- ---- declarators with their initialisers
 
@@ -101,11 +98,11 @@ module _ (types : List NameId) (known : (limit : ℕ) → below.IsComplete types
       rw ((known limit).declarator naming.Required c h t s rest d low ends.declarator) (with_no_init types limit t c h rest ends.plain)
   part_read (initialised {c = c} {h = h} {m = m} {t = t} {i = i} {s = s} {r = r} p d x) low rest ends =
       rw (append_assoc s (punct sign.Assign p ∷ r) rest, (known limit).declarator naming.Required c h t s (punct sign.Assign p ∷ (r ++ rest)) d (omega arith) refl)
-        (with_some_init types limit t c h m i p r rest (initialiser_read types known limit m i r rest x (omega arith) ends.init))
+      (with_some_init types limit t c h m i p r rest (initialiser_read types known limit m i r rest x (omega arith) ends.init))
 
   parts_read : {m : ℕ} {xs : List InitDeclarator} {s : List Token} → InitDeclarators types m xs s → m ≤ limit → (n : ℕ) → length s ≤ n → (ys : List InitDeclarator) (h : ℕ) (q : Pos) (rest : List Token)
       → commas (init_declarator types limit) with_item never n ys h (s ++ punct sign.Semicolon q ∷ rest)
-        ≡ Some (read (record { items = ys ++ xs; comma = false }) (max h m) (punct sign.Semicolon q ∷ rest))
+      ≡ Some (read (record { items = ys ++ xs; comma = false }) (max h m) (punct sign.Semicolon q ∷ rest))
   parts_read (one_declared {h = m} {x = x} {s = s} d) low n room ys h q rest =
       let some = declarator_not_empty (part_begins d) in
       let turn = has_turn n (omega (arith, room, some)) in
@@ -117,10 +114,10 @@ module _ (types : List NameId) (known : (limit : ℕ) → below.IsComplete types
       let same = turn.1 in
       let end = punct sign.Semicolon q ∷ rest in
       let step = commas_more (init_declarator types limit) with_item never turn.0 ys h (s ++ punct sign.Comma p ∷ (r ++ end)) x m p (r ++ end)
-            (part_read d (omega arith) (punct sign.Comma p ∷ (r ++ end)) (behind_comma p (r ++ end))) refl in
+      (part_read d (omega arith) (punct sign.Comma p ∷ (r ++ end)) (behind_comma p (r ++ end))) refl in
       let others = parts_read more (omega arith) turn.0 (omega (arith, room, long, same)) (ys ++ x ∷ []) (max h m) q rest in
       rw (same, append_assoc s (punct sign.Comma p ∷ r) end)
-        (step ∙ (others ∙ ap₂ (λ (z : List InitDeclarator) (w : ℕ). Some (read (record { items = z; comma = false }) w end)) (append_assoc ys (x ∷ []) xs) (omega arith)))
+      (step ∙ (others ∙ ap₂ (λ (z : List InitDeclarator) (w : ℕ). Some (read (record { items = z; comma = false }) w end)) (append_assoc ys (x ∷ []) xs) (omega arith)))
 
   -- ---- declarations
 
@@ -139,5 +136,13 @@ module _ (types : List NameId) (known : (limit : ℕ) → below.IsComplete types
       let long = length-append r end in
       let two = parts_read ds (omega arith) (length (r ++ end)) (omega (arith, long)) [] 0 p rest in
       let tall : max 0 m ≡ m = omega arith in
-      rw (append_assoc s (r ++ punct sign.Semicolon p ∷ []) rest, append_assoc r (punct sign.Semicolon p ∷ []) rest, one, plain_is f plain, specs_first (begins_specs types j f s d) (r ++ end),
-          no_semicolon _ (declarator_no_end (parts_begin ds) end), two, tall) refl
+      rw (
+        append_assoc s (r ++ punct sign.Semicolon p ∷ []) rest,
+        append_assoc r (punct sign.Semicolon p ∷ []) rest,
+        one,
+        plain_is f plain,
+        specs_first (begins_specs types j f s d) (r ++ end),
+        no_semicolon _ (declarator_no_end (parts_begin ds) end),
+        two,
+        tall,
+      ) refl

@@ -1,32 +1,25 @@
 -- What is spelled is read: initialisers. By recursion on what spells them; those in braces are read by
 -- `inner`.
-use Rattle.std.proofs.Common.{◌≡◌, ℕ, zero, suc, ◌+◌, ◌≤◌, max, Bool, true, false, not, ◌&&◌, ◌||◌, List, [], ◌∷◌, ◌++◌, length, Option, Some, None, refl, sym, ap, ap₂, subst, ◌∙◌, append_assoc, arith, length-append}
-use Rattle.std.specs.Prelude.{if◌then◌else◌}
+use Rattle.std.proofs.Common.{◌≡◌, ℕ, zero, suc, ◌≤◌, max, Bool, true, false, List, [], ◌∷◌, ◌++◌, length, Some, refl, sym, ap, ap₂, subst, ◌∙◌, append_assoc, arith, length-append}
 use Rattle.sc_base.specs.declared.pos.Pos.{Pos}
 use Rattle.sc_base.specs.declared.pos.NameId.{NameId}
 use Rattle.sc_tree.specs.declared.token.Token.{Token}
-use Rattle.sc_tree.specs.declared.token.Kind.{Kind}
-use Rattle.sc_tree.specs.declared.token.Kind.TheVariants as k
-use Rattle.sc_tree.specs.declared.token.Punct.{Punct}
 use Rattle.sc_tree.specs.declared.token.Punct.TheVariants as sign
-use Rattle.sc_tree.specs.declared.expr.Expr.{Expr}
 use Rattle.sc_tree.specs.declared.decl.Init.{Init}
 use Rattle.sc_tree.specs.declared.decl.Init.TheVariants as init
-use Rattle.sc_tree.specs.declared.decl.InitItem.{InitItem, roll-InitItem}
+use Rattle.sc_tree.specs.declared.decl.InitItem.{InitItem}
 use Rattle.sc_tree.specs.declared.decl.Designator.{Designator}
-use Rattle.sc_tree.specs.declared.decl.Designator.TheVariants as designator
-use Rattle.sc_tree.specs.declared.grammar.Level.TheVariants.{Choice, Assignment, Whole}
-use Rattle.sc_tree.specs.Tables.{◌>>=◌}
+use Rattle.sc_tree.specs.declared.grammar.Level.TheVariants.{Choice, Assignment}
 use Rattle.sc_tree.specs.Tokens.{punct, word}
 use Rattle.sc_tree.specs.Statements.{ADesignator, of_field, of_index, Designates, one_designator, more_designators, Initialises, a_value, empty_braces, in_braces, InitItems, last_item, last_item_with_comma, more_items, AnInitItem, an_item, a_designated}
-use Rattle.sc_parse_expr.specs.Front.{punct_of, front, behind, is_right_brace, is_comma, is_equals, is_left_brace}
-use Rattle.sc_parse_expr.specs.Read.{Read, read, Parse, node, commas, Listed}
-use Rattle.sc_parse_expr.specs.Reading.{expr_at, with_item, parse}
+use Rattle.sc_parse_expr.specs.Front.{punct_of, front, is_right_brace}
+use Rattle.sc_parse_expr.specs.Read.{read, Parse, commas}
+use Rattle.sc_parse_expr.specs.Reading.{with_item, parse}
 use Rattle.sc_parse_expr.specs.Laws.{ends_expr}
 use Rattle.sc_parse_expr.specs.Laws as below
 use Rattle.sc_parse_expr.proofs.Begins.{begins_expr}
 use Rattle.sc_parse_expr.proofs.Inner.{node_is, has_turn, commas_last, commas_end, commas_more}
-use Rattle.sc_parse_unit.specs.Reading.{begins_designator, is_no_designator, a_designator, designators, item_of, designated, undesignated, init_item, braces, init_value, initialiser_by, initialiser}
+use Rattle.sc_parse_unit.specs.Reading.{begins_designator, a_designator, designators, designated, undesignated, init_item, braces, init_value, initialiser_by, initialiser}
 use Rattle.sc_parse_unit.proofs.BeginsStmt.{is_end, expr_no_end, no_right_brace, no_left_brace, no_designator}
 
 -- ---- how they begin
@@ -100,7 +93,7 @@ module _ (types : List NameId) (limit : ℕ) (known : below.IsComplete types lim
       let some = not_empty (designator_begins d) in
       let turn = has_turn n (omega (arith, room, some)) in
       rw turn.1 (designators_step turn.0 ys h (s ++ rest) x m rest (designates (designator_begins d) rest) (designator_read d low rest)
-        ∙ designators_stop turn.0 (ys ++ x ∷ []) (max h m) rest end)
+      ∙ designators_stop turn.0 (ys ++ x ∷ []) (max h m) rest end)
   designates_read (more_designators {h = m} {m = j} {x = x} {xs = xs} {s = s} {r = r} d more) low n room ys h rest end =
       let some = not_empty (designator_begins d) in
       let long = length-append s r in
@@ -136,7 +129,7 @@ module _ (types : List NameId) (limit : ℕ) (inner : Parse Init) (known : below
 
   items_read : {m : ℕ} {xs : List InitItem} {s : List Token} → InitItems types m xs s → m ≤ limit → (n : ℕ) → length s ≤ n → (ys : List InitItem) (h : ℕ) (q : Pos) (rest : List Token)
       → (c : Bool) × (commas (init_item types limit inner) with_item is_right_brace n ys h (s ++ punct sign.RightBrace q ∷ rest)
-        ≡ Some (read (record { items = ys ++ xs; comma = c }) (max h m) (punct sign.RightBrace q ∷ rest)))
+      ≡ Some (read (record { items = ys ++ xs; comma = c }) (max h m) (punct sign.RightBrace q ∷ rest)))
   items_read (last_item {h = m} {x = x} {s = s} d) low n room ys h q rest =
       let some = not_empty (item_begins d).1 in
       let turn = has_turn n (omega (arith, room, some)) in
@@ -145,19 +138,23 @@ module _ (types : List NameId) (limit : ℕ) (inner : Parse Init) (known : below
   items_read (last_item_with_comma {h = m} {x = x} {s = s} p d) low n room ys h q rest =
       let long = length-append s (punct sign.Comma p ∷ []) in
       let turn = has_turn n (omega (arith, room, long)) in
-      let end = punct sign.RightBrace q ∷ rest in
-      (true, rw (turn.1, append_assoc s (punct sign.Comma p ∷ []) end)
-        (commas_end (init_item types limit inner) with_item is_right_brace turn.0 ys h (s ++ punct sign.Comma p ∷ end) x m p end (item_read d low (punct sign.Comma p ∷ end) refl) refl))
+      let end = punct sign.RightBrace q ∷ rest in (
+        true,
+        rw (turn.1, append_assoc s (punct sign.Comma p ∷ []) end)
+            (commas_end (init_item types limit inner) with_item is_right_brace turn.0 ys h (s ++ punct sign.Comma p ∷ end) x m p end (item_read d low (punct sign.Comma p ∷ end) refl) refl),
+      )
   items_read (more_items {h = m} {m = j} {x = x} {xs = xs} {s = s} {r = r} p d more) low n room ys h q rest =
       let long = length-append s (punct sign.Comma p ∷ r) in
       let turn = has_turn n (omega (arith, room, long)) in
       let same = turn.1 in
       let end = punct sign.RightBrace q ∷ rest in
       let step = commas_more (init_item types limit inner) with_item is_right_brace turn.0 ys h (s ++ punct sign.Comma p ∷ (r ++ end)) x m p (r ++ end)
-            (item_read d (omega arith) (punct sign.Comma p ∷ (r ++ end)) refl) (goes_on (items_begin more).1 end) in
-      let others = items_read more (omega arith) turn.0 (omega (arith, room, long, same)) (ys ++ x ∷ []) (max h m) q rest in
-      (others.0, ap₂ (λ (z : ℕ) (w : List Token). commas (init_item types limit inner) with_item is_right_brace z ys h w) same (append_assoc s (punct sign.Comma p ∷ r) end)
-        ∙ (step ∙ (others.1 ∙ ap₂ (λ (z : List InitItem) (w : ℕ). Some (read (record { items = z; comma = others.0 }) w end)) (append_assoc ys (x ∷ []) xs) (omega arith))))
+      (item_read d (omega arith) (punct sign.Comma p ∷ (r ++ end)) refl) (goes_on (items_begin more).1 end) in
+      let others = items_read more (omega arith) turn.0 (omega (arith, room, long, same)) (ys ++ x ∷ []) (max h m) q rest in (
+        others.0,
+        ap₂ (λ (z : ℕ) (w : List Token). commas (init_item types limit inner) with_item is_right_brace z ys h w) same (append_assoc s (punct sign.Comma p ∷ r) end)
+            ∙ (step ∙ (others.1 ∙ ap₂ (λ (z : List InitItem) (w : ℕ). Some (read (record { items = z; comma = others.0 }) w end)) (append_assoc ys (x ∷ []) xs) (omega arith))),
+      )
 
   init_read : below.IsComplete types (suc limit) → {h : ℕ} {t : Init} {s : List Token} → Initialises types h t s → h ≤ suc limit → (rest : List Token) → ends_expr Assignment rest ≡ true
       → initialiser_by types limit inner (s ++ rest) ≡ Some (read t h rest)

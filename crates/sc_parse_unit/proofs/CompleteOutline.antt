@@ -1,37 +1,30 @@
 -- What is spelled is read: what a segment is before the body of a function.
-use Rattle.std.proofs.Common.{◌≡◌, ℕ, zero, suc, ◌+◌, ◌≤◌, max, Bool, true, false, not, ◌&&◌, ◌||◌, List, [], ◌∷◌, ◌++◌, length, Option, Some, None, refl, sym, ap, ap₂, subst, ◌∙◌, append_assoc, arith, length-append}
-use Rattle.std.specs.Prelude.{if◌then◌else◌}
+use Rattle.std.proofs.Common.{◌≡◌, ℕ, suc, ◌≤◌, max, Bool, true, false, List, [], ◌∷◌, ◌++◌, length, Some, refl, ap, ap₂, ◌∙◌, append_assoc, arith, length-append}
 use Rattle.sc_base.specs.declared.pos.Pos.{Pos}
 use Rattle.sc_base.specs.declared.pos.NameId.{NameId}
 use Rattle.sc_tree.specs.declared.token.Token.{Token}
 use Rattle.sc_tree.specs.declared.token.Kind.{Kind}
 use Rattle.sc_tree.specs.declared.token.Kind.TheVariants as k
-use Rattle.sc_tree.specs.declared.token.Punct.{Punct}
 use Rattle.sc_tree.specs.declared.token.Punct.TheVariants as sign
 use Rattle.sc_tree.specs.declared.expr.Head.{Head}
 use Rattle.sc_tree.specs.declared.decl.Decl.{Decl}
 use Rattle.sc_tree.specs.declared.decl.InitDeclarator.{InitDeclarator}
 use Rattle.sc_tree.specs.declared.grammar.Naming.TheVariants as naming
-use Rattle.sc_tree.specs.declared.grammar.Core.{Core}
 use Rattle.sc_tree.specs.declared.grammar.Core.TheVariants as core
-use Rattle.sc_tree.specs.declared.grammar.Specified.{Specified}
-use Rattle.sc_tree.specs.Tables.{◌>>=◌}
-use Rattle.sc_tree.specs.Tokens.{punct, first_pos}
-use Rattle.sc_tree.specs.Statements.{declaration}
+use Rattle.sc_tree.specs.Tokens.{punct}
 use Rattle.sc_tree.specs.Trees.{max_height}
 use Rattle.sc_tree.specs.Units as g
 use Rattle.sc_tree.specs.Units.{with_declared, AFileDeclarator, FileDeclarators, AFileDeclaration, AFunctionHead, a_function_head, is_brace, is_braced, is_empty, closes, IsDeclaration, IsFunction}
 use Rattle.sc_parse_expr.specs.declared.found.Declared.{Declared}
-use Rattle.sc_parse_expr.specs.Front.{front, behind, is_left_brace, is_comma, is_semicolon}
+use Rattle.sc_parse_expr.specs.Front.{front, behind, is_left_brace, is_comma}
 use Rattle.sc_parse_expr.specs.Read.{Read, read, Parse}
-use Rattle.sc_parse_expr.specs.Reading.{specs_at, declarator_at, declared}
+use Rattle.sc_parse_expr.specs.Reading.{declarator_at, declared}
 use Rattle.sc_parse_expr.specs.Laws.{ends_declarator, BeginsDeclarator}
 use Rattle.sc_parse_expr.specs.Laws as below
 use Rattle.sc_parse_expr.proofs.Begins.{begins_specs}
 use Rattle.sc_parse_expr.proofs.Inner.{has_turn}
-use Rattle.sc_parse_unit.specs.declared.found.Outline.{Outline}
 use Rattle.sc_parse_unit.specs.declared.found.Outline.TheVariants as outline
-use Rattle.sc_parse_unit.specs.Reading.{with_init, FileParts, file_parts, file_rest, file_declarator, file_declarators, Outlined, outlined, ended, is_function, function_head, first_declared, specified, is_lone_semicolon, outline_of}
+use Rattle.sc_parse_unit.specs.Reading.{with_init, FileParts, file_parts, file_rest, file_declarator, file_declarators, outlined, ended, function_head, first_declared, specified, outline_of}
 use Rattle.sc_parse_unit.proofs.BeginsStmt.{declarator_no_end, specs_no_end, no_semicolon}
 use Rattle.sc_parse_unit.proofs.CompleteInit.{initialiser_read}
 use Rattle.sc_parse_unit.proofs.CompleteDecl.{longer_declarator, specs_first, declarator_not_empty, required_begins, declarator_ends_specs, IsBehind, behind_comma, behind_semicolon, with_no_init, with_some_init}
@@ -100,11 +93,12 @@ module _ (known : (types : List NameId) (limit : ℕ) → below.IsComplete types
   file_part : {def : Bool} {types between : List NameId} {h : ℕ} {x : InitDeclarator} {s : List Token} → AFileDeclarator def types between h x s → h ≤ max_height
       → (rest : List Token) → IsBehind rest → is_left_brace (front rest) ≡ false → FilePart def types between h x s rest
   file_part (g.plain {c = c} {h = h} {t = t} {s = s} def types d) low rest ends brace = record {
-      t = read (declared t c) h rest;
-      named = (known types max_height).declarator naming.Required c h t s rest d low ends.declarator;
-      whole = with_no_init (with_declared def types c) max_height t c h rest ends.plain;
-      leaves = refl;
-      no_body = brace }
+    t = read (declared t c) h rest;
+    named = (known types max_height).declarator naming.Required c h t s rest d low ends.declarator;
+    whole = with_no_init (with_declared def types c) max_height t c h rest ends.plain;
+    leaves = refl;
+    no_body = brace;
+  }
   file_part (g.set {c = c} {h = h} {m = m} {t = t} {i = i} {s = s} {r = r} def types p d x) low rest ends brace =
       let us = with_declared def types c in
       record {
@@ -112,7 +106,8 @@ module _ (known : (types : List NameId) (limit : ℕ) → below.IsComplete types
         named = rw (append_assoc s (punct sign.Assign p ∷ r) rest) ((known types max_height).declarator naming.Required c h t s (punct sign.Assign p ∷ (r ++ rest)) d (omega arith) refl);
         whole = with_some_init us max_height t c h m i p r rest (initialiser_read us (known us) max_height m i r rest x (omega arith) ends.init);
         leaves = refl;
-        no_body = refl }
+        no_body = refl;
+      }
 
   file_read : {def : Bool} {types between : List NameId} {m : ℕ} {xs : List InitDeclarator} {s : List Token} → FileDeclarators def types between m xs s → m ≤ max_height → (n : ℕ) → length s ≤ n
       → (ys : List InitDeclarator) (h : ℕ) (q : Pos) (rest : List Token)
@@ -123,8 +118,8 @@ module _ (known : (types : List NameId) (limit : ℕ) → below.IsComplete types
       let end = punct sign.Semicolon q ∷ rest in
       let part = file_part d low end (behind_semicolon q rest) refl in
       rw turn.1 (declarators_step turn.0 def ys types h (s ++ end) part.t part.named
-        ∙ (file_last (λ zs us m rs. file_declarators turn.0 def zs us m rs) def ys types h part.t x m end part.whole refl
-        ∙ ap (λ (us : List NameId). Some (read (file_parts (ys ++ x ∷ []) us) (max h m) end)) part.leaves))
+      ∙ (file_last (λ zs us m rs. file_declarators turn.0 def zs us m rs) def ys types h part.t x m end part.whole refl
+      ∙ ap (λ (us : List NameId). Some (read (file_parts (ys ++ x ∷ []) us) (max h m) end)) part.leaves))
   file_read (g.more {def = def} {types = types} {between = between} {behind = after} {h = m} {m = j} {x = x} {xs = xs} {s = s} {r = r} p d ds) low n room ys h q rest =
       let long = length-append s (punct sign.Comma p ∷ r) in
       let turn = has_turn n (omega (arith, room, long)) in
@@ -133,10 +128,10 @@ module _ (known : (types : List NameId) (limit : ℕ) → below.IsComplete types
       let part = file_part d (omega arith) (punct sign.Comma p ∷ (r ++ end)) (behind_comma p (r ++ end)) refl in
       let others = file_read ds (omega arith) turn.0 (omega (arith, room, long, same)) (ys ++ x ∷ []) (max h m) q rest in
       rw (same, append_assoc s (punct sign.Comma p ∷ r) end)
-        (declarators_step turn.0 def ys types h (s ++ punct sign.Comma p ∷ (r ++ end)) part.t part.named
-        ∙ (file_more (λ zs us m rs. file_declarators turn.0 def zs us m rs) def ys types h part.t x m p (r ++ end) part.whole
-        ∙ (ap (λ (us : List NameId). file_declarators turn.0 def (ys ++ x ∷ []) us (max h m) (r ++ end)) part.leaves
-        ∙ (others ∙ ap₂ (λ (z : List InitDeclarator) (w : ℕ). Some (read (file_parts z after) w end)) (append_assoc ys (x ∷ []) xs) (omega arith)))))
+      (declarators_step turn.0 def ys types h (s ++ punct sign.Comma p ∷ (r ++ end)) part.t part.named
+      ∙ (file_more (λ zs us m rs. file_declarators turn.0 def zs us m rs) def ys types h part.t x m p (r ++ end) part.whole
+      ∙ (ap (λ (us : List NameId). file_declarators turn.0 def (ys ++ x ∷ []) us (max h m) (r ++ end)) part.leaves
+      ∙ (others ∙ ap₂ (λ (z : List InitDeclarator) (w : ℕ). Some (read (file_parts z after) w end)) (append_assoc ys (x ∷ []) xs) (omega arith)))))
 
   first_read : {def : Bool} {types between : List NameId} {m : ℕ} {xs : List InitDeclarator} {s : List Token} → FileDeclarators def types between m xs s → m ≤ max_height → (q : Pos) (rest : List Token)
       → FirstRead def types between m xs s (punct sign.Semicolon q ∷ rest)
@@ -149,7 +144,8 @@ module _ (known : (types : List NameId) (limit : ℕ) → below.IsComplete types
         named = part.named;
         no_body = part.no_body;
         whole = file_last (λ zs us m rs. file_declarators (length rs) def zs us m rs) def [] types 0 part.t x m end part.whole refl
-            ∙ ap₂ (λ (us : List NameId) (w : ℕ). Some (read (file_parts (x ∷ []) us) w end)) part.leaves high }
+            ∙ ap₂ (λ (us : List NameId) (w : ℕ). Some (read (file_parts (x ∷ []) us) w end)) part.leaves high;
+      }
   first_read (g.more {def = def} {types = types} {between = between} {behind = after} {h = m} {m = j} {x = x} {xs = xs} {s = s} {r = r} p d ds) low q rest =
       let end = punct sign.Semicolon q ∷ rest in
       let part = file_part d (omega arith) (punct sign.Comma p ∷ (r ++ end)) (behind_comma p (r ++ end)) refl in
@@ -162,7 +158,8 @@ module _ (known : (types : List NameId) (limit : ℕ) → below.IsComplete types
         no_body = part.no_body;
         whole = file_more (λ zs us m rs. file_declarators (length rs) def zs us m rs) def [] types 0 part.t x m p (r ++ end) part.whole
             ∙ (ap (λ (us : List NameId). file_declarators (length (r ++ end)) def (x ∷ []) us (max 0 m) (r ++ end)) part.leaves
-            ∙ (others ∙ ap (λ (w : ℕ). Some (read (file_parts (x ∷ xs) after) w end)) high)) }
+            ∙ (others ∙ ap (λ (w : ℕ). Some (read (file_parts (x ∷ xs) after) w end)) high));
+      }
 
   -- ---- segments before their bodies
 
@@ -179,8 +176,15 @@ module _ (known : (types : List NameId) (limit : ℕ) → below.IsComplete types
       let b = begins_specs types h f s d in
       let c = file_parts_begin ds in
       let one = first_read ds (omega arith) p [] in
-      rw (no_semicolon _ (specs_no_end b (r ++ end)), (known types max_height).specs h f s (r ++ end) d (omega arith) (omega arith) (declarator_ends_specs c end), specs_first b (r ++ end),
-          no_semicolon _ (declarator_no_end c end), one.named, one.no_body, one.whole) refl
+      rw (
+        no_semicolon _ (specs_no_end b (r ++ end)),
+        (known types max_height).specs h f s (r ++ end) d (omega arith) (omega arith) (declarator_ends_specs c end),
+        specs_first b (r ++ end),
+        no_semicolon _ (declarator_no_end c end),
+        one.named,
+        one.no_body,
+        one.whole,
+      ) refl
 
   pub declaration_outlined : (types : List NameId) (ts : List Token) (behind : List NameId) (x : Decl) → IsDeclaration types behind ts x → outline_of types ts ≡ Some (outlined (outline.Decl x) behind [])
   declaration_outlined types ts behind x d = declaration_spelled d.spelled d.low
@@ -193,9 +197,16 @@ module _ (known : (types : List NameId) (limit : ℕ) → below.IsComplete types
       let c = required_begins y in
       let ends = of_braced ends_declarator true (λ p us. refl) inside braced in
       let opens = of_braced (λ z. is_left_brace (front z)) true (λ p us. refl) inside braced in
-      rw (append_assoc s r inside, no_semicolon _ (specs_no_end b (r ++ inside)),
-          (known types max_height).specs h f s (r ++ inside) d (omega arith) (omega arith) (declarator_ends_specs c inside), specs_first b (r ++ inside),
-          no_semicolon _ (declarator_no_end c inside), (known types max_height).declarator naming.Required (core.Function w true) m t r inside y (omega arith) ends, opens, braced) refl
+      rw (
+        append_assoc s r inside,
+        no_semicolon _ (specs_no_end b (r ++ inside)),
+        (known types max_height).specs h f s (r ++ inside) d (omega arith) (omega arith) (declarator_ends_specs c inside),
+        specs_first b (r ++ inside),
+        no_semicolon _ (declarator_no_end c inside),
+        (known types max_height).declarator naming.Required (core.Function w true) m t r inside y (omega arith) ends,
+        opens,
+        braced,
+      ) refl
 
   pub function_outlined : (types : List NameId) (ts : List Token) (x : Head) (inside : List Token) → IsFunction types ts x inside → outline_of types ts ≡ Some (outlined (outline.Function x) types inside)
   function_outlined types ts x inside f = ap (λ (z : List Token). outline_of types z) f.split ∙ head_spelled f.spelled f.low inside f.braced

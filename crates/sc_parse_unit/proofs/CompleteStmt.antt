@@ -1,7 +1,6 @@
 -- What is spelled is read: statements. By recursion on what spells them; statements within them are read by
 -- `inner`.
-use Rattle.std.proofs.Common.{◌≡◌, ℕ, zero, suc, ◌+◌, ◌≤◌, max, Bool, true, false, not, ◌&&◌, ◌||◌, List, [], ◌∷◌, ◌++◌, length, Option, Some, None, refl, sym, ap, ap₂, subst, ◌∙◌, append_assoc, arith, length-append, lt-ltb}
-use Rattle.std.specs.Prelude.{if◌then◌else◌}
+use Rattle.std.proofs.Common.{◌≡◌, ℕ, zero, suc, ◌≤◌, max, Bool, true, false, not, ◌&&◌, ◌||◌, List, [], ◌∷◌, ◌++◌, length, Option, Some, None, refl, sym, ap, ap₂, subst, ◌∙◌, append_assoc, arith, length-append, lt-ltb}
 use Rattle.std.proofs.lemmas.List.{append-nil}
 use Rattle.sc_base.specs.declared.pos.Pos.{Pos}
 use Rattle.sc_base.specs.declared.pos.NameId.{NameId}
@@ -13,27 +12,25 @@ use Rattle.sc_tree.specs.declared.token.Punct.TheVariants as sign
 use Rattle.sc_tree.specs.declared.token.Reserved.{Reserved}
 use Rattle.sc_tree.specs.declared.token.Reserved.TheVariants as key
 use Rattle.sc_tree.specs.declared.expr.Expr.{Expr}
-use Rattle.sc_tree.specs.declared.decl.Decl.{Decl}
 use Rattle.sc_tree.specs.declared.stmt.Stmt.{Stmt}
 use Rattle.sc_tree.specs.declared.stmt.Stmt.TheVariants as stmt
 use Rattle.sc_tree.specs.declared.stmt.ForStart.{ForStart}
 use Rattle.sc_tree.specs.declared.stmt.ForStart.TheVariants as first
 use Rattle.sc_tree.specs.declared.grammar.Level.TheVariants.{Choice, Whole}
-use Rattle.sc_tree.specs.Tables.{◌>>=◌}
 use Rattle.sc_tree.specs.Tokens.{punct, word, reserved, first_pos}
 use Rattle.sc_tree.specs.Grammar.{Spells}
 use Rattle.sc_tree.specs.Statements as g
 use Rattle.sc_tree.specs.Statements.{ADeclaration, AtMost, left_out, there, Starts, with_nothing, with_expr, with_declaration, States, Items, AnItem}
-use Rattle.sc_parse_expr.specs.Front.{punct_of, word_of, reserved_of, front, front_reserved, behind, is_right_brace, is_right_paren, is_left_brace, is_semicolon, begins_piece, is_type_word, begins_type}
+use Rattle.sc_parse_expr.specs.Front.{punct_of, word_of, reserved_of, front, front_reserved, is_right_brace, is_right_paren, is_semicolon, begins_piece, is_type_word, begins_type}
 use Rattle.sc_parse_expr.specs.Read.{Read, read, Parse, node, many}
-use Rattle.sc_parse_expr.specs.Reading.{expr_at, with_item}
+use Rattle.sc_parse_expr.specs.Reading.{with_item}
 use Rattle.sc_parse_expr.specs.Laws.{opens_expr, ends_expr, BeginsExpr, BeginsSpecs}
 use Rattle.sc_parse_expr.specs.Laws as below
 use Rattle.sc_parse_expr.proofs.Begins.{begins_expr}
 use Rattle.sc_parse_expr.proofs.Inner.{node_is, has_turn, many_end, many_more}
 use Rattle.sc_parse_unit.specs.Reading as reading
 use Rattle.sc_parse_unit.specs.Reading.{is_else, is_while, taking_word, body_declaration, Keyword, NoKeyword, keyword, Marker, ACase, ADefault, NoMarker, marker, label_at, is_label, condition, at_most, local, case_item, default_item, if_else, if_rest, for_expr, for_local, for_start, expression, plain_item, marked_item, items, by_keyword, by_label, statement_by, statement}
-use Rattle.sc_parse_unit.proofs.BeginsStmt.{is_end, expr_no_end, expr_no_type, expr_no_keyword, expr_no_marker, expr_no_label, specs_no_end, specs_type, specs_no_marker, no_semicolon, no_right_paren, no_right_brace, no_left_brace, no_word_no_label, of_expr, of_specs}
+use Rattle.sc_parse_unit.proofs.BeginsStmt.{is_end, expr_no_end, expr_no_type, expr_no_keyword, expr_no_marker, expr_no_label, specs_no_end, specs_type, specs_no_marker, no_semicolon, no_right_paren, no_right_brace, no_left_brace, no_word_no_label}
 use Rattle.sc_parse_unit.proofs.CompleteDecl.{decl_begins, decl_no_label, specs_first, declaration_read}
 
 -- ---- how items begin
@@ -64,8 +61,13 @@ expr_kind_no_else types (k.Reserved _) e = refl
 expr_kind_no_else types _ e = refl
 
 expr_begins_item : (types : List NameId) (s r : List Token) → BeginsExpr types s → BeginsItem (s ++ r)
-expr_begins_item types s r b = record { first = b.first; others = b.others ++ r; whole = ap (λ (z : List Token). z ++ r) b.whole;
-    no_brace = no_right_brace _ (expr_no_end (record { first = b.first; others = []; whole = refl; opens = b.opens }) []); no_else = expr_kind_no_else types b.first.kind b.opens }
+expr_begins_item types s r b = record {
+  first = b.first;
+  others = b.others ++ r;
+  whole = ap (λ (z : List Token). z ++ r) b.whole;
+  no_brace = no_right_brace _ (expr_no_end (record { first = b.first; others = []; whole = refl; opens = b.opens }) []);
+  no_else = expr_kind_no_else types b.first.kind b.opens;
+}
 
 specs_kind_no_else : (types : List NameId) (x : Kind) → (begins_piece (reserved_of x) || is_type_word types (word_of x)) ≡ true → is_else (reserved_of x) ≡ false
 specs_kind_no_else types (k.Reserved key.Else) e = absurd cc
@@ -73,8 +75,13 @@ specs_kind_no_else types (k.Reserved _) e = refl
 specs_kind_no_else types _ e = refl
 
 specs_begins_item : (types : List NameId) (s : List Token) → BeginsSpecs types s → BeginsItem s
-specs_begins_item types s b = record { first = b.first; others = b.others; whole = b.whole;
-    no_brace = no_right_brace _ (specs_no_end (record { first = b.first; others = []; whole = refl; opens = b.opens }) []); no_else = specs_kind_no_else types b.first.kind b.opens }
+specs_begins_item types s b = record {
+  first = b.first;
+  others = b.others;
+  whole = b.whole;
+  no_brace = no_right_brace _ (specs_no_end (record { first = b.first; others = []; whole = refl; opens = b.opens }) []);
+  no_else = specs_kind_no_else types b.first.kind b.opens;
+}
 
 begun : (t : Token) (ts : List Token) → is_right_brace (punct_of t.kind) ≡ false → is_else (reserved_of t.kind) ≡ false → BeginsItem (t ∷ ts)
 begun t ts e o = record { first = t; others = ts; whole = refl; no_brace = e; no_else = o }
@@ -147,7 +154,7 @@ node_at limit x high rest low = rw (lt-ltb high limit (omega arith)) refl
 
 module _ (types : List NameId) (known : (limit : ℕ) → below.IsComplete types limit) (limit : ℕ) (inner : Parse Stmt)
     (complete : (b : Bool) (h : ℕ) (t : Stmt) (s rest : List Token) → States types b h t s → h ≤ limit → (b ≡ true → is_else (front_reserved rest) ≡ false)
-      → inner (s ++ rest) ≡ Some (read t h rest)) where
+    → inner (s ++ rest) ≡ Some (read t h rest)) where
   condition_read : {h : ℕ} {c : Expr} {s : List Token} → Spells types Whole h c s → h ≤ limit → (p q : Pos) (rest : List Token)
       → condition types limit inner (punct sign.LeftParen p ∷ (s ++ punct sign.RightParen q ∷ rest)) ≡ Some (read c h rest)
   unfolding condition
@@ -170,7 +177,7 @@ module _ (types : List NameId) (known : (limit : ℕ) → below.IsComplete types
   start_read (with_declaration {h = h} {t = t} {s = s} d) low rest =
       let b = decl_begins d in
       rw (no_semicolon _ (specs_no_end b rest), specs_type b rest, declaration_read types known limit h t s rest d (omega arith) (omega arith), specs_first b rest)
-        (node_at limit (first.Decl t (first_pos s)) h rest low)
+      (node_at limit (first.Decl t (first_pos s)) h rest low)
 
   -- ---- items
 
@@ -187,7 +194,7 @@ module _ (types : List NameId) (known : (limit : ℕ) → below.IsComplete types
   item_read (g.a_declared {h = h} {t = t} {s = s} switch d) low rest closed =
       let b = decl_begins d in
       unmarked switch (s ++ rest) (Some (read (stmt.Decl t (first_pos s)) (suc h) rest)) (specs_no_marker b rest)
-        (rw (specs_type b rest, decl_no_label d rest, declaration_read types known limit h t s rest d (omega arith) (omega arith), specs_first b rest) (node_at limit (stmt.Decl t (first_pos s)) h rest low))
+      (rw (specs_type b rest, decl_no_label d rest, declaration_read types known limit h t s rest d (omega arith) (omega arith), specs_first b rest) (node_at limit (stmt.Decl t (first_pos s)) h rest low))
   item_read (g.a_case {h = h} {t = t} {s = s} p q d) low rest closed =
       rw (append_assoc s (punct sign.Colon q ∷ []) rest, ((known limit).expr Choice h t s (punct sign.Colon q ∷ rest) d low refl).1) refl
   item_read (g.a_default p q) low rest closed = refl
@@ -202,7 +209,7 @@ module _ (types : List NameId) (known : (limit : ℕ) → below.IsComplete types
   many_read (g.no_item switch) low n room ys h q rest =
       let end = punct sign.RightBrace q ∷ rest in
       many_end (reading.an_item types limit inner switch) with_item is_right_brace n ys h end refl
-        ∙ ap₂ (λ (z : List Stmt) (w : ℕ). Some (read z w end)) (sym (append-nil ys)) (omega arith)
+      ∙ ap₂ (λ (z : List Stmt) (w : ℕ). Some (read z w end)) (sym (append-nil ys)) (omega arith)
   many_read (g.more {switch = switch} {h = m} {m = j} {x = x} {xs = xs} {s = s} {r = r} d ds) low n room ys h q rest =
       let some = not_empty (item_begins d) in
       let long = length-append s r in
@@ -210,7 +217,7 @@ module _ (types : List NameId) (known : (limit : ℕ) → below.IsComplete types
       let same = turn.1 in
       let end = punct sign.RightBrace q ∷ rest in
       let step = many_more (reading.an_item types limit inner switch) with_item is_right_brace turn.0 ys h (s ++ (r ++ end)) x m (r ++ end) (goes_on (item_begins d) (r ++ end))
-            (item_read d (omega arith) (r ++ end) (items_no_else ds q rest)) in
+      (item_read d (omega arith) (r ++ end) (items_no_else ds q rest)) in
       let others = many_read ds (omega arith) turn.0 (omega (arith, room, some, long, same)) (ys ++ x ∷ []) (max h m) q rest in
       rw (same, append_assoc s r end) (step ∙ (others ∙ ap₂ (λ (z : List Stmt) (w : ℕ). Some (read z w end)) (append_assoc ys (x ∷ []) xs) (omega arith)))
 
@@ -240,8 +247,8 @@ module _ (types : List NameId) (known : (limit : ℕ) → below.IsComplete types
       let end = punct sign.Semicolon p ∷ rest in
       let b = begins_expr types _ _ _ _ d in
       unlabelled (s ++ end) (Some (read (stmt.Expr (Some t) (first_pos s)) (suc h) rest)) (expr_no_label types d end refl)
-        (rw (no_left_brace _ (expr_no_end b end), expr_no_keyword b end, at_most_read (there d) low is_semicolon no_semicolon end refl refl, expr_first b end)
-          (node_is limit (stmt.Expr (Some t) (first_pos s)) h rest low))
+      (rw (no_left_brace _ (expr_no_end b end), expr_no_keyword b end, at_most_read (there d) low is_semicolon no_semicolon end refl refl, expr_first b end)
+      (node_is limit (stmt.Expr (Some t) (first_pos s)) h rest low))
 
   state_read : {b : Bool} {h : ℕ} {t : Stmt} {s : List Token} → States types b h t s → h ≤ suc limit → (rest : List Token) → (b ≡ true → is_else (front_reserved rest) ≡ false)
       → statement_by types limit inner (s ++ rest) ≡ Some (read t h rest)
@@ -249,7 +256,7 @@ module _ (types : List NameId) (known : (limit : ℕ) → below.IsComplete types
   state_read (g.a_block {h = h} {xs = xs} {s = s} p q d) low rest closed =
       let ts = punct sign.LeftBrace p ∷ ((s ++ punct sign.RightBrace q ∷ []) ++ rest) in
       unlabelled ts (Some (read (stmt.Block xs p q) (suc h) rest)) (no_word_no_label ts refl)
-        (rw (append_assoc s (punct sign.RightBrace q ∷ []) rest, items_read d (omega arith) q rest) (node_is limit (stmt.Block xs p q) h rest (omega arith)))
+      (rw (append_assoc s (punct sign.RightBrace q ∷ []) rest, items_read d (omega arith) q rest) (node_is limit (stmt.Block xs p q) h rest (omega arith)))
   state_read (g.an_expression {h = h} {t = t} {s = s} p d) low rest closed =
       rw (append_assoc s (punct sign.Semicolon p ∷ []) rest) (expression_read d (omega arith) p rest)
   state_read (g.no_expression p) low rest closed =
@@ -258,45 +265,62 @@ module _ (types : List NameId) (known : (limit : ℕ) → below.IsComplete types
   state_read (g.an_if {b = b} {h = h} {m = m} {c = c} {x = x} {s = s} {r = r} p q o d y) low rest closed =
       let out = stmt.If c x None p in
       worded key.If p (punct sign.LeftParen q ∷ ((s ++ punct sign.RightParen o ∷ r) ++ rest)) (Some (read out (suc (max h m)) rest))
-        (rw (append_assoc s (punct sign.RightParen o ∷ r) rest, condition_read d (omega arith) q o (r ++ rest), complete b m x r rest y (omega arith) (λ e. closed refl), closed refl)
-          (node_is limit out (max h m) rest (omega arith)))
+      (rw (append_assoc s (punct sign.RightParen o ∷ r) rest, condition_read d (omega arith) q o (r ++ rest), complete b m x r rest y (omega arith) (λ e. closed refl), closed refl)
+      (node_is limit out (max h m) rest (omega arith)))
   state_read (g.an_if_else {b = b} {h = h} {m = m} {n = n} {c = c} {x = x} {y = y} {s = s} {r = r} {u = u} p q o v d i j) low rest closed =
       let out = stmt.If c x (Some y) p in
       worded key.If p (punct sign.LeftParen q ∷ ((s ++ punct sign.RightParen o ∷ (r ++ reserved key.Else v ∷ u)) ++ rest)) (Some (read out (suc (max h (max m n))) rest))
-        (rw (append_assoc s (punct sign.RightParen o ∷ (r ++ reserved key.Else v ∷ u)) rest, append_assoc r (reserved key.Else v ∷ u) rest,
-            condition_read d (omega arith) q o (r ++ reserved key.Else v ∷ (u ++ rest)),
-            complete false m x r (reserved key.Else v ∷ (u ++ rest)) i (omega arith) (λ e. absurd cc),
-            complete b n y u rest j (omega arith) closed)
-          (node_is limit out (max h (max m n)) rest (omega arith)))
+      (rw (
+        append_assoc s (punct sign.RightParen o ∷ (r ++ reserved key.Else v ∷ u)) rest,
+        append_assoc r (reserved key.Else v ∷ u) rest,
+        condition_read d (omega arith) q o (r ++ reserved key.Else v ∷ (u ++ rest)),
+        complete false m x r (reserved key.Else v ∷ (u ++ rest)) i (omega arith) (λ e. absurd cc),
+        complete b n y u rest j (omega arith) closed,
+      )
+      (node_is limit out (max h (max m n)) rest (omega arith)))
   state_read (g.a_while {b = b} {h = h} {m = m} {c = c} {x = x} {s = s} {r = r} p q o d y) low rest closed =
       let out = stmt.While c x p in
       worded key.While p (punct sign.LeftParen q ∷ ((s ++ punct sign.RightParen o ∷ r) ++ rest)) (Some (read out (suc (max h m)) rest))
-        (rw (append_assoc s (punct sign.RightParen o ∷ r) rest, condition_read d (omega arith) q o (r ++ rest), complete b m x r rest y (omega arith) closed)
-          (node_is limit out (max h m) rest (omega arith)))
+      (rw (append_assoc s (punct sign.RightParen o ∷ r) rest, condition_read d (omega arith) q o (r ++ rest), complete b m x r rest y (omega arith) closed)
+      (node_is limit out (max h m) rest (omega arith)))
   state_read (g.a_do {b = b} {h = h} {m = m} {c = c} {x = x} {s = s} {r = r} p q o v w y d) low rest closed =
       let out = stmt.Do x c p in
       let ending = punct sign.RightParen v ∷ punct sign.Semicolon w ∷ [] in
       let tail = reserved key.While q ∷ punct sign.LeftParen o ∷ (r ++ punct sign.RightParen v ∷ punct sign.Semicolon w ∷ rest) in
       worded key.Do p ((s ++ reserved key.While q ∷ punct sign.LeftParen o ∷ (r ++ ending)) ++ rest) (Some (read out (suc (max h m)) rest))
-        (rw (append_assoc s (reserved key.While q ∷ punct sign.LeftParen o ∷ (r ++ ending)) rest, append_assoc r ending rest,
-            complete b h x s tail y (omega arith) (λ e. refl), condition_read d (omega arith) o v (punct sign.Semicolon w ∷ rest))
-          (node_is limit out (max h m) rest (omega arith)))
+      (rw (
+        append_assoc s (reserved key.While q ∷ punct sign.LeftParen o ∷ (r ++ ending)) rest,
+        append_assoc r ending rest,
+        complete b h x s tail y (omega arith) (λ e. refl),
+        condition_read d (omega arith) o v (punct sign.Semicolon w ∷ rest),
+      )
+      (node_is limit out (max h m) rest (omega arith)))
   state_read (g.a_for {b = b} {h = h} {k = j} {m = m} {n = n} {f = f} {c = c} {e = e} {x = x} {s = s} {r = r} {u = u} {v = v} p q o w df dc de y) low rest closed =
       let out = stmt.For f c e x p in
       let inside = u ++ punct sign.RightParen w ∷ v in
       let two = punct sign.Semicolon o ∷ (u ++ punct sign.RightParen w ∷ (v ++ rest)) in
       worded key.For p (punct sign.LeftParen q ∷ ((s ++ (r ++ punct sign.Semicolon o ∷ inside)) ++ rest)) (Some (read out (suc (max h (max j (max m n)))) rest))
-        (rw (append_assoc s (r ++ punct sign.Semicolon o ∷ inside) rest, append_assoc r (punct sign.Semicolon o ∷ inside) rest, append_assoc u (punct sign.RightParen w ∷ v) rest,
-            start_read df (omega arith) (r ++ two), at_most_read dc (omega arith) is_semicolon no_semicolon two refl refl,
-            at_most_read de (omega arith) is_right_paren no_right_paren (punct sign.RightParen w ∷ (v ++ rest)) refl refl, complete b n x v rest y (omega arith) closed)
-          (node_is limit out (max h (max j (max m n))) rest (omega arith)))
+      (rw (
+        append_assoc s (r ++ punct sign.Semicolon o ∷ inside) rest,
+        append_assoc r (punct sign.Semicolon o ∷ inside) rest,
+        append_assoc u (punct sign.RightParen w ∷ v) rest,
+        start_read df (omega arith) (r ++ two),
+        at_most_read dc (omega arith) is_semicolon no_semicolon two refl refl,
+        at_most_read de (omega arith) is_right_paren no_right_paren (punct sign.RightParen w ∷ (v ++ rest)) refl refl,
+        complete b n x v rest y (omega arith) closed,
+      )
+      (node_is limit out (max h (max j (max m n))) rest (omega arith)))
   state_read (g.a_switch {h = h} {m = m} {c = c} {xs = xs} {s = s} {r = r} p q o v w d ds) low rest closed =
       let out = stmt.Switch c xs p w in
       let inside = r ++ punct sign.RightBrace w ∷ [] in
       worded key.Switch p (punct sign.LeftParen q ∷ ((s ++ punct sign.RightParen o ∷ punct sign.LeftBrace v ∷ inside) ++ rest)) (Some (read out (suc (max h m)) rest))
-        (rw (append_assoc s (punct sign.RightParen o ∷ punct sign.LeftBrace v ∷ inside) rest, append_assoc r (punct sign.RightBrace w ∷ []) rest,
-            condition_read d (omega arith) q o (punct sign.LeftBrace v ∷ (r ++ punct sign.RightBrace w ∷ rest)), items_read ds (omega arith) w rest)
-          (node_is limit out (max h m) rest (omega arith)))
+      (rw (
+        append_assoc s (punct sign.RightParen o ∷ punct sign.LeftBrace v ∷ inside) rest,
+        append_assoc r (punct sign.RightBrace w ∷ []) rest,
+        condition_read d (omega arith) q o (punct sign.LeftBrace v ∷ (r ++ punct sign.RightBrace w ∷ rest)),
+        items_read ds (omega arith) w rest,
+      )
+      (node_is limit out (max h m) rest (omega arith)))
   state_read (g.a_goto l p q o) low rest closed =
       worded key.Goto p (word l q ∷ punct sign.Semicolon o ∷ rest) (Some (read (stmt.Goto l p) 1 rest)) (node_is limit (stmt.Goto l p) 0 rest (omega arith))
   state_read (g.a_break p q) low rest closed =
@@ -305,7 +329,7 @@ module _ (types : List NameId) (known : (limit : ℕ) → below.IsComplete types
       worded key.Continue p (punct sign.Semicolon q ∷ rest) (Some (read (stmt.Continue p) 1 rest)) (node_is limit (stmt.Continue p) 0 rest (omega arith))
   state_read (g.a_return {h = h} {t = t} {s = s} p q d) low rest closed =
       worded key.Return p ((s ++ punct sign.Semicolon q ∷ []) ++ rest) (Some (read (stmt.Return t p) (suc h) rest))
-        (rw (append_assoc s (punct sign.Semicolon q ∷ []) rest, at_most_read d (omega arith) is_semicolon no_semicolon (punct sign.Semicolon q ∷ rest) refl refl) (node_is limit (stmt.Return t p) h rest (omega arith)))
+      (rw (append_assoc s (punct sign.Semicolon q ∷ []) rest, at_most_read d (omega arith) is_semicolon no_semicolon (punct sign.Semicolon q ∷ rest) refl refl) (node_is limit (stmt.Return t p) h rest (omega arith)))
   state_read (g.a_label {b = b} {h = h} {x = x} {s = s} l p q d) low rest closed =
       rw (complete b h x s rest d (omega arith) closed) (node_is limit (stmt.Label l x p) h rest (omega arith))
 

@@ -1,6 +1,5 @@
 -- What is spelled is read: the laws. And tokens spell at most one initialiser, declaration and statement.
-use Rattle.std.proofs.Common.{◌≡◌, ℕ, zero, suc, ◌≤◌, max, Bool, true, false, List, [], ◌∷◌, ◌++◌, Option, Some, None, refl, sym, ap, ◌∙◌, arith}
-use Rattle.std.proofs.lemmas.List.{append-nil}
+use Rattle.std.proofs.Common.{◌≡◌, ℕ, suc, max, Bool, List, [], ◌++◌, Some, refl, sym, ap, ◌∙◌, arith}
 use Rattle.sc_base.specs.declared.pos.NameId.{NameId}
 use Rattle.sc_tree.specs.declared.token.Token.{Token}
 use Rattle.sc_tree.specs.declared.decl.Init.{Init}
@@ -19,15 +18,17 @@ use Rattle.sc_parse_unit.proofs.CompleteOutline.{declaration_outlined, function_
 
 pub complete : (types : List NameId) (limit : ℕ) → IsComplete types limit
 complete types limit = record {
-    init = initialiser_read types (exprs.complete types) limit;
-    declaration = declaration_read types (exprs.complete types) limit;
-    statement = statement_read types (exprs.complete types) limit }
+  init = initialiser_read types (exprs.complete types) limit;
+  declaration = declaration_read types (exprs.complete types) limit;
+  statement = statement_read types (exprs.complete types) limit;
+}
 
 pub outline : (types : List NameId) (ts : List Token) → IsOutline types ts
 outline types ts = record {
-    sound = outline_sound types ts;
-    declaration = declaration_outlined exprs.complete types ts;
-    function = function_outlined exprs.complete types ts }
+  sound = outline_sound types ts;
+  declaration = declaration_outlined exprs.complete types ts;
+  function = function_outlined exprs.complete types ts;
+}
 
 -- ---- at most one
 

@@ -1,5 +1,5 @@
 -- Each segment fits what it is read as, and nothing else.
-use Rattle.std.proofs.Common.{◌≡◌, ℕ, zero, suc, ◌≤◌, ◌-◌, max, Bool, true, false, List, [], ◌∷◌, ◌++◌, take, drop, Option, Some, None, refl, sym, ap, ap₂, subst, ◌∙◌, arith}
+use Rattle.std.proofs.Common.{◌≡◌, ℕ, ◌-◌, Bool, true, false, List, [], ◌∷◌, ◌++◌, take, drop, Option, Some, None, refl, sym, ap, ap₂, subst, ◌∙◌}
 use Rattle.std.specs.Prelude.{if◌then◌else◌}
 use Rattle.std.proofs.lemmas.List.{append-nil}
 use Rattle.sc_base.specs.declared.pos.NameId.{NameId}
@@ -22,7 +22,7 @@ use Rattle.sc_parse_expr.specs.Front.{front, is_left_brace}
 use Rattle.sc_parse_expr.specs.Read.{Read, read}
 use Rattle.sc_parse_unit.specs.declared.found.Outline.{Outline}
 use Rattle.sc_parse_unit.specs.declared.found.Outline.TheVariants as outline
-use Rattle.sc_parse_unit.specs.Reading.{statement, Outlined, outlined, outline_of, body_by, body_of, Segmented, segmented, filled, segment_by, segment_of, segments_of}
+use Rattle.sc_parse_unit.specs.Reading.{statement, Outlined, outlined, outline_of, body_by, body_of, Segmented, filled, segment_by, segment_of, segments_of}
 use Rattle.sc_parse_unit.specs.Laws.{TakesStmt, Outlines, IsSegment, AreSegments}
 use Rattle.sc_parse_unit.proofs.SoundAll as sound
 use Rattle.sc_parse_unit.proofs.Completeness as whole
@@ -59,7 +59,8 @@ read_is_block types inside r braced t e =
     record {
       height = r.height;
       low = t.low;
-      spelled = subst (λ (b : Bool). States types b r.height r.it inside) closed (subst (λ (z : List Token). States types t.is_open r.height r.it z) (sym all) t.spelled) }
+      spelled = subst (λ (b : Bool). States types b r.height r.it inside) closed (subst (λ (z : List Token). States types t.is_open r.height r.it z) (sym all) t.spelled);
+    }
 
 block_is_read : (types : List NameId) (inside : List Token) (b : Stmt) (d : IsBlock types inside b) → statement types max_height inside ≡ Some (read b d.height [])
 block_is_read types inside b d =
@@ -149,8 +150,9 @@ segment_gives types us ts y (units.a_skipped rs no_declaration no_function) = sk
 pub one_segment : (types : List NameId) (ts : List Token) → IsSegment types ts
 unfolding segment_of
 one_segment types ts = record {
-    fits = segment_fits types ts (outline_of types ts) refl;
-    only = λ us x f. segment_gives types us ts x f }
+  fits = segment_fits types ts (outline_of types ts) refl;
+  only = λ us x f. segment_gives types us ts x f;
+}
 
 -- ---- all segments
 
