@@ -5,5 +5,6 @@
 // gives what the functions give.
 #![tactic(auto)]
 
+pub mod complete;
 pub mod found;
 pub mod sound;

@@ -1,0 +1,5 @@
+use Rattle.sc_parse_unit.proofs.Segments.{all_segments}
+use Rattle.sc_parse_unit.proofs.complete.segments_are_read.Goals as goal
+
+pub returns : goal.returns
+returns c = all_segments
