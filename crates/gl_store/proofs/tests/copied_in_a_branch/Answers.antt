@@ -1,4 +1,3 @@
-use Rattle.std.proofs.Common.{◌≡◌, ◌∙◌}
 use Rattle.gl_store.specs.Concrete.{Numbers, load}
 use Rattle.gl_store.proofs.tests.copied_in_a_branch.Goals as goal
 
