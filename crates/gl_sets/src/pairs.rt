@@ -10,6 +10,10 @@ pub struct Pair {
 }
 
 impl Default for Pair {
+    ghost use Rattle.std.specs.Prelude.{◌≡◌};
+
+    ghost is_default = { λ p. (p.guard.at ≡ 0) × (p.target ≡ 0) };
+
     fn default() -> Pair {
         Pair {
             guard: Gate { at: 0 },

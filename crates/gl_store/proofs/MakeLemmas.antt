@@ -1,13 +1,12 @@
 -- Stores that are made location by location.
-use Rattle.std.proofs.Common.{◌≡◌, ℕ, zero, suc, ◌+◌, ◌<◌, ◌≤◌, max, Bool, true, false, List, [], ◌∷◌, ◌++◌, length, length-append, take, get_or, if◌then◌else◌, refl, sym, ◌∙◌, ap, subst, arith}
+use Rattle.std.proofs.Common.{◌≡◌, ℕ, zero, suc, ◌+◌, ◌<◌, ◌≤◌, Bool, true, false, List, [], ◌∷◌, ◌++◌, length, take, get_or, if◌then◌else◌, refl, sym, ◌∙◌, ap, subst, arith}
 use Rattle.std.proofs.lemmas.List.{take_more, take_all}
 use Rattle.bit_net.specs.declared.nodes.Gate.{Gate}
 use Rattle.bit_net.specs.declared.nodes.Node.{Node}
 use Rattle.bit_net.specs.Runs.{Runs, Grown, Gives}
-use Rattle.gl_store.specs.declared.values.Val.{Val}
 use Rattle.gl_store.specs.declared.stores.Flags.{Flags}
 use Rattle.gl_store.specs.declared.stores.Location.{Location}
-use Rattle.gl_store.specs.Concrete.{Cell, Kind, Place, Marks, blank, fresh, width_kind}
+use Rattle.gl_store.specs.Concrete.{Kind, Place, Marks, blank, fresh, width_kind}
 use Rattle.gl_store.specs.Meets.{Meets, MeetsMarks, MeetsPlace, MeetsAll, val_kind, val_top, kinds, flags_top, locations_top}
 use Rattle.gl_store.specs.Steps.{IsBlank, IsChoice, IsFresh, IsMerged, IsMergedLocation, IsMergedFlags, shape_kinds}
 use Rattle.gl_store.proofs.PlaceLemmas.{locations_top-at, flags_top-at}

@@ -1,15 +1,15 @@
 -- Flags read and made to hold.
-use Rattle.std.proofs.Common.{◌≡◌, ℕ, zero, suc, ◌+◌, ◌<◌, ◌≤◌, max, Bool, true, false, ◌||◌, List, [], ◌∷◌, length, get_or, set, if◌then◌else◌, refl, sym, ◌∙◌, ap, subst, arith}
+use Rattle.std.proofs.Common.{◌≡◌, ℕ, zero, suc, ◌<◌, ◌≤◌, Bool, true, false, ◌||◌, List, [], ◌∷◌, length, get_or, set, if◌then◌else◌, refl, sym, ◌∙◌, ap, subst, arith}
 use Rattle.bit_net.specs.declared.nodes.Gate.{Gate}
 use Rattle.bit_net.specs.declared.nodes.Node.{Node}
-use Rattle.bit_net.specs.Runs.{Runs, Grown, Gives}
+use Rattle.bit_net.specs.Runs.{Grown, Gives}
 use Rattle.gl_store.specs.declared.values.Val.{Val}
 use Rattle.gl_store.specs.declared.stores.Flag.{Flag}
 use Rattle.gl_store.specs.declared.stores.Flag.TheVariants.{Touched, Written, Allocated, Freed, Escaped}
 use Rattle.gl_store.specs.declared.stores.Flags.{Flags}
 use Rattle.gl_store.specs.declared.stores.Location.{Location}
 use Rattle.gl_store.specs.Concrete.{Place, Marks, flag_of, with_flag, flag_at, marked}
-use Rattle.gl_store.specs.Meets.{Meets, MeetsMarks, MeetsPlace, MeetsAll, val_kind, val_top, kinds, flags_top, locations_top, gate_of, with_gate}
+use Rattle.gl_store.specs.Meets.{Meets, MeetsMarks, MeetsAll, val_kind, val_top, kinds, flags_top, locations_top, gate_of, with_gate}
 use Rattle.gl_store.specs.Steps.{IsFlag, IsMarked}
 use Rattle.gl_store.proofs.PlaceLemmas.{locations_top-at, locations_top-set, flags_top-at, kinds-set}
 

@@ -1,13 +1,13 @@
 -- Locations and places one by one: read, changed, and the greatest gate and the kinds of a list of locations.
-use Rattle.std.proofs.Common.{◌≡◌, ℕ, zero, suc, ◌+◌, ◌-◌, ◌<◌, ◌≤◌, max, Bool, true, false, ◌||◌, List, [], ◌∷◌, ◌++◌, length, take, get_or, set, if◌then◌else◌, refl, sym, ◌∙◌, ap, subst, arith}
+use Rattle.std.proofs.Common.{◌≡◌, ℕ, zero, suc, ◌-◌, ◌<◌, ◌≤◌, Bool, true, false, List, [], ◌∷◌, length, get_or, set, if◌then◌else◌, refl, sym, ◌∙◌, ap, subst, arith}
 use Rattle.bit_net.specs.declared.nodes.Node.{Node}
-use Rattle.bit_net.specs.Runs.{Runs, Grown}
+use Rattle.bit_net.specs.Runs.{Grown}
 use Rattle.gl_sets.specs.declared.pairs.Pair.{Pair}
 use Rattle.gl_store.specs.declared.values.Val.{Val}
 use Rattle.gl_store.specs.declared.stores.Flags.{Flags}
 use Rattle.gl_store.specs.declared.stores.Location.{Location}
 use Rattle.gl_store.specs.Concrete.{Cell, Number, Pointer, Nothing, Place, put, nth_cell, cell_at, change, write}
-use Rattle.gl_store.specs.Meets.{Meets, MeetsMarks, MeetsPlace, MeetsAll, val_kind, val_top, kinds, flags_top, locations_top}
+use Rattle.gl_store.specs.Meets.{Meets, MeetsMarks, MeetsAll, val_kind, val_top, kinds, flags_top, locations_top}
 use Rattle.gl_store.specs.Steps.{IsOverwritten, IsRead, IsWritten}
 
 pub locations_top-at : (ls : List Location) (i : ℕ) (d : Location) → i < length ls → val_top (get_or ls i d).val ≤ locations_top ls

@@ -1,13 +1,13 @@
 -- A pointer's pairs one after another: what is read, and what is written, at the targets whose guards hold.
-use Rattle.std.proofs.Common.{◌≡◌, ℕ, zero, suc, ◌+◌, ◌<◌, ◌≤◌, max, Bool, true, false, ◌&&◌, List, [], ◌∷◌, ◌++◌, length, take, get_or, if◌then◌else◌, refl, sym, ◌∙◌, ap, subst, arith}
+use Rattle.std.proofs.Common.{◌≡◌, ℕ, zero, suc, ◌+◌, ◌<◌, ◌≤◌, Bool, true, false, ◌&&◌, List, [], ◌∷◌, ◌++◌, length, take, get_or, if◌then◌else◌, refl, sym, ◌∙◌, ap, subst, arith}
 use Rattle.std.proofs.lemmas.List.{take_more, take_all}
 use Rattle.bit_net.specs.declared.nodes.Node.{Node}
 use Rattle.bit_net.specs.Runs.{Runs, Grown, Gives}
 use Rattle.gl_sets.specs.declared.pairs.Pair.{Pair}
-use Rattle.gl_sets.specs.Guards.{Points, held, guards_top}
+use Rattle.gl_sets.specs.Guards.{held, guards_top}
 use Rattle.gl_store.specs.declared.values.Val.{Val}
 use Rattle.gl_store.specs.declared.stores.Location.{Location}
-use Rattle.gl_store.specs.Concrete.{Cell, Kind, Place, blank, put, load, cell_at, write}
+use Rattle.gl_store.specs.Concrete.{Cell, Kind, Place, blank, put, cell_at, write}
 use Rattle.gl_store.specs.Meets.{Meets, MeetsAll, val_kind, val_top, kinds, locations_top}
 use Rattle.gl_store.specs.Steps.{IsBlank, IsRead, IsLoaded, IsWritten, IsStored}
 

@@ -1,5 +1,5 @@
 -- Values chosen by a gate, and written over one another.
-use Rattle.std.proofs.Common.{◌≡◌, ℕ, zero, suc, ◌+◌, ◌-◌, ◌*◌, ◌^◌, ◌<◌, ◌≤◌, max, Bool, true, false, nat_eq, List, [], ◌∷◌, ◌++◌, length, length-append, take, get_or, replicate, Option, Some, None, if◌then◌else◌, refl, sym, ◌∙◌, ap, subst, arith, eq-eqb}
+use Rattle.std.proofs.Common.{◌≡◌, ℕ, zero, suc, ◌+◌, ◌*◌, ◌^◌, ◌<◌, ◌≤◌, max, Bool, true, false, nat_eq, List, [], ◌∷◌, ◌++◌, length, take, get_or, replicate, if◌then◌else◌, refl, sym, ◌∙◌, ap, subst, arith, eq-eqb}
 use Rattle.std.proofs.lemmas.Bool.{eqb-true, ne_eqb}
 use Rattle.std.proofs.lemmas.List.{take_more, take_all, length-replicate}
 use Rattle.bit_net.specs.declared.nodes.Gate.{Gate}
@@ -13,9 +13,9 @@ use Rattle.gl_sets.specs.Guards.{Points}
 use Rattle.gl_sets.specs.Sets.{IsGood, IsJoin}
 use Rattle.gl_store.specs.declared.values.Val.{Val}
 use Rattle.gl_store.specs.declared.values.Val.TheVariants.{Word, Set, Unit as Empty}
-use Rattle.gl_store.specs.Concrete.{Cell, Number, Pointer, Nothing, Kind, Numbers, Pointers, NoCell, kind_of, width_kind, blank, put}
-use Rattle.gl_store.specs.Meets.{Meets, MeetsNumber, val_kind, val_top}
-use Rattle.gl_store.specs.Steps.{IsChoice, IsChoiceOfKind, IsOverwritten, IsBlank}
+use Rattle.gl_store.specs.Concrete.{Cell, Number, Pointer, Nothing, Numbers, Pointers, NoCell, kind_of, width_kind, put}
+use Rattle.gl_store.specs.Meets.{Meets, val_kind, val_top}
+use Rattle.gl_store.specs.Steps.{IsChoice, IsOverwritten, IsBlank}
 
 pub Grown-same : (ns : List Node) → Grown ns ns
 Grown-same ns = record { longer = omega arith; inputs = refl; runs = λ choice v r. r }

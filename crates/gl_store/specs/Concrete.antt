@@ -1,5 +1,5 @@
 -- The concrete store: what each location holds in one run. Target 0 is null, and target n + 1 is location n.
-use Rattle.std.specs.Prelude.{ℕ, zero, suc, Bool, true, false, ◌||◌, nat_eq, List, [], ◌∷◌, if◌then◌else◌}
+use Rattle.std.specs.Prelude.{ℕ, zero, suc, Bool, false, ◌||◌, nat_eq, List, [], ◌∷◌, if◌then◌else◌}
 use Rattle.gl_store.specs.declared.stores.Flag.{Flag}
 use Rattle.gl_store.specs.declared.stores.Flag.TheVariants.{Touched, Written, Allocated, Freed, Escaped}
 

@@ -60,7 +60,8 @@ impl Store {
         load_from(net, &self.locations, at.pairs.as_slice(), width)
     }
 
-    /// Where `live` holds, writes the value at the target of `at`, unless the target is no cell of the value's kind.
+    /// Where `live` holds, writes the value at the target of `at`, unless the target is no cell of the value's kind. After a
+    /// refusal the store may be written in part, and is not to be used again.
     pub fn store(&mut self, net: &mut Net, live: Gate, at: &Set, v: &Val) -> Result<(), OutOfMemory>
         requires store { locations_top self.old.locations.items ≤ length net.old }
         requires live { live.at < length net.old }

@@ -4,7 +4,7 @@ use Rattle.std.proofs.lemmas.List.{take_more, take_all}
 use Rattle.std.specs.declared.alloc.Global.{Global}
 use Rattle.bit_net.specs.declared.nodes.Gate.{Gate}
 use Rattle.bit_net.specs.declared.nodes.Node.{Node}
-use Rattle.bit_net.specs.Runs.{Runs, Grown, Gives, Always}
+use Rattle.bit_net.specs.Runs.{Runs, Grown}
 use Rattle.reach_net.specs.Walks.{holds_at, pointed, rows_of, EachWide, gates_top, rows_top}
 use Rattle.reach_net.specs.Reached.{IsWidened, IsFoundThrough, IsThrough}
 

@@ -53,6 +53,18 @@ fn value(rt: &impl Abort, net: &Net, choice: &[bool], gate: Gate) -> bool
     room[gate.at]
 }
 
+/// A choice of six inputs: the lowest bit of the number is the first input.
+fn bits(number: u32) -> [bool; 6] {
+    [
+        number % 2 == 1,
+        number / 2 % 2 == 1,
+        number / 4 % 2 == 1,
+        number / 8 % 2 == 1,
+        number / 16 % 2 == 1,
+        number / 32 % 2 == 1,
+    ]
+}
+
 #[test]
 #[tactic(auto, using(crate::proofs::RowLemmas::row_laws), unfolding(crate::specs::Walks::gates_top))]
 fn follows_a_chain(rt: HostRuntime) -> Result<(), Fail> {
@@ -70,22 +82,29 @@ fn follows_a_chain(rt: HostRuntime) -> Result<(), Fail> {
     Ok(())
 }
 
-/// Object i + 1 is reached from object 0 exactly where the inputs 0 to i hold.
+/// From object 0 of six an object is reached exactly where the inputs of all objects before it hold.
 #[test]
 #[tactic(auto, using(crate::proofs::RowLemmas::row_laws), unfolding(crate::specs::Walks::gates_top))]
 fn goes_round_a_ring(rt: HostRuntime) -> Result<(), Fail> {
-    let mut net = Net::new(rt.alloc(), 3)?;
-    let gates = [net.input(0), net.input(1), net.input(2)];
-    let points = matrix(&net, &[1, 2, 0], &gates)?;
-    let roots = row(&net, 3, 0, net.constant(true))?;
+    let mut net = Net::new(rt.alloc(), 6)?;
+    let gates = [
+        net.input(0),
+        net.input(1),
+        net.input(2),
+        net.input(3),
+        net.input(4),
+        net.input(5),
+    ];
+    let points = matrix(&net, &[1, 2, 3, 4, 5, 0], &gates)?;
+    let roots = row(&net, 6, 0, net.constant(true))?;
     let found = reached(&mut net, &points, &roots)?;
-    assert_eq!(rt; found.len(), 3);
-    for first in [false, true] {
-        for second in [false, true] {
-            let choice = [first, second, true];
-            assert_eq!(rt; value(&rt, &net, &choice, found[0]), true);
-            assert_eq!(rt; value(&rt, &net, &choice, found[1]), first);
-            assert_eq!(rt; value(&rt, &net, &choice, found[2]), first && second);
+    assert_eq!(rt; found.len(), 6);
+    for number in 0..64u32 {
+        let choice = bits(number);
+        let mut leads = true;
+        for i in 0..6 {
+            assert_eq!(rt; value(&rt, &net, &choice, found[i]), leads);
+            leads = leads && choice[i];
         }
     }
     Ok(())

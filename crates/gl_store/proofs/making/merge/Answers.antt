@@ -1,4 +1,4 @@
-use Rattle.std.proofs.Common.{◌≡◌, ap, ◌∙◌, sym, length}
+use Rattle.std.proofs.Common.{ap, ◌∙◌, sym, length}
 use Rattle.gl_store.proofs.MakeLemmas.{same_length}
 use Rattle.gl_store.proofs.making.merge.Goals as goal
 

@@ -1,5 +1,4 @@
-use Rattle.std.proofs.Common.{◌≡◌, ◌<◌, ◌≤◌, length, arith}
-use Rattle.gl_store.specs.Meets.{locations_top}
+use Rattle.std.proofs.Common.{arith}
 use Rattle.gl_store.proofs.ValueLemmas.{Grown-same, Grown-trans}
 use Rattle.gl_store.proofs.MakeLemmas.{merged_none, merged_step, merged_whole, same_kind_at, val_below_at, flags_below_at}
 use Rattle.gl_store.proofs.making.merge_locations.Goals as goal

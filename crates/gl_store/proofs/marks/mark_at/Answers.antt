@@ -1,5 +1,4 @@
-use Rattle.std.proofs.Common.{◌≡◌, ◌<◌, ◌≤◌, length, arith, refl}
-use Rattle.gl_store.specs.Meets.{locations_top, gate_of}
+use Rattle.std.proofs.Common.{arith, refl}
 use Rattle.gl_store.proofs.MarkLemmas.{marked_there, flag_below, same_place}
 use Rattle.gl_store.proofs.marks.mark_at.Goals as goal
 

@@ -1,4 +1,4 @@
-use Rattle.std.proofs.Common.{◌≡◌, ◌<◌, ◌≤◌, ◌-◌, length, arith}
+use Rattle.std.proofs.Common.{◌<◌, ◌-◌, length, arith}
 use Rattle.gl_store.proofs.PlaceLemmas.{locations_top-at, read_none, read_there}
 use Rattle.gl_store.proofs.stores.read_where.Goals as goal
 use Rattle.gl_store.proofs.stores.read_where.Goals.{then-target-eq0-via-then-target-eq0, then-target-eq0-via-else-target-eq0+then-target-locations}

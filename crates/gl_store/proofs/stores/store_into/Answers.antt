@@ -1,4 +1,4 @@
-use Rattle.std.proofs.Common.{◌≡◌, ◌<◌, ◌≤◌, length, arith}
+use Rattle.std.proofs.Common.{arith}
 use Rattle.gl_store.proofs.ValueLemmas.{Grown-same, Grown-trans}
 use Rattle.gl_store.proofs.StoreLemmas.{guard_below, stored_none, stored_step, stored_whole}
 use Rattle.gl_store.proofs.stores.store_into.Goals as goal

@@ -1,4 +1,4 @@
-use Rattle.std.proofs.Common.{◌≡◌, ◌<◌, ◌≤◌, ◌-◌, length, arith, refl}
+use Rattle.std.proofs.Common.{◌<◌, ◌-◌, length, arith, refl}
 use Rattle.gl_store.proofs.PlaceLemmas.{locations_top-at, written_none, written_there}
 use Rattle.gl_store.proofs.stores.write_where.Goals as goal
 use Rattle.gl_store.proofs.stores.write_where.Goals.{then-target-eq0-via-then-target-eq0, then-target-eq0-via-else-target-eq0+then-target-locations}

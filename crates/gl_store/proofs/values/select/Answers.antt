@@ -1,4 +1,4 @@
-use Rattle.std.proofs.Common.{◌≡◌, ◌<◌, ◌≤◌, length, length-append, ap, ◌∙◌, sym, arith, ◌∷◌, []}
+use Rattle.std.proofs.Common.{◌<◌, length, length-append, ap, arith, ◌∷◌, []}
 use Rattle.bit_words.specs.Number.{top}
 use Rattle.gl_store.proofs.ValueLemmas.{Grown-same, Grown-trans, gate_below, top-nil, top-push, Selects-none, Selects-step, selected_whole}
 use Rattle.gl_store.proofs.values.select.Goals as goal

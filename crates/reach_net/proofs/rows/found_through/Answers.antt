@@ -1,5 +1,4 @@
-use Rattle.std.proofs.Common.{◌≡◌, ◌<◌, ◌≤◌, length, ◌∙◌, sym, arith}
-use Rattle.reach_net.specs.Walks.{gates_top, rows_top, rows_of}
+use Rattle.std.proofs.Common.{◌∙◌, sym, arith}
 use Rattle.reach_net.proofs.RowLemmas.{row_wide, row_below, found_through}
 use Rattle.reach_net.proofs.rows.found_through.Goals as goal
 

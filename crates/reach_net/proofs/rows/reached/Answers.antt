@@ -1,4 +1,4 @@
-use Rattle.std.proofs.Common.{◌≡◌, ◌<◌, ◌≤◌, length, ap, ◌∙◌, sym, arith}
+use Rattle.std.proofs.Common.{length, ap, ◌∙◌, arith}
 use Rattle.reach_net.specs.Walks.{gates_top, rows_top, rows_of}
 use Rattle.reach_net.proofs.RowLemmas.{Grown-same, Grown-trans, same_square, length-rows_of}
 use Rattle.reach_net.proofs.WalkLemmas.{reached_none, reached_step, reached_whole}

@@ -1,5 +1,4 @@
-use Rattle.std.proofs.Common.{◌≡◌, ◌<◌, ◌≤◌, length, ap, ◌∙◌, sym, arith}
-use Rattle.reach_net.specs.Walks.{gates_top, rows_top, rows_of}
+use Rattle.std.proofs.Common.{◌∙◌, sym, arith}
 use Rattle.reach_net.proofs.RowLemmas.{Grown-same, Grown-trans, row_wide, row_below, through_none, through_step, through_whole}
 use Rattle.reach_net.proofs.rows.through.Goals as goal
 

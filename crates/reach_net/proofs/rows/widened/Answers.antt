@@ -1,5 +1,4 @@
-use Rattle.std.proofs.Common.{◌≡◌, ◌<◌, ◌≤◌, length, length-append, ap, ◌∙◌, sym, arith, ◌∷◌, []}
-use Rattle.bit_net.specs.declared.nodes.Gate.{Gate}
+use Rattle.std.proofs.Common.{◌<◌, length, length-append, ap, arith, ◌∷◌, []}
 use Rattle.reach_net.specs.Walks.{gates_top, holds_at}
 use Rattle.reach_net.proofs.RowLemmas.{Grown-same, Grown-trans, gate_below, gates_top-push, gates_top-nil, Widens-none, Widens-step, widened_whole, widened_same}
 use Rattle.reach_net.proofs.rows.widened.Goals as goal

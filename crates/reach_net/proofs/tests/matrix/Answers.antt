@@ -1,5 +1,4 @@
-use Rattle.std.proofs.Common.{◌≡◌, ◌≤◌, ◌<◌, length, length-append, ap, ◌∙◌, arith, ◌∷◌, []}
-use Rattle.reach_net.specs.Walks.{rows_of, EachWide, rows_top}
+use Rattle.std.proofs.Common.{◌<◌, length, length-append, ap, arith, ◌∷◌, []}
 use Rattle.reach_net.proofs.RowLemmas.{no_rows, pushed_row, gate_below}
 use Rattle.reach_net.proofs.tests.matrix.Goals as goal
 
