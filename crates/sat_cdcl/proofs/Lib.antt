@@ -4,3 +4,4 @@ pub mod FollowLemmas
 pub mod WeightLemmas
 pub mod HeldLemmas
 pub mod SearchLemmas
+pub mod ResolventLemmas

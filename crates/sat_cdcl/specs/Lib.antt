@@ -6,4 +6,5 @@ pub mod Looks
 pub mod Decided
 pub mod Answered
 pub mod Progressed
+pub mod Resolvents
 pub mod CdclState

@@ -1,6 +1,7 @@
-// Which variable is decided next: the one that took part in the most conflicts of late. No answer
-// rests on the order.
+// Which variable is decided next: the one that took part in the most conflicts of late; and how much
+// each learnt clause did. No answer rests on either.
 
+use crate::held::ClauseId;
 use sat_base::OutOfMemory;
 use std::alloc::Global;
 
@@ -12,6 +13,8 @@ pub struct Activity {
     heap: Vec<usize>,
     place: Vec<usize>,
     step: u64,
+    /// The scores of the learnt clauses.
+    uses: Vec<u64>,
 }
 
 /// A heap of numbers that fit into memory has no more levels than this.
@@ -28,6 +31,7 @@ impl Activity {
             heap: Vec::new(alloc),
             place: Vec::new(alloc),
             step: 1 << 10,
+            uses: Vec::new(alloc),
         }
     }
 
@@ -88,6 +92,21 @@ impl Activity {
         }
     }
 
+    /// One learnt clause more.
+    pub fn grow_clauses(&mut self) -> Result<(), OutOfMemory> {
+        self.uses.push(self.step)?;
+        Ok(())
+    }
+
+    /// Raises the score of a clause, if it is a learnt one.
+    pub fn bump_clause(&mut self, clause: ClauseId) {
+        if let ClauseId::Learnt(i) = clause
+            && i < self.uses.len()
+        {
+            self.uses[i] = self.uses[i].saturating_add(self.step);
+        }
+    }
+
     /// Makes later rises count for more.
     pub fn decay(&mut self) {
         self.step = self.step.saturating_add(self.step / 16);
@@ -98,6 +117,9 @@ impl Activity {
 
     fn rescale(&mut self) {
         for score in self.score.iter_mut() {
+            *score = *score >> 40;
+        }
+        for score in self.uses.iter_mut() {
             *score = *score >> 40;
         }
         self.step = (self.step >> 40) + 1;
