@@ -1,6 +1,7 @@
 pub mod Steps
 pub mod Order
 pub mod Weight
+pub mod Learned
 pub mod Held
 pub mod Looks
 pub mod Decided

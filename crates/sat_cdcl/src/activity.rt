@@ -15,6 +15,9 @@ pub struct Activity {
     step: u64,
     /// The scores of the learnt clauses.
     uses: Vec<u64>,
+    /// How many clauses were learnt since some were deleted last, and how many may be.
+    since: usize,
+    limit: usize,
 }
 
 /// A heap of numbers that fit into memory has no more levels than this.
@@ -22,6 +25,12 @@ const LEVELS: u32 = 64;
 
 /// Above this score all scores and the step are halved many times.
 const HIGHEST: u64 = 1 << 60;
+
+/// So many clauses are learnt before some are deleted for the first time, and from each time to the
+/// next so many more.
+const FIRST_LIMIT: usize = 2000;
+
+const LIMIT_STEP: usize = 300;
 
 impl Activity {
     /// No variable. It takes no memory.
@@ -32,6 +41,8 @@ impl Activity {
             place: Vec::new(alloc),
             step: 1 << 10,
             uses: Vec::new(alloc),
+            since: 0,
+            limit: FIRST_LIMIT,
         }
     }
 
@@ -95,7 +106,24 @@ impl Activity {
     /// One learnt clause more.
     pub fn grow_clauses(&mut self) -> Result<(), OutOfMemory> {
         self.uses.push(self.step)?;
+        self.since = self.since.saturating_add(1);
         Ok(())
+    }
+
+    /// Whether so many clauses were learnt that some are to be deleted.
+    pub fn is_full(&self) -> bool {
+        self.since >= self.limit
+    }
+
+    /// Begins to count anew.
+    pub fn was_reduced(&mut self) {
+        self.since = 0;
+        self.limit = self.limit.saturating_add(LIMIT_STEP);
+    }
+
+    /// The score of the learnt clause of a number.
+    pub fn use_of(&self, number: usize) -> u64 {
+        self.uses.get(number).copied().unwrap_or(0)
     }
 
     /// Raises the score of a clause, if it is a learnt one.

@@ -10,10 +10,12 @@ use crate::activity::Activity;
 use crate::analyse::analyse;
 use crate::backjump::{Target, find_target, flip_last, is_asserting, jump, reopen};
 use crate::held::{ClauseId, Clauses};
+use crate::reduce::reduce;
 use crate::resolvent::Resolvent;
 use crate::trail::Trail;
 use crate::watch::{Pair, Watches};
 use sat_base::{Lit, OutOfMemory};
+use std::alloc::Global;
 
 /// What a turn of the search came to.
 #[derive(Debug, Drop)]
@@ -93,6 +95,7 @@ fn learn_from(
 
 /// Goes back after a conflict, if there is a decision to go back to.
 pub fn resolve(
+    alloc: Global,
     trail: &mut Trail,
     clauses: &mut Clauses,
     watches: &mut Watches,
@@ -111,6 +114,7 @@ pub fn resolve(
     activity.decay();
     let jumped = learn_from(trail, clauses, watches, activity, resolvent, conflict, last)?;
     if jumped {
+        reduce(alloc, trail, clauses, activity)?;
         return Ok(Progress::Rose);
     }
     reopen(trail, activity, last)?;

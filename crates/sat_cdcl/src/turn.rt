@@ -91,6 +91,8 @@ pub fn proceed(
     match turn {
         Advance::Decided => Ok(Progress::Rose),
         Advance::Found(values) => Ok(Progress::Found(values)),
-        Advance::Clash(conflict) => resolve(trail, clauses, watches, activity, resolvent, conflict),
+        Advance::Clash(conflict) => resolve(
+            alloc, trail, clauses, watches, activity, resolvent, conflict,
+        ),
     }
 }
