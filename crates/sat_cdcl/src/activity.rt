@@ -13,10 +13,11 @@ pub struct Activity {
     heap: Vec<usize>,
     place: Vec<usize>,
     step: u64,
-    /// The scores of the learnt clauses.
+    /// The scores of the learnt clauses, which age more slowly.
     uses: Vec<u64>,
-    /// How many clauses were learnt since some were deleted last, and how many may be.
-    since: usize,
+    use_step: u64,
+    /// How many learnt clauses there are, and how many there may be.
+    live: usize,
     limit: usize,
 }
 
@@ -26,11 +27,11 @@ const LEVELS: u32 = 64;
 /// Above this score all scores and the step are halved many times.
 const HIGHEST: u64 = 1 << 60;
 
-/// So many clauses are learnt before some are deleted for the first time, and from each time to the
-/// next so many more.
-const FIRST_LIMIT: usize = 2000;
+/// There may be so many learnt clauses at first, and so many more after each time that some were
+/// deleted.
+const FIRST_LIMIT: usize = 1000;
 
-const LIMIT_STEP: usize = 300;
+const LIMIT_STEP: usize = 50;
 
 impl Activity {
     /// No variable. It takes no memory.
@@ -41,7 +42,8 @@ impl Activity {
             place: Vec::new(alloc),
             step: 1 << 10,
             uses: Vec::new(alloc),
-            since: 0,
+            use_step: 1 << 20,
+            live: 0,
             limit: FIRST_LIMIT,
         }
     }
@@ -105,19 +107,19 @@ impl Activity {
 
     /// One learnt clause more.
     pub fn grow_clauses(&mut self) -> Result<(), OutOfMemory> {
-        self.uses.push(self.step)?;
-        self.since = self.since.saturating_add(1);
+        self.uses.push(self.use_step)?;
+        self.live = self.live.saturating_add(1);
         Ok(())
     }
 
-    /// Whether so many clauses were learnt that some are to be deleted.
+    /// Whether there are so many learnt clauses that some are to be deleted.
     pub fn is_full(&self) -> bool {
-        self.since >= self.limit
+        self.live >= self.limit
     }
 
-    /// Begins to count anew.
-    pub fn was_reduced(&mut self) {
-        self.since = 0;
+    /// So many learnt clauses were deleted.
+    pub fn was_reduced(&mut self, deleted: usize) {
+        self.live = self.live.saturating_sub(deleted);
         self.limit = self.limit.saturating_add(LIMIT_STEP);
     }
 
@@ -131,7 +133,10 @@ impl Activity {
         if let ClauseId::Learnt(i) = clause
             && i < self.uses.len()
         {
-            self.uses[i] = self.uses[i].saturating_add(self.step);
+            self.uses[i] = self.uses[i].saturating_add(self.use_step);
+            if self.uses[i] > HIGHEST {
+                self.rescale_uses();
+            }
         }
     }
 
@@ -141,16 +146,24 @@ impl Activity {
         if self.step > HIGHEST {
             self.rescale();
         }
+        self.use_step = self.use_step.saturating_add(self.use_step / 1024);
+        if self.use_step > HIGHEST {
+            self.rescale_uses();
+        }
     }
 
     fn rescale(&mut self) {
         for score in self.score.iter_mut() {
             *score = *score >> 40;
         }
-        for score in self.uses.iter_mut() {
-            *score = *score >> 40;
-        }
         self.step = (self.step >> 40) + 1;
+    }
+
+    fn rescale_uses(&mut self) {
+        for score in self.uses.iter_mut() {
+            *score = *score >> 30;
+        }
+        self.use_step = (self.use_step >> 30) + 1;
     }
 
     fn leave(&mut self, var: usize) {

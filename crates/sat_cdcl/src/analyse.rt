@@ -89,6 +89,43 @@ fn resolve_step(
     take_all(trail, activity, resolvent, clause, Some(step.lit), start)
 }
 
+/// The step that made a literal false, if a clause implied it whose other literals are all in the
+/// resolvent.
+fn redundant_step(
+    trail: &Trail,
+    clauses: &Clauses,
+    resolvent: &Resolvent,
+    lit: Lit,
+) -> Option<Step> {
+    let step = trail.at(trail.place_false(lit)?);
+    let clause = clauses.get(step.reason?)?;
+    if clause.iter().all(|other| *other == step.lit || resolvent.place(*other).is_some()) {
+        Some(step)
+    } else {
+        None
+    }
+}
+
+/// Takes literals out of the resolvent that the others make redundant.
+fn shrink(
+    trail: &Trail,
+    clauses: &Clauses,
+    activity: &mut Activity,
+    resolvent: &mut Resolvent,
+    start: usize,
+) -> Result<(), OutOfMemory>
+    ensures { IfOk result (λ _. Entails clauses.now resolvent.old → Entails clauses.now resolvent.new) }
+{
+    for k in (0..resolvent.lits().len()).rev() {
+        let lit = resolvent.lits().get(k).copied();
+        let step = lit.and_then(|lit| redundant_step(trail, clauses, resolvent, lit));
+        if let Some(step) = step {
+            resolve_step(trail, clauses, activity, resolvent, step, start)?;
+        }
+    }
+    Ok(())
+}
+
 /// Makes the resolvent a clause that the given ones entail, of which one literal alone became false
 /// at this place of the trail, the last decision's, or behind it. False where there is no such
 /// conflict.
@@ -115,5 +152,6 @@ pub fn analyse(
         let step = trail.at(behind);
         resolve_step(trail, clauses, activity, resolvent, step, start)?;
     }
+    shrink(trail, clauses, activity, resolvent, start)?;
     Ok(true)
 }

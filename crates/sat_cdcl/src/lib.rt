@@ -6,22 +6,22 @@
 // it is tested.
 #![tactic(auto)]
 
-pub mod activity;
-pub mod analyse;
-pub mod backjump;
-pub mod conflict;
-pub mod decide;
-pub mod held;
-pub mod learnt;
-pub mod propagate;
-pub mod reduce;
-pub mod resolvent;
-pub mod search;
-pub mod solver;
-pub mod trail;
-pub mod turn;
-pub mod values;
-pub mod watch;
+mod activity;
+mod analyse;
+mod backjump;
+mod conflict;
+mod decide;
+mod held;
+mod learnt;
+mod propagate;
+mod reduce;
+mod resolvent;
+mod search;
+mod solver;
+mod trail;
+mod turn;
+mod values;
+mod watch;
 
 pub use solver::Cdcl;
 

@@ -24,13 +24,20 @@ fn is_candidate(trail: &Trail, clauses: &Clauses, number: usize) -> bool {
     }
 }
 
-/// The score in the middle of those of the clauses that may be deleted.
-fn middle_score(
+/// The less active half of the clauses that may be deleted: those of a score up to the highest, so
+/// many at most.
+#[derive(Debug, Drop)]
+struct Half {
+    highest: u64,
+    count: usize,
+}
+
+fn find_half(
     alloc: Global,
     trail: &Trail,
     clauses: &Clauses,
     activity: &Activity,
-) -> Result<u64, OutOfMemory> {
+) -> Result<Half, OutOfMemory> {
     let mut scores = Vec::new(alloc);
     for number in 0..clauses.learnt_count() {
         if is_candidate(trail, clauses, number) {
@@ -38,20 +45,29 @@ fn middle_score(
         }
     }
     scores.sort_unstable();
-    Ok(scores.get(scores.len() / 2).copied().unwrap_or(0))
+    let count = scores.len() / 2;
+    Ok(Half {
+        highest: scores.get(count).copied().unwrap_or(0),
+        count,
+    })
 }
 
-/// Marks the clauses that may be deleted and have a lower score than this.
-fn mark_below(
+/// Marks the clauses of this half, and counts in it those that are left.
+fn mark_half(
     alloc: Global,
     trail: &Trail,
     clauses: &Clauses,
     activity: &Activity,
-    score: u64,
+    half: &mut Half,
 ) -> Result<Vec<bool>, OutOfMemory> {
     let mut marked = Vec::new(alloc);
     for number in 0..clauses.learnt_count() {
-        let is_idle = activity.use_of(number) < score && is_candidate(trail, clauses, number);
+        let is_idle = half.count > 0
+            && activity.use_of(number) <= half.highest
+            && is_candidate(trail, clauses, number);
+        if is_idle {
+            half.count -= 1;
+        }
         marked.push(is_idle)?;
     }
     Ok(marked)
@@ -69,9 +85,10 @@ pub fn reduce(
     if !activity.is_full() {
         return Ok(());
     }
-    let score = middle_score(alloc, trail, clauses, activity)?;
-    let marked = mark_below(alloc, trail, clauses, activity, score)?;
+    let mut half = find_half(alloc, trail, clauses, activity)?;
+    let wanted = half.count;
+    let marked = mark_half(alloc, trail, clauses, activity, &mut half)?;
     clauses.forget(marked.as_slice());
-    activity.was_reduced();
+    activity.was_reduced(wanted.saturating_sub(half.count));
     Ok(())
 }
