@@ -183,34 +183,66 @@ impl Numbers {
     }
 }
 
-/// A formula of random clauses, and five questions about it, each after six clauses more, with 0 to 4
-/// assumptions.
-fn ask_five(rt: &impl Abort, alloc: Global, numbers: &mut Numbers) -> Result<usize, OutOfMemory> {
-    let mut both = Both::new(alloc)?;
-    let mut models = 0;
-    for count in 0..5 {
-        for _clause in 0..6 {
-            both.add(rt, numbers.lits(alloc, 3)?.as_slice())?;
-        }
-        let answer = both.ask(rt, numbers.lits(alloc, count)?.as_slice())?;
-        if answer == Answer::Model {
-            models = count + 1;
-        }
-        both.ask(rt, &[])?;
+/// Adds a random clause of three literals.
+fn add_random(
+    rt: &impl Abort,
+    alloc: Global,
+    both: &mut Both,
+    numbers: &mut Numbers,
+) -> Result<(), OutOfMemory> {
+    let clause = numbers.lits(alloc, 3)?;
+    both.add(rt, clause.as_slice())
+}
+
+/// Asks with so many random assumptions, and then with none.
+fn ask_twice(
+    rt: &impl Abort,
+    alloc: Global,
+    both: &mut Both,
+    numbers: &mut Numbers,
+    count: usize,
+) -> Result<Answer, OutOfMemory> {
+    let assumed = numbers.lits(alloc, count)?;
+    both.ask(rt, assumed.as_slice())?;
+    both.ask(rt, &[])
+}
+
+/// Six random clauses more, and two questions.
+fn go_on(
+    rt: &impl Abort,
+    alloc: Global,
+    both: &mut Both,
+    numbers: &mut Numbers,
+    count: usize,
+) -> Result<Answer, OutOfMemory> {
+    for _clause in 0..6u32 {
+        add_random(rt, alloc, both, numbers)?;
     }
-    Ok(models)
+    ask_twice(rt, alloc, both, numbers, count)
+}
+
+/// A formula of up to 48 random clauses, asked about after each six of them, with 0 to 4 assumptions;
+/// the answer to the last question.
+fn ask_about_one(
+    rt: &impl Abort,
+    alloc: Global,
+    numbers: &mut Numbers,
+) -> Result<Answer, OutOfMemory> {
+    let mut both = Both::new(alloc)?;
+    for count in 0..7 {
+        go_on(rt, alloc, &mut both, numbers, count % 5)?;
+    }
+    go_on(rt, alloc, &mut both, numbers, 2)
 }
 
 #[test]
 fn random_formulas_with_assumptions(rt: HostRuntime) -> Result<(), Fail> {
     let mut numbers = Numbers { state: 1 };
-    let mut none = 0;
+    let mut refuted = false;
     for _formula in 0..200u32 {
-        let models = ask_five(&rt, rt.alloc(), &mut numbers)?;
-        if models < 5 {
-            none = 1;
-        }
+        let last = ask_about_one(&rt, rt.alloc(), &mut numbers)?;
+        refuted = refuted || last == Answer::NoModel;
     }
-    assert_eq!(rt; none, 1, "some questions have no model");
+    assert!(rt; refuted, "48 clauses leave some of the formulas no model");
     Ok(())
 }
