@@ -3,3 +3,4 @@ pub mod Scanning
 pub mod Passing
 pub mod Splitting
 pub mod Assuming
+pub mod Certifying

@@ -3,7 +3,7 @@
 ghost use Rattle.std.specs.Prelude.{◌≡◌, ◌↔◌, IsTrue};
 ghost use Rattle.sat_base.specs.Logic.{LitsBelow};
 
-use crate::{Answer, Lit, OutOfMemory, Plain, Solver};
+use crate::{Answer, Clause, ClauseList, Lit, Log, OutOfMemory, Plain, Solver, Step};
 use std::process::Abort;
 use std::test::Fail;
 
@@ -80,5 +80,18 @@ fn three_pigeons_do_not_fit_into_two_holes(rt: HostRuntime) -> Result<(), Fail> 
         solver.add(&not_both)?;
     }
     assert_eq!(rt; solver.solve(&[])?, Answer::NoModel);
+    Ok(())
+}
+
+#[test]
+fn a_certificate_keeps_its_clauses_and_steps(rt: HostRuntime) -> Result<(), Fail> {
+    let alloc = rt.alloc();
+    let mut clauses = ClauseList::new(alloc);
+    clauses.push(Clause::of(alloc, &[positive(0)])?)?;
+    clauses.push(Clause::of(alloc, &[negative(0)])?)?;
+    assert_eq!(rt; clauses.clauses().len(), 2);
+    let mut log = Log::new(alloc);
+    log.push(Step::Add(Clause::of(alloc, &[])?))?;
+    assert_eq!(rt; log.steps().len(), 1);
     Ok(())
 }

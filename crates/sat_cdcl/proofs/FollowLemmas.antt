@@ -10,7 +10,7 @@ use Rattle.sat_cdcl.specs.declared.trail.Step.{Step}
 use Rattle.sat_cdcl.specs.declared.trail.Put.{Put}
 use Rattle.sat_cdcl.specs.declared.trail.Put.TheVariants.{Done, Taken, Absent}
 use Rattle.sat_cdcl.specs.declared.propagate.Look.{Look}
-use Rattle.sat_cdcl.specs.declared.propagate.Look.TheVariants.{Keep, Move, Forced, Conflict}
+use Rattle.sat_cdcl.specs.declared.propagate.Look.TheVariants.{Keep, Move, Forced, Conflict, Gone}
 use Rattle.sat_cdcl.specs.Steps.{TrailState, AllTrue, AllImplied, Follows, Entails, Implies, Tells, IsPut}
 use Rattle.sat_cdcl.specs.Weight.{Extends, weight, trail_weight}
 use Rattle.sat_cdcl.specs.Looks.{OthersFalse, IsClauseLook, IsLook, look_from}
@@ -118,6 +118,7 @@ pub look_of : (steps : List Step) (cs : List (List Lit)) (clause : List Lit) (lo
 look_of steps cs clause Keep holds is = tt
 look_of steps cs clause (Move q) holds is = tt
 look_of steps cs clause (Forced l) holds is = λ f all true_steps. true_unless (lit_true f l) (λ none. not_both (some_true f clause) (holds f all) (is f true_steps none))
+look_of steps cs clause Gone holds is = tt
 look_of steps cs clause Conflict holds is = λ f all true_steps. not_both (some_true f clause) (holds f all) (is f true_steps)
 
 -- one literal more that is not open

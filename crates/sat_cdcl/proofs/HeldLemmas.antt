@@ -1,6 +1,6 @@
 -- References and the clauses that they read.
 
-use Rattle.std.proofs.Common.{◌≡◌, ℕ, zero, suc, ◌+◌, ◌≤◌, Bool, true, false, List, [], ◌∷◌, ◌++◌, length, take, get_or, slice_get, Option, None, Some, Result, Ok, Err, OnErr, IsSome, IfSome, MatchOption, unwrap_or, refl, sym, subst, ap, ◌∙◌, arith}
+use Rattle.std.proofs.Common.{◌≡◌, ℕ, zero, suc, ◌+◌, ◌≤◌, ◌⊎◌, inl, inr, Bool, true, false, List, [], ◌∷◌, ◌++◌, length, take, get_or, slice_get, Option, None, Some, Result, Ok, Err, OnErr, IsSome, IfSome, MatchOption, unwrap_or, refl, sym, subst, ap, ◌∙◌, arith}
 use Rattle.std.proofs.lemmas.Bool.{false≢true}
 use Rattle.std.proofs.lemmas.List.Folds.{list_all-append, list_all_more, list_all_at}
 use Rattle.std.proofs.lemmas.Option.{slice_get_within, get_or_from_slice_get}
@@ -9,10 +9,11 @@ use Rattle.sat_base.specs.Logic.{some_true, all_true}
 use Rattle.sat_pool.specs.declared.pool.Ref.{Ref}
 use Rattle.sat_pool.specs.Region.{Block, reads}
 use Rattle.sat_cdcl.specs.Held.{clauses_of, AllLive, IsHeld}
+use Rattle.sat_cdcl.specs.Learned.{Thins}
 use Rattle.sat_cdcl.specs.Steps.{Entails}
 use Rattle.sat_cdcl.proofs.TruthLemmas.{both, and_of}
 
-some_of : {A : Type 0} (o : Option A) → IsSome o → (a : A) × (o ≡ Some a)
+pub some_of : {A : Type 0} (o : Option A) → IsSome o → (a : A) × (o ≡ Some a)
 some_of None h = absurd (false≢true h)
 some_of (Some a) h = (a, refl)
 
@@ -68,45 +69,48 @@ pub entailed_at : {B : Type 0} (view : B → List Lit) (given cs : List (List Li
 entailed_at view given cs i P None follows h = tt
 entailed_at view given cs i P (Some b) follows h = λ f all. holds_at f cs i (view b) (follows f all) h
 
-pub held_kept : (old new : List Block) (given learnt : List Ref) → Keeps old new → IsHeld old given learnt → IsHeld new given learnt
+pub held_kept : (old new : List Block) (given : List Ref) (learnt : List (Option (List Lit))) → Keeps old new → IsHeld old given learnt → IsHeld new given learnt
 held_kept old new given learnt keeps h =
     let g = kept old new given h.given_live keeps in
-    let l = kept old new learnt h.learnt_live keeps in
-    record {
-      given_live = g.1;
-      learnt_live = l.1;
-      entailed = λ f all. ap (all_true f) l.0 ∙ h.entailed f (ap (all_true f) (sym g.0) ∙ all);
-    }
+    record { given_live = g.1; entailed = λ f all. h.entailed f (ap (all_true f) (sym g.0) ∙ all) }
 
-pub held_given : (old new : List Block) (given learnt : List Ref) (r : Ref) (c : List Lit) → Keeps old new → reads new r.at ≡ Some c → IsHeld old given learnt
-    → IsHeld new (given ++ r ∷ []) learnt
+pub held_given : (old new : List Block) (given : List Ref) (learnt : List (Option (List Lit))) (r : Ref) (c : List Lit) → Keeps old new → reads new r.at ≡ Some c
+    → IsHeld old given learnt → IsHeld new (given ++ r ∷ []) learnt
 held_given old new given learnt r c keeps is h =
     let g = kept old new given h.given_live keeps in
-    let l = kept old new learnt h.learnt_live keeps in
     let more = clauses_of-push new given r c is in
     record {
       given_live = live_push new given r g.1 (is_some (reads new r.at) c is);
-      learnt_live = l.1;
       entailed = λ f all.
           let split = sym (list_all-append (some_true f) (clauses_of new given) (c ∷ [])) ∙ ap (all_true f) (sym more) ∙ all in
-          ap (all_true f) l.0 ∙ h.entailed f (ap (all_true f) (sym g.0) ∙ (both _ _ split).0);
+          h.entailed f (ap (all_true f) (sym g.0) ∙ (both _ _ split).0);
     }
 
-pub held_learnt : (old new : List Block) (given learnt : List Ref) (r : Ref) (c : List Lit) → Keeps old new → reads new r.at ≡ Some c → IsHeld old given learnt
-    → Entails (clauses_of old given) c → IsHeld new given (learnt ++ r ∷ [])
-held_learnt old new given learnt r c keeps is h follows =
-    let g = kept old new given h.given_live keeps in
-    let l = kept old new learnt h.learnt_live keeps in
-    let more = clauses_of-push new learnt r c is in
-    record {
-      given_live = g.1;
-      learnt_live = live_push new learnt r l.1 (is_some (reads new r.at) c is);
-      entailed = λ f all.
-          let before = ap (all_true f) (sym g.0) ∙ all in
-          ap (all_true f) more
-          ∙ list_all-append (some_true f) (clauses_of new learnt) (c ∷ [])
-          ∙ and_of _ _ (ap (all_true f) l.0 ∙ h.entailed f before) (and_of (some_true f c) true (follows f before) refl);
-    }
+-- what stands in a list with one more
+pub pushed_at : {A : Type 0} (es : List (Option A)) (r : A) (i : ℕ) (s : A) → slice_get (es ++ Some r ∷ []) i ≡ Some (Some s)
+    → (slice_get es i ≡ Some (Some s)) ⊎ ((i ≡ length es) × (r ≡ s))
+pushed_at [] r zero s h = inr (refl, cc h)
+pushed_at [] r (suc i) s h = absurd (cc h)
+pushed_at (x ∷ xs) r zero s h = inl h
+pushed_at (x ∷ xs) r (suc i) s h =
+    elim (pushed_at xs r i s h) [
+      | inl k ↦ inl k
+      | inr k ↦ inr (ap suc k.0, k.1)
+    ]
+
+pub held_learnt : (bs : List Block) (given : List Ref) (learnt : List (Option (List Lit))) (c : List Lit) → IsHeld bs given learnt → Entails (clauses_of bs given) c
+    → IsHeld bs given (learnt ++ Some c ∷ [])
+held_learnt bs given learnt c h follows = record {
+  given_live = h.given_live;
+  entailed = λ f all i d there.
+      elim (pushed_at learnt c i d there) [
+        | inl before ↦ h.entailed f all i d before
+        | inr now ↦ subst (λ x. some_true f x ≡ true) now.1 (follows f all)
+      ];
+}
+
+pub held_thinned : (bs : List Block) (given : List Ref) (old new : List (Option (List Lit))) → IsHeld bs given old → Thins old new → IsHeld bs given new
+held_thinned bs given old new h thins = record { given_live = h.given_live; entailed = λ f all i c there. h.entailed f all i c (thins i c there) }
 
 pub on_err : {A B : Type 0} (r : Result A B) (P : Type 0) → P → OnErr r P
 on_err (Ok a) P h = tt
@@ -137,3 +141,10 @@ all_more f cs i c found now before =
 pub all_fails : (f : ℕ → Bool) (cs : List (List Lit)) (i : ℕ) (c : List Lit) → slice_get cs i ≡ Some c → some_true f c ≡ false → all_true f cs ≡ false
 all_fails f cs i c found fails =
     list_all_at (some_true f) cs i c (slice_get_within cs i c found) (ap (some_true f) (get_or_from_slice_get cs i c c found) ∙ fails)
+
+-- a learnt clause that is found follows
+pub entailed_by : {B : Type 0} (view : B → List Lit) (given : List (List Lit)) (learnt : List (Option (List Lit))) (i : ℕ) (o : Option B)
+    → ((f : ℕ → Bool) → all_true f given ≡ true → (c : List Lit) → slice_get learnt i ≡ Some (Some c) → some_true f c ≡ true)
+    → IfSome o (λ b. slice_get learnt i ≡ Some (Some (view b))) → IfSome o (λ b. Entails given (view b))
+entailed_by view given learnt i None follows h = tt
+entailed_by view given learnt i (Some b) follows h = λ f all. follows f all (view b) h

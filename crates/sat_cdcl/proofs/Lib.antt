@@ -3,4 +3,6 @@ pub mod PlaceLemmas
 pub mod FollowLemmas
 pub mod WeightLemmas
 pub mod HeldLemmas
+pub mod LearnedLemmas
 pub mod SearchLemmas
+pub mod ResolventLemmas

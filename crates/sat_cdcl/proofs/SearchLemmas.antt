@@ -210,15 +210,15 @@ assumed_fails us i d old inside before now f =
 
 -- a conflict, and the way back
 pub progress_after : {E : Type 0} (cs : List (List Lit)) (us : List Lit) (old mid new : TrailState) (r : Result Progress E) → IsClash cs us old mid
-    → IfOk r (λ p. (clauses : List (List Lit)) (assumed : List Lit) → Clashes clauses assumed mid.steps → IsProgress clauses assumed mid new p)
+    → IfOk r (λ p. (assumed : List Lit) → Clashes cs assumed mid.steps → IsProgress cs assumed mid new p)
     → IfOk r (λ p. IsProgress cs us old new p)
 progress_after cs us old mid new (Ok Rose) clash h =
-    let r = h cs us clash.clashes in
+    let r = h us clash.clashes in
     let one = clash.heavier in
     let two = r.heavier in
     record { vars = r.vars ∙ clash.vars; heavier = omega (arith, one, two); follows = λ x. r.follows (clash.follows x) }
-progress_after cs us old mid new (Ok (progress.Found values)) clash h = let r = h cs us clash.clashes in record { size = r.size ∙ clash.vars; holds = r.holds }
-progress_after cs us old mid new (Ok Exhausted) clash h = λ x. h cs us clash.clashes (clash.follows x)
+progress_after cs us old mid new (Ok (progress.Found values)) clash h = let r = h us clash.clashes in record { size = r.size ∙ clash.vars; holds = r.holds }
+progress_after cs us old mid new (Ok Exhausted) clash h = λ x. h us clash.clashes (clash.follows x)
 progress_after cs us old mid new (Err e) clash h = tt
 
 -- the trail has a last number

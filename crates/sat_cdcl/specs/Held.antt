@@ -1,8 +1,8 @@
 -- The clauses of a solver as references into its region.
 
-use Rattle.std.specs.Prelude.{◌≡◌, ℕ, Bool, true, List, [], ◌∷◌, IsSome, unwrap_or}
+use Rattle.std.specs.Prelude.{◌≡◌, ℕ, Bool, true, List, [], ◌∷◌, Option, Some, IsSome, unwrap_or, slice_get}
 use Rattle.sat_base.specs.declared.literal.Lit.{Lit}
-use Rattle.sat_base.specs.Logic.{all_true}
+use Rattle.sat_base.specs.Logic.{some_true, all_true}
 use Rattle.sat_pool.specs.declared.pool.Ref.{Ref}
 use Rattle.sat_pool.specs.Region.{Block, reads}
 
@@ -16,8 +16,7 @@ abbrev pub AllLive : List Block → List Ref → Type 0
 AllLive bs [] = Unit {0}
 AllLive bs (r ∷ rs) = IsSome (reads bs r.at) × AllLive bs rs
 
--- references that read a solver's clauses: those given, and those learnt, which follow from them
-pub record IsHeld (bs : List Block) (given learnt : List Ref) : Type 0 where
+-- the given clauses are live, and each learnt one holds wherever they do
+pub record IsHeld (bs : List Block) (given : List Ref) (learnt : List (Option (List Lit))) : Type 0 where
   pub given_live : AllLive bs given
-  pub learnt_live : AllLive bs learnt
-  pub entailed : (f : ℕ → Bool) → all_true f (clauses_of bs given) ≡ true → all_true f (clauses_of bs learnt) ≡ true
+  pub entailed : (f : ℕ → Bool) → all_true f (clauses_of bs given) ≡ true → (i : ℕ) (c : List Lit) → slice_get learnt i ≡ Some (Some c) → some_true f c ≡ true

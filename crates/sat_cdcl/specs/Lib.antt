@@ -1,9 +1,11 @@
 pub mod Steps
 pub mod Order
 pub mod Weight
+pub mod Learned
 pub mod Held
 pub mod Looks
 pub mod Decided
 pub mod Answered
 pub mod Progressed
+pub mod Resolvents
 pub mod CdclState

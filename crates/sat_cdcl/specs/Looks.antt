@@ -5,7 +5,7 @@ use Rattle.sat_base.specs.declared.literal.Lit.{Lit}
 use Rattle.sat_base.specs.Logic.{lit_true, some_true}
 use Rattle.sat_cdcl.specs.declared.trail.Step.{Step}
 use Rattle.sat_cdcl.specs.declared.propagate.Look.{Look}
-use Rattle.sat_cdcl.specs.declared.propagate.Look.TheVariants.{Keep, Move, Forced, Conflict}
+use Rattle.sat_cdcl.specs.declared.propagate.Look.TheVariants.{Keep, Move, Forced, Conflict, Gone}
 use Rattle.sat_cdcl.specs.Steps.{AllTrue, Implies, Refutes}
 
 -- where the steps hold, all literals but this one are false
@@ -17,12 +17,14 @@ abbrev pub IsClauseLook : List Step → List Lit → Look → Type 0
 IsClauseLook steps clause Keep = Unit {0}
 IsClauseLook steps clause (Move q) = Unit {0}
 IsClauseLook steps clause (Forced l) = OthersFalse steps clause l
+IsClauseLook steps clause Gone = Unit {0}
 IsClauseLook steps clause Conflict = (f : ℕ → Bool) → AllTrue f steps → some_true f clause ≡ false
 
 abbrev pub IsLook : List (List Lit) → List Step → Look → Type 0
 IsLook clauses steps Keep = Unit {0}
 IsLook clauses steps (Move q) = Unit {0}
 IsLook clauses steps (Forced l) = Implies clauses steps l
+IsLook clauses steps Gone = Unit {0}
 IsLook clauses steps Conflict = Refutes clauses steps
 
 -- what a clause says, where this literal of it is open, if any, and where its other one may be false

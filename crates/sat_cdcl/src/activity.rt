@@ -1,6 +1,7 @@
-// Which variable is decided next: the one that took part in the most conflicts of late. No answer
-// rests on the order.
+// Which variable is decided next: the one that took part in the most conflicts of late; and how much
+// each learnt clause did. No answer rests on either.
 
+use crate::held::ClauseId;
 use sat_base::OutOfMemory;
 use std::alloc::Global;
 
@@ -12,6 +13,12 @@ pub struct Activity {
     heap: Vec<usize>,
     place: Vec<usize>,
     step: u64,
+    /// The scores of the learnt clauses, which age more slowly.
+    uses: Vec<u64>,
+    use_step: u64,
+    /// How many learnt clauses there are, and how many there may be.
+    live: usize,
+    limit: usize,
 }
 
 /// A heap of numbers that fit into memory has no more levels than this.
@@ -19,6 +26,12 @@ const LEVELS: u32 = 64;
 
 /// Above this score all scores and the step are halved many times.
 const HIGHEST: u64 = 1 << 60;
+
+/// There may be so many learnt clauses at first, and so many more after each time that some were
+/// deleted.
+const FIRST_LIMIT: usize = 1000;
+
+const LIMIT_STEP: usize = 50;
 
 impl Activity {
     /// No variable. It takes no memory.
@@ -28,6 +41,10 @@ impl Activity {
             heap: Vec::new(alloc),
             place: Vec::new(alloc),
             step: 1 << 10,
+            uses: Vec::new(alloc),
+            use_step: 1 << 20,
+            live: 0,
+            limit: FIRST_LIMIT,
         }
     }
 
@@ -88,11 +105,50 @@ impl Activity {
         }
     }
 
+    /// One learnt clause more.
+    pub fn grow_clauses(&mut self) -> Result<(), OutOfMemory> {
+        self.uses.push(self.use_step)?;
+        self.live = self.live.saturating_add(1);
+        Ok(())
+    }
+
+    /// Whether there are so many learnt clauses that some are to be deleted.
+    pub fn is_full(&self) -> bool {
+        self.live >= self.limit
+    }
+
+    /// So many learnt clauses were deleted.
+    pub fn was_reduced(&mut self, deleted: usize) {
+        self.live = self.live.saturating_sub(deleted);
+        self.limit = self.limit.saturating_add(LIMIT_STEP);
+    }
+
+    /// The score of the learnt clause of a number.
+    pub fn use_of(&self, number: usize) -> u64 {
+        self.uses.get(number).copied().unwrap_or(0)
+    }
+
+    /// Raises the score of a clause, if it is a learnt one.
+    pub fn bump_clause(&mut self, clause: ClauseId) {
+        if let ClauseId::Learnt(i) = clause
+            && i < self.uses.len()
+        {
+            self.uses[i] = self.uses[i].saturating_add(self.use_step);
+            if self.uses[i] > HIGHEST {
+                self.rescale_uses();
+            }
+        }
+    }
+
     /// Makes later rises count for more.
     pub fn decay(&mut self) {
         self.step = self.step.saturating_add(self.step / 16);
         if self.step > HIGHEST {
             self.rescale();
+        }
+        self.use_step = self.use_step.saturating_add(self.use_step / 1024);
+        if self.use_step > HIGHEST {
+            self.rescale_uses();
         }
     }
 
@@ -101,6 +157,13 @@ impl Activity {
             *score = *score >> 40;
         }
         self.step = (self.step >> 40) + 1;
+    }
+
+    fn rescale_uses(&mut self) {
+        for score in self.uses.iter_mut() {
+            *score = *score >> 30;
+        }
+        self.use_step = (self.use_step >> 30) + 1;
     }
 
     fn leave(&mut self, var: usize) {

@@ -1,14 +1,21 @@
-// What a conflict leads to: a trail that is taken back.
+// What a conflict leads to: a clause that is learnt, and a trail that is taken back.
 
-ghost use Rattle.std.specs.Prelude.{List, IfOk};
+ghost use Rattle.std.specs.Prelude.{◌≡◌, List, IfOk, MatchBool};
 ghost use Rattle.sat_base.specs.declared.literal.Lit.{Lit};
-ghost use Rattle.sat_cdcl.specs.Answered.{Clashes};
+ghost use Rattle.sat_cdcl.specs.Steps.{Entails};
+ghost use Rattle.sat_cdcl.specs.Answered.{Clashes, Rises};
 ghost use Rattle.sat_cdcl.specs.Progressed.{IsProgress};
 
 use crate::activity::Activity;
-use crate::backjump::{flip_last, reopen};
+use crate::analyse::analyse;
+use crate::backjump::{Target, find_target, flip_last, is_asserting, jump, reopen};
+use crate::held::{ClauseId, Clauses};
+use crate::reduce::reduce;
+use crate::resolvent::Resolvent;
 use crate::trail::Trail;
-use sat_base::OutOfMemory;
+use crate::watch::{Pair, Watches};
+use sat_base::{Lit, OutOfMemory};
+use std::alloc::Global;
 
 /// What a turn of the search came to.
 #[derive(Debug, Drop)]
@@ -21,16 +28,95 @@ pub enum Progress {
     Exhausted,
 }
 
-/// Goes back after a conflict to the last decision, if there is one.
-pub fn resolve(trail: &mut Trail, activity: &mut Activity) -> Result<Progress, OutOfMemory>
-    ensures { IfOk result (λ progress. (clauses : List (List Lit)) (assumed : List Lit)
-        → Clashes clauses assumed trail.old.steps → IsProgress clauses assumed trail.old trail.new progress) }
+/// Begins to watch a learnt clause, at the literals that became false last.
+fn attach_learnt(watches: &mut Watches, id: ClauseId, target: Target) -> Result<(), OutOfMemory> {
+    let pair = Pair {
+        first: target.asserted,
+        second: target.second,
+    };
+    if target.asserted == target.second {
+        watches.note_short(id, pair)
+    } else {
+        watches.watch(id, pair)
+    }
+}
+
+/// Adds a learnt clause, and goes back to where it asserts a literal; false, and the trail is as
+/// before, where it does nowhere.
+fn learn_and_jump(
+    trail: &mut Trail,
+    clauses: &mut Clauses,
+    watches: &mut Watches,
+    activity: &mut Activity,
+    learnt: &[Lit],
+) -> Result<bool, OutOfMemory>
+    requires { Entails clauses.old learnt.now }
+    ensures given { clauses.new ≡ clauses.old }
+    ensures jumped { IfOk result (λ jumped. MatchBool jumped
+        ((assumed : List Lit) → Rises clauses.old assumed trail.old trail.new) (trail.new ≡ trail.old)) }
+{
+    let target = match find_target(trail, learnt) {
+        None => return Ok(false),
+        Some(target) => target,
+    };
+    if !is_asserting(trail, learnt, target.asserted, target.cut) {
+        return Ok(false);
+    }
+    let id = clauses.learn(learnt)?;
+    activity.grow_clauses()?;
+    attach_learnt(watches, id, target)?;
+    reopen(trail, activity, target.cut)?;
+    Ok(jump(trail, learnt, target.asserted, target.cut, id))
+}
+
+/// Learns from a conflict with a clause, where it can.
+fn learn_from(
+    trail: &mut Trail,
+    clauses: &mut Clauses,
+    watches: &mut Watches,
+    activity: &mut Activity,
+    resolvent: &mut Resolvent,
+    conflict: Option<ClauseId>,
+    last: usize,
+) -> Result<bool, OutOfMemory>
+    ensures given { clauses.new ≡ clauses.old }
+    ensures jumped { IfOk result (λ jumped. MatchBool jumped
+        ((assumed : List Lit) → Rises clauses.old assumed trail.old trail.new) (trail.new ≡ trail.old)) }
+{
+    let id = match conflict {
+        None => return Ok(false),
+        Some(id) => id,
+    };
+    if !analyse(trail, clauses, activity, resolvent, id, last)? {
+        return Ok(false);
+    }
+    learn_and_jump(trail, clauses, watches, activity, resolvent.lits())
+}
+
+/// Goes back after a conflict, if there is a decision to go back to.
+pub fn resolve(
+    alloc: Global,
+    trail: &mut Trail,
+    clauses: &mut Clauses,
+    watches: &mut Watches,
+    activity: &mut Activity,
+    resolvent: &mut Resolvent,
+    conflict: Option<ClauseId>,
+) -> Result<Progress, OutOfMemory>
+    ensures given { clauses.new ≡ clauses.old }
+    ensures progress { IfOk result (λ progress. (assumed : List Lit)
+        → Clashes clauses.old assumed trail.old.steps → IsProgress clauses.old assumed trail.old trail.new progress) }
 {
     let last = match trail.last_decision() {
         None => return Ok(Progress::Exhausted),
         Some(last) => last,
     };
     activity.decay();
+    let jumped = learn_from(trail, clauses, watches, activity, resolvent, conflict, last)?;
+    if jumped {
+        reduce(alloc, trail, clauses, activity)?;
+        return Ok(Progress::Rose);
+    }
     reopen(trail, activity, last)?;
     flip_last(trail, last);
     Ok(Progress::Rose)

@@ -1,10 +1,11 @@
-// The clauses: those given, in the order in which they came, and those learnt. Both lie in one
-// region. Each clause that was learnt follows from those given.
+// The clauses: those given, in the order in which they came, and those learnt. Each clause that was
+// learnt follows from those given.
 
 ghost use Rattle.std.specs.Prelude.{◌≡◌, ◌≤◌, ◌<◌, ◌++◌, ◌∷◌, [], ℕ, Some, length, slice_get, IfOk, IfSome, OnErr, MatchOption};
 ghost use Rattle.sat_cdcl.specs.Steps.{Entails};
 ghost use Rattle.sat_cdcl.specs.Held.{clauses_of, AllLive};
 
+use crate::learnt::Learnt;
 use sat_base::{Lit, OutOfMemory};
 use sat_pool::{Pool, Ref};
 use std::alloc::Global;
@@ -22,7 +23,7 @@ pub enum ClauseId {
 pub struct Clauses {
     pool: Pool,
     given: Vec<Ref>,
-    learnt: Vec<Ref>,
+    learnt: Learnt,
 }
 
 impl Model for Clauses {
@@ -34,7 +35,7 @@ impl Model for Clauses {
 
     ghost view = { λ c. clauses_of c.pool c.given.items };
 
-    ghost invariant = { λ c. IsHeld c.pool c.given.items c.learnt.items };
+    ghost invariant = { λ c. IsHeld c.pool c.given.items c.learnt };
 }
 
 /// The clause of one of these references.
@@ -63,7 +64,7 @@ impl Clauses {
         Clauses {
             pool: Pool::new(alloc),
             given: Vec::new(alloc),
-            learnt: Vec::new(alloc),
+            learnt: Learnt::new(alloc),
         }
     }
 
@@ -87,7 +88,7 @@ impl Clauses {
     {
         match id {
             ClauseId::Given(i) => clause_at(&self.pool, self.given.as_slice(), i),
-            ClauseId::Learnt(i) => clause_at(&self.pool, self.learnt.as_slice(), i),
+            ClauseId::Learnt(i) => self.learnt.get(i),
         }
     }
 
@@ -102,14 +103,24 @@ impl Clauses {
         Ok(id)
     }
 
+    /// How many numbers were given to learnt clauses.
+    pub fn learnt_count(&self) -> usize {
+        self.learnt.count()
+    }
+
     /// Adds a clause that follows from those given.
     pub fn learn(&mut self, clause: &[Lit]) -> Result<ClauseId, OutOfMemory>
         requires { Entails self.old clause.now }
         ensures { self.new ≡ self.old }
     {
-        let id = ClauseId::Learnt(self.learnt.len());
-        let r = self.pool.put(clause)?;
-        self.learnt.push(r)?;
-        Ok(id)
+        let number = self.learnt.push(clause)?;
+        Ok(ClauseId::Learnt(number))
+    }
+
+    /// Deletes the learnt clauses that are marked.
+    pub fn forget(&mut self, marked: &[bool])
+        ensures { self.new ≡ self.old }
+    {
+        self.learnt.forget(marked);
     }
 }

@@ -25,6 +25,8 @@ pub enum Look {
     Forced(Lit),
     /// All literals are false.
     Conflict,
+    /// The clause was deleted.
+    Gone,
 }
 
 /// Whether a literal is this other one, or false by the first k steps.
@@ -80,7 +82,7 @@ fn look_at(trail: &Trail, clauses: &Clauses, id: ClauseId, other: Lit) -> Look
     ensures { IsLook clauses.now trail.now.steps result }
 {
     match clauses.get(id) {
-        None => Look::Keep,
+        None => Look::Gone,
         Some(clause) => examine(trail, clause, other),
     }
 }
@@ -160,6 +162,10 @@ fn visit_entry(
             Ok(None)
         }
         Look::Conflict => Ok(Some(watch.clause)),
+        Look::Gone => {
+            leave(list, *i);
+            Ok(None)
+        }
     }
 }
 
@@ -250,6 +256,7 @@ fn begin_with(trail: &mut Trail, clauses: &Clauses, id: ClauseId, lit: Lit) -> O
             None
         }
         Look::Conflict => Some(id),
+        Look::Gone => None,
     }
 }
 

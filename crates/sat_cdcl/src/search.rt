@@ -8,6 +8,7 @@ ghost use Rattle.sat_cdcl.specs.Answered.{IsAssumed, IsAssumedOne, assumed_from,
 use crate::activity::Activity;
 use crate::conflict::Progress;
 use crate::held::Clauses;
+use crate::resolvent::Resolvent;
 use crate::trail::{Put, Step, Trail, differs};
 use crate::turn::proceed;
 use crate::watch::Watches;
@@ -59,20 +60,24 @@ fn assume(trail: &mut Trail, assumed: &[Lit]) -> bool
 fn run(
     alloc: Global,
     trail: &mut Trail,
-    clauses: &Clauses,
+    clauses: &mut Clauses,
     watches: &mut Watches,
     activity: &mut Activity,
+    resolvent: &mut Resolvent,
     assumed: &[Lit],
 ) -> Result<Option<Vec<bool>>, OutOfMemory>
-    requires clauses { ClausesBelow trail.old.vars clauses.now }
+    requires clauses { ClausesBelow trail.old.vars clauses.old }
     requires assumed { LitsBelow trail.old.vars assumed.now }
-    requires follow { AllFollow clauses.now assumed.now trail.old.steps }
-    ensures { IfOk result (λ found. MatchOption found (HasNone clauses.now assumed.now)
-        (λ values. IsModel trail.old.vars clauses.now assumed.now values.items)) }
+    requires follow { AllFollow clauses.old assumed.now trail.old.steps }
+    ensures given { clauses.new ≡ clauses.old }
+    ensures found { IfOk result (λ found. MatchOption found (HasNone clauses.old assumed.now)
+        (λ values. IsModel trail.old.vars clauses.old assumed.now values.items)) }
 {
     let mut from = 0;
     loop {
-        let progress = proceed(alloc, trail, clauses, watches, activity, assumed, from)?;
+        let progress = proceed(
+            alloc, trail, clauses, watches, activity, resolvent, assumed, from,
+        )?;
         match progress {
             Progress::Rose => {}
             Progress::Found(values) => return Ok(Some(values)),
@@ -87,20 +92,22 @@ fn run(
 pub fn find_model(
     alloc: Global,
     trail: &mut Trail,
-    clauses: &Clauses,
+    clauses: &mut Clauses,
     watches: &mut Watches,
     activity: &mut Activity,
+    resolvent: &mut Resolvent,
     assumed: &[Lit],
 ) -> Result<Option<Vec<bool>>, OutOfMemory>
     requires empty { trail.old.steps ≡ [] }
-    requires clauses { ClausesBelow trail.old.vars clauses.now }
+    requires clauses { ClausesBelow trail.old.vars clauses.old }
     requires assumed { LitsBelow trail.old.vars assumed.now }
-    ensures { IfOk result (λ found. MatchOption found (HasNone clauses.now assumed.now)
-        (λ values. IsModel trail.old.vars clauses.now assumed.now values.items)) }
+    ensures given { clauses.new ≡ clauses.old }
+    ensures found { IfOk result (λ found. MatchOption found (HasNone clauses.old assumed.now)
+        (λ values. IsModel trail.old.vars clauses.old assumed.now values.items)) }
 {
     if !assume(trail, assumed) {
         return Ok(None);
     }
-    let found = run(alloc, trail, clauses, watches, activity, assumed)?;
+    let found = run(alloc, trail, clauses, watches, activity, resolvent, assumed)?;
     Ok(found)
 }

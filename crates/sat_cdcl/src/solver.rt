@@ -5,6 +5,7 @@ ghost use Rattle.std.specs.Prelude.{◌≡◌, []};
 
 use crate::activity::Activity;
 use crate::held::{ClauseId, Clauses};
+use crate::resolvent::Resolvent;
 use crate::search::find_model;
 use crate::trail::Trail;
 use crate::watch::{Pair, Watches};
@@ -21,6 +22,7 @@ pub struct Cdcl {
     clauses: Clauses,
     watches: Watches,
     activity: Activity,
+    resolvent: Resolvent,
     found: Vec<bool>,
 }
 
@@ -47,6 +49,7 @@ impl Cdcl {
             clauses: Clauses::new(alloc),
             watches: Watches::new(alloc),
             activity: Activity::new(alloc),
+            resolvent: Resolvent::new(alloc),
             found: Vec::new(alloc),
         }
     }
@@ -81,6 +84,7 @@ impl Solver for Cdcl {
         let next = var.checked_add(1).ok_or(OutOfMemory)?;
         self.watches.grow()?;
         self.activity.grow()?;
+        self.resolvent.grow()?;
         self.vars = next;
         Ok(var)
     }
@@ -98,9 +102,10 @@ impl Solver for Cdcl {
         let found = find_model(
             self.alloc,
             &mut trail,
-            &self.clauses,
+            &mut self.clauses,
             &mut self.watches,
             &mut self.activity,
+            &mut self.resolvent,
             assumed,
         )?;
         match found {

@@ -184,6 +184,14 @@ impl Trail {
         }
     }
 
+    /// The clause that gave a variable its value, if one did. Nothing rests on the answer.
+    pub fn reason(&self, var: usize) -> Option<ClauseId> {
+        match self.places.get(var).copied() {
+            Some(place) if place < self.len => self.order[place].reason,
+            _ => None,
+        }
+    }
+
     /// The sign that a variable has or had last. Nothing rests on the answer.
     pub fn last_sign(&self, var: usize) -> bool {
         match self.places.get(var).copied() {

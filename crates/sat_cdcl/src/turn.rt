@@ -12,6 +12,7 @@ use crate::conflict::{Progress, resolve};
 use crate::decide::{Choice, decide};
 use crate::held::{ClauseId, Clauses};
 use crate::propagate::settle;
+use crate::resolvent::Resolvent;
 use crate::trail::Trail;
 use crate::values::{meets_each, unmet};
 use crate::watch::Watches;
@@ -74,20 +75,24 @@ fn take_turn(
 pub fn proceed(
     alloc: Global,
     trail: &mut Trail,
-    clauses: &Clauses,
+    clauses: &mut Clauses,
     watches: &mut Watches,
     activity: &mut Activity,
+    resolvent: &mut Resolvent,
     assumed: &[Lit],
     from: usize,
 ) -> Result<Progress, OutOfMemory>
-    requires clauses { ClausesBelow trail.old.vars clauses.now }
+    requires clauses { ClausesBelow trail.old.vars clauses.old }
     requires assumed { LitsBelow trail.old.vars assumed.now }
-    ensures { IfOk result (λ progress. IsProgress clauses.now assumed.now trail.old trail.new progress) }
+    ensures given { clauses.new ≡ clauses.old }
+    ensures progress { IfOk result (λ progress. IsProgress clauses.old assumed.now trail.old trail.new progress) }
 {
     let turn = take_turn(alloc, trail, clauses, watches, activity, assumed, from)?;
     match turn {
         Advance::Decided => Ok(Progress::Rose),
         Advance::Found(values) => Ok(Progress::Found(values)),
-        Advance::Clash(_) => resolve(trail, activity),
+        Advance::Clash(conflict) => resolve(
+            alloc, trail, clauses, watches, activity, resolvent, conflict,
+        ),
     }
 }

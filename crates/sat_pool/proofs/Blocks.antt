@@ -118,6 +118,15 @@ reads-dropped (b ∷ bs) ys c =
     let place : (n + size bs) - n ≡ size bs = omega arith in
     rw (past, place) (reads-dropped bs ys c)
 
+-- nothing is read behind the last block
+pub reads-end : (bs : List Block) → reads bs (size bs) ≡ None
+reads-end [] = refl
+reads-end (b ∷ bs) =
+    let n = length b.lits in
+    let past : nat_lt (n + size bs) n ≡ false = le-ltb (n + size bs) n (omega arith) in
+    let place : (n + size bs) - n ≡ size bs = omega arith in
+    rw (past, place) (reads-end bs)
+
 -- what is put behind changes no reading
 pub reads-append : (xs ys : List Block) (q : ℕ) (c : List Lit) → reads xs q ≡ Some c → reads (xs ++ ys) q ≡ Some c
 reads-append [] ys q c h = absurd (cc h)

@@ -60,6 +60,34 @@ live_read : (d : Bool) (ls c : List Lit) → (if d then None else Some ls) ≡ S
 live_read true ls c h = absurd (cc h)
 live_read false ls c h = refl
 
+width_live : (d : Bool) (n : ℕ) → d ≡ false → (if d then 0 else suc n) ≡ suc n
+width_live true n alive = absurd (cc alive)
+width_live false n alive = refl
+
+past_read : (t : Bool) (o : Option (List Lit)) (c : List Lit) → (if t then None else o) ≡ Some c → (t ≡ false) × (o ≡ Some c)
+past_read true o c h = absurd (cc h)
+past_read false o c h = (refl, h)
+
+-- live clauses that have one place after a compaction had one before it
+pub moved-apart : (bs : List Block) (q r : ℕ) (c d : List Lit) → reads bs q ≡ Some c → reads bs r ≡ Some d → moved bs q ≡ moved bs r → q ≡ r
+moved-apart [] q r c d h k e = absurd (cc h)
+moved-apart (b ∷ bs) zero zero c d h k e = refl
+moved-apart (b ∷ bs) zero (suc r) c d h k e =
+    let wide = width_live b.dead (length b.lits) (live_read b.dead b.lits c h) in
+    absurd (omega (arith, wide, e))
+moved-apart (b ∷ bs) (suc q) zero c d h k e =
+    let wide = width_live b.dead (length b.lits) (live_read b.dead b.lits d k) in
+    absurd (omega (arith, wide, e))
+moved-apart (b ∷ bs) (suc q) (suc r) c d h k e =
+    let n = length b.lits in
+    let one = past_read (nat_lt q n) (reads bs (q - n)) c h in
+    let other = past_read (nat_lt r n) (reads bs (r - n)) d k in
+    let low : n ≤ q = ltb-false q n one.0 in
+    let low2 : n ≤ r = ltb-false r n other.0 in
+    let inner : moved bs (q - n) ≡ moved bs (r - n) = omega (arith, e) in
+    let same = moved-apart bs (q - n) (r - n) c d one.1 other.1 inner in
+    omega (arith, same, low, low2)
+
 none_read : (t : Bool) (o : Option (List Lit)) (c : List Lit) → t ≡ true → (if t then None else o) ≡ Some c → ⊥
 none_read true o c e h = cc h
 none_read false o c e h = cc e

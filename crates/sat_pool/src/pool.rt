@@ -54,6 +54,7 @@ impl Pool {
             (r.at ≡ size self.old)
             × (self.new ≡ self.old ++ record { dead = false; lits = clause.now } ∷ [])) }
         ensures read { IfOk result (λ r. reads self.new r.at ≡ Some clause.now) }
+        ensures fresh { IfOk result (λ r. reads self.old r.at ≡ None) }
         ensures kept { (q : ℕ) (c : List Lit) → reads self.old q ≡ Some c → reads self.new q ≡ Some c }
         ensures err { OnErr result (self.new ≡ self.old) }
     {
@@ -98,6 +99,8 @@ impl Pool {
         ensures table { length moved.new.places ≡ size self.old }
         ensures read { (q : ℕ) (c : List Lit) → reads self.old q ≡ Some c
             → (q < size self.old) × (reads self.new (slice_index moved.new.places q) ≡ Some c) }
+        ensures apart { (q r : ℕ) (c d : List Lit) → reads self.old q ≡ Some c → reads self.old r ≡ Some d
+            → slice_index moved.new.places q ≡ slice_index moved.new.places r → q ≡ r }
     {
         copy_live(self.list.as_slice(), &mut moved.list, &mut moved.to);
         self.list = mem::replace(&mut moved.list, Vec::new(self.alloc));

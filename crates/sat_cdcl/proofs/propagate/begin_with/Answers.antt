@@ -13,3 +13,6 @@ returns-in-Forced c = (c.imply.ensures c.args.clauses.now c.in-Forced.ensures, t
 
 pub returns-in-Conflict : goal.returns-in-Conflict
 returns-in-Conflict c = (extends_refl c.args.clauses.now c.args.trail.now, c.in-Conflict.ensures)
+
+pub returns-in-Gone : goal.returns-in-Gone
+returns-in-Gone c = (extends_refl c.args.clauses.now c.args.trail.now, tt)

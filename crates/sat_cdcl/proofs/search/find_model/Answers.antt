@@ -4,8 +4,8 @@ use Rattle.sat_base.specs.Logic.{ClausesBelow, LitsBelow}
 use Rattle.sat_cdcl.proofs.SearchLemmas.{none_assumed, follow_assumed}
 use Rattle.sat_cdcl.proofs.search.find_model.Goals as goal
 
-pub returns-then-not-assume : goal.returns-then-not-assume
-returns-then-not-assume c = none_assumed c.args.clauses.now c.args.assumed.now c.if-not-assume.ensures.assumed
+pub returns-then-not-assume-clause-found : goal.returns-then-not-assume-clause-found
+returns-then-not-assume-clause-found c = none_assumed c.args.clauses.now c.args.assumed.now c.if-not-assume.ensures.assumed
 
 pub run-requires : goal.run-requires
 run-requires c = record {

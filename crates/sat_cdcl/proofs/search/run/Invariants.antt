@@ -6,6 +6,7 @@ use Rattle.sat_cdcl.proofs.search.run.Given as goal
 abbrev pub invariant-loop-progress : goal.invariant-loop-progress
 invariant-loop-progress l = record {
   vars : l.trail.vars ≡ l.fn.trail.vars;
+  given : l.clauses ≡ l.fn.clauses;
   follow : AllFollow l.clauses l.assumed l.trail.steps;
 }
 

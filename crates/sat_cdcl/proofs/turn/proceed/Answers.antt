@@ -2,11 +2,12 @@
 use Rattle.sat_cdcl.proofs.SearchLemmas.{progress_after}
 use Rattle.sat_cdcl.proofs.turn.proceed.Goals as goal
 
-pub returns-in-Decided : goal.returns-in-Decided
-returns-in-Decided c = rw c.in-Decided.is at c.in_ok-turn.ensures
+pub returns-in-Decided-clause-progress : goal.returns-in-Decided-clause-progress
+returns-in-Decided-clause-progress c = rw c.in-Decided.is at c.in_ok-turn.ensures
 
-pub returns-in-Found : goal.returns-in-Found
-returns-in-Found c = rw c.in-Found.is at c.in_ok-turn.ensures
+pub returns-in-Found-clause-progress : goal.returns-in-Found-clause-progress
+returns-in-Found-clause-progress c = rw c.in-Found.is at c.in_ok-turn.ensures
 
-pub returns-in-Clash : goal.returns-in-Clash
-returns-in-Clash c = progress_after c.args.clauses.now c.args.assumed.now _ _ _ c.resolve.result (rw c.in-Clash.is at c.in_ok-turn.ensures) c.resolve.ensures
+pub returns-in-Clash-clause-progress : goal.returns-in-Clash-clause-progress
+returns-in-Clash-clause-progress c =
+    progress_after c.args.clauses.now c.args.assumed.now _ _ _ c.resolve.result (rw c.in-Clash.is at c.in_ok-turn.ensures) c.resolve.ensures.progress

@@ -6,8 +6,8 @@ use Rattle.sat_cdcl.proofs.held.Clauses.add.Goals as goal
 
 pub invariant_of-self-in_err-push : goal.invariant_of-self-in_err-push
 invariant_of-self-in_err-push c =
-    subst (λ given. IsHeld c.put.new.self given c.self.inside.learnt.items) (sym c.in_err-push.ensures.items)
-    (held_kept c.self.inside.pool c.put.new.self c.self.inside.given.items c.self.inside.learnt.items c.put.ensures.kept c.self.invariant)
+    subst (λ given. IsHeld c.put.new.self given c.self.inside.learnt) (sym c.in_err-push.ensures.items)
+    (held_kept c.self.inside.pool c.put.new.self c.self.inside.given.items c.self.inside.learnt c.put.ensures.kept c.self.invariant)
 
 pub returns-in_err-push-clause-err : goal.returns-in_err-push-clause-err
 returns-in_err-push-clause-err c =
@@ -18,8 +18,8 @@ returns-in_err-push-clause-err c =
 
 pub invariant_of-self-2 : goal.invariant_of-self-2
 invariant_of-self-2 c =
-    subst (λ given. IsHeld c.put.new.self given c.self.inside.learnt.items) (sym c.in_ok-push.ensures.items)
-    (held_given c.self.inside.pool c.put.new.self c.self.inside.given.items c.self.inside.learnt.items c.in_ok-r.r c.args.clause.now
+    subst (λ given. IsHeld c.put.new.self given c.self.inside.learnt) (sym c.in_ok-push.ensures.items)
+    (held_given c.self.inside.pool c.put.new.self c.self.inside.given.items c.self.inside.learnt c.in_ok-r.r c.args.clause.now
     c.put.ensures.kept c.in_ok-r.ensures.read c.self.invariant)
 
 pub returns-clause-ok : goal.returns-clause-ok

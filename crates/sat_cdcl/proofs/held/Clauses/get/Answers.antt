@@ -2,7 +2,7 @@
 use Rattle.std.proofs.Common.{ap, ◌∙◌}
 use Rattle.sat_base.specs.Logic.{all_true}
 use Rattle.sat_cdcl.specs.Held.{clauses_of}
-use Rattle.sat_cdcl.proofs.HeldLemmas.{entailed_at}
+use Rattle.sat_cdcl.proofs.HeldLemmas.{entailed_at, entailed_by}
 use Rattle.sat_cdcl.proofs.held.Clauses.get.Goals as goal
 
 pub returns-in-Given : goal.returns-in-Given
@@ -13,8 +13,5 @@ returns-in-Given c =
 
 pub returns-in-Learnt : goal.returns-in-Learnt
 returns-in-Learnt c =
-    entailed_at (λ b. b.now) c.args.self.now _ c.in-Learnt.i _ _
-    (λ f all.
-    ap (λ refs. all_true f (clauses_of c.self.inside.pool refs)) c.as_slice-in-Learnt.ensures.value
-    ∙ c.self.invariant.entailed f (ap (all_true f) c.self.view_is ∙ all))
-    c.clause_at-in-Learnt.ensures
+    entailed_by (λ b. b.now) c.args.self.now c.self.inside.learnt c.in-Learnt.i c.get.result
+    (λ f all. c.self.invariant.entailed f (ap (all_true f) c.self.view_is ∙ all) c.in-Learnt.i) c.get.ensures

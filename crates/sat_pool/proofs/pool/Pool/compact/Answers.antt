@@ -3,7 +3,7 @@ use Rattle.std.proofs.Common.{length, slice_index, subst, sym, ap, ◌∙◌, ar
 use Rattle.sat_pool.specs.Region.{reads, live, IsTable}
 use Rattle.sat_pool.specs.Layout.{flat, blocks}
 use Rattle.sat_pool.proofs.Blocks.{whole_of, view_of, length_of}
-use Rattle.sat_pool.proofs.Compaction.{reads-moved}
+use Rattle.sat_pool.proofs.Compaction.{reads-moved, moved-apart}
 use Rattle.sat_pool.proofs.pool.Pool.compact.Goals as goal
 
 pub copy_live-requires-clause-room : goal.copy_live-requires-clause-room
@@ -38,3 +38,9 @@ returns-clause-read c q clause h =
       found.0,
       ap (λ bs. reads bs (slice_index places q)) is ∙ ap (reads (live c.args.self.now)) (table.place q clause h) ∙ found.1,
     )
+
+pub returns-clause-apart : goal.returns-clause-apart
+returns-clause-apart c q r one other h k e =
+    let places = c.copy_live.new.places.items in
+    let table : IsTable c.args.self.now places = subst (λ bs. IsTable bs places) (ap blocks c.as_slice.ensures.value ∙ c.self.view_is) c.copy_live.ensures.noted in
+    moved-apart c.args.self.now q r one other h k (sym (table.place q one h) ∙ e ∙ table.place r other k)

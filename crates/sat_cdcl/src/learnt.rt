@@ -1,0 +1,163 @@
+// The clauses that were learnt. They lie in a region of their own, which is compacted when some of
+// them are deleted. A clause keeps its number for good, and no number is used twice, so what names a
+// deleted clause finds nothing.
+
+ghost use Rattle.std.specs.Prelude.{◌≡◌, ◌≢◌, ◌<◌, ◌++◌, ◌∷◌, [], ℕ, Some, length, slice_get, IfOk, IfSome, IfNone, OnErr};
+ghost use Rattle.sat_pool.specs.Region.{size, IsReserved};
+ghost use Rattle.sat_cdcl.specs.Learned.{entries, IsTable, Thins, moved_at};
+
+use sat_base::{Lit, OutOfMemory};
+use sat_pool::{Moves, Pool, Ref};
+use std::alloc::Global;
+use std::marker::Model;
+
+/// The learnt clauses. Contracts see the clause of each number, `None` where it was deleted.
+#[derive(Debug, Drop)]
+pub struct Learnt {
+    pool: Pool,
+    table: Vec<Option<Ref>>,
+}
+
+impl Model for Learnt {
+    ghost use Rattle.std.specs.Prelude.{List, Option};
+    ghost use Rattle.sat_base.specs.declared.literal.Lit.{Lit};
+    ghost use Rattle.sat_cdcl.specs.Learned.{entries, IsTable};
+
+    ghost Value = { List (Option (List Lit)) };
+
+    ghost view = { λ l. entries l.pool l.table.items };
+
+    ghost invariant = { λ l. IsTable l.pool l.table.items };
+}
+
+/// The reference of a number, if its clause was not deleted.
+fn ref_at(table: &[Option<Ref>], i: usize) -> Option<Ref>
+    ensures found { IfSome result (λ r. slice_get table.now i ≡ Some (Some r)) }
+    ensures none { IfNone result ((r : Ref) → slice_get table.now i ≡ Some (Some r) → ⊥) }
+{
+    match table.get(i).copied() {
+        None => None,
+        Some(entry) => entry,
+    }
+}
+
+/// Deletes the clause of a number, if it is there.
+fn forget_one(pool: &mut Pool, table: &mut Vec<Option<Ref>>, i: usize)
+    requires { IsTable pool.old table.old.items }
+    ensures table { IsTable pool.new table.new.items }
+    ensures thins { Thins (entries pool.old table.old.items) (entries pool.new table.new.items) }
+    ensures size { size pool.new ≡ size pool.old }
+{
+    if let Some(r) = ref_at(table.as_slice(), i) {
+        pool.drop_clause(r);
+        table[i] = None;
+    }
+}
+
+/// Deletes the clauses that are marked.
+fn forget_marked(pool: &mut Pool, table: &mut Vec<Option<Ref>>, marked: &[bool])
+    requires { IsTable pool.old table.old.items }
+    ensures table { IsTable pool.new table.new.items }
+    ensures thins { Thins (entries pool.old table.old.items) (entries pool.new table.new.items) }
+    ensures size { size pool.new ≡ size pool.old }
+{
+    for i in 0..marked.len() {
+        if marked[i] {
+            forget_one(pool, table, i);
+        }
+    }
+}
+
+/// Gives the reference of a number its new place.
+fn follow_one(table: &mut Vec<Option<Ref>>, moves: &Moves, i: usize)
+    requires { (r : Ref) → slice_get table.old.items i ≡ Some (Some r) → r.at < length moves.now.places }
+    ensures moved { slice_get table.new.items i ≡ moved_at moves.now.places (slice_get table.old.items i) }
+    ensures others { (j : ℕ) → j ≢ i → slice_get table.new.items j ≡ slice_get table.old.items j }
+    ensures len { length table.new.items ≡ length table.old.items }
+{
+    if let Some(r) = ref_at(table.as_slice(), i) {
+        table[i] = Some(moves.place(r));
+    }
+}
+
+/// Gives each reference its new place.
+fn follow(table: &mut Vec<Option<Ref>>, moves: &Moves)
+    requires { (i : ℕ) (r : Ref) → slice_get table.old.items i ≡ Some (Some r) → r.at < length moves.now.places }
+    ensures { (j : ℕ) → slice_get table.new.items j ≡ moved_at moves.now.places (slice_get table.old.items j) }
+{
+    for i in 0..table.len() {
+        follow_one(table, moves, i);
+    }
+}
+
+/// Lays the clauses out anew.
+fn lay_out(pool: &mut Pool, table: &mut Vec<Option<Ref>>, moves: &mut Moves)
+    requires table { IsTable pool.old table.old.items }
+    requires room { IsReserved moves.old (size pool.old) }
+    ensures table { IsTable pool.new table.new.items }
+    ensures thins { Thins (entries pool.old table.old.items) (entries pool.new table.new.items) }
+{
+    pool.compact(moves);
+    follow(table, moves);
+}
+
+/// Deletes the clauses that are marked, and lays out those that are left where there is room for it.
+fn thin(pool: &mut Pool, table: &mut Vec<Option<Ref>>, marked: &[bool])
+    requires { IsTable pool.old table.old.items }
+    ensures table { IsTable pool.new table.new.items }
+    ensures thins { Thins (entries pool.old table.old.items) (entries pool.new table.new.items) }
+{
+    match pool.reserve_compact() {
+        Err(_) => forget_marked(pool, table, marked),
+        Ok(mut moves) => {
+            forget_marked(pool, table, marked);
+            lay_out(pool, table, &mut moves);
+        }
+    }
+}
+
+impl Learnt {
+    /// No clause. It takes no memory.
+    pub fn new(alloc: Global) -> Learnt
+        ensures { result ≡ [] }
+    {
+        Learnt {
+            pool: Pool::new(alloc),
+            table: Vec::new(alloc),
+        }
+    }
+
+    /// How many numbers were given.
+    pub fn count(&self) -> usize {
+        self.table.len()
+    }
+
+    /// The clause of a number, if it was not deleted.
+    pub fn get(&self, i: usize) -> Option<&[Lit]>
+        ensures { IfSome result (λ c. slice_get self.now i ≡ Some (Some c.now)) }
+    {
+        match ref_at(self.table.as_slice(), i) {
+            None => None,
+            Some(r) => Some(self.pool.get(r)),
+        }
+    }
+
+    /// Adds a clause, and gives its number.
+    pub fn push(&mut self, clause: &[Lit]) -> Result<usize, OutOfMemory>
+        ensures ok { IfOk result (λ _. self.new ≡ self.old ++ Some clause.now ∷ []) }
+        ensures err { OnErr result (self.new ≡ self.old) }
+    {
+        let number = self.table.len();
+        let r = self.pool.put(clause)?;
+        self.table.push(Some(r))?;
+        Ok(number)
+    }
+
+    /// Deletes the clauses that are marked, and lays those that are left out anew, if there is memory
+    /// for it.
+    pub fn forget(&mut self, marked: &[bool])
+        ensures { Thins self.old self.new }
+    {
+        thin(&mut self.pool, &mut self.table, marked);
+    }
+}

@@ -1,0 +1,94 @@
+// Deletion of learnt clauses. From time to time the less active half of them goes, except those of
+// two literals and those that implied a literal on the trail. Nothing rests on which clauses are
+// deleted.
+
+ghost use Rattle.std.specs.Prelude.{◌≡◌, length};
+
+use crate::activity::Activity;
+use crate::held::{ClauseId, Clauses};
+use crate::trail::Trail;
+use sat_base::{Lit, OutOfMemory};
+use std::alloc::Global;
+
+/// Whether a clause implied one of its literals.
+fn is_reason(trail: &Trail, clause: &[Lit], id: ClauseId) -> bool {
+    clause.iter().any(|lit| trail.reason(lit.var) == Some(id))
+}
+
+/// Whether the learnt clause of a number may be deleted.
+fn is_candidate(trail: &Trail, clauses: &Clauses, number: usize) -> bool {
+    let id = ClauseId::Learnt(number);
+    match clauses.get(id) {
+        None => false,
+        Some(clause) => clause.len() > 2 && !is_reason(trail, clause, id),
+    }
+}
+
+/// The less active half of the clauses that may be deleted: those of a score up to the highest, so
+/// many at most.
+#[derive(Debug, Drop)]
+struct Half {
+    highest: u64,
+    count: usize,
+}
+
+fn find_half(
+    alloc: Global,
+    trail: &Trail,
+    clauses: &Clauses,
+    activity: &Activity,
+) -> Result<Half, OutOfMemory> {
+    let mut scores = Vec::new(alloc);
+    for number in 0..clauses.learnt_count() {
+        if is_candidate(trail, clauses, number) {
+            scores.push(activity.use_of(number))?;
+        }
+    }
+    scores.sort_unstable();
+    let count = scores.len() / 2;
+    Ok(Half {
+        highest: scores.get(count).copied().unwrap_or(0),
+        count,
+    })
+}
+
+/// Marks the clauses of this half, and counts in it those that are left.
+fn mark_half(
+    alloc: Global,
+    trail: &Trail,
+    clauses: &Clauses,
+    activity: &Activity,
+    half: &mut Half,
+) -> Result<Vec<bool>, OutOfMemory> {
+    let mut marked = Vec::new(alloc);
+    for number in 0..clauses.learnt_count() {
+        let is_idle = half.count > 0
+            && activity.use_of(number) <= half.highest
+            && is_candidate(trail, clauses, number);
+        if is_idle {
+            half.count -= 1;
+        }
+        marked.push(is_idle)?;
+    }
+    Ok(marked)
+}
+
+/// Deletes learnt clauses, if there are enough of them.
+pub fn reduce(
+    alloc: Global,
+    trail: &Trail,
+    clauses: &mut Clauses,
+    activity: &mut Activity,
+) -> Result<(), OutOfMemory>
+    ensures { clauses.new ≡ clauses.old }
+{
+    if !activity.is_full() {
+        return Ok(());
+    }
+    let mut half = find_half(alloc, trail, clauses, activity)?;
+    let wanted = half.count;
+    let marked = mark_half(alloc, trail, clauses, activity, &mut half)?;
+    clauses.forget(marked.as_slice());
+    activity.was_reduced(wanted.saturating_sub(half.count));
+    Ok(())
+}
