@@ -76,7 +76,8 @@ fn follow_one(table: &mut Vec<Option<Ref>>, moves: &Moves, i: usize)
     ensures len { length table.new.items ≡ length table.old.items }
 {
     if let Some(r) = ref_at(table.as_slice(), i) {
-        table[i] = Some(moves.place(r));
+        let moved = moves.place(r);
+        table[i] = Some(moved);
     }
 }
 

@@ -1,7 +1,7 @@
 // Questions whose answers are known, several on one solver; and questions that the splitting solver
 // answers too.
 
-ghost use Rattle.std.specs.Prelude.{◌≡◌, ◌+◌, ◌↔◌, IsTrue, OnOk};
+ghost use Rattle.std.specs.Prelude.{◌≡◌, ◌<◌, ◌+◌, ◌↔◌, IsTrue, OnOk};
 ghost use Rattle.sat_base.specs.Logic.{LitsBelow};
 
 use crate::Cdcl;
@@ -56,6 +56,30 @@ fn ask<S: Solver>(rt: &impl Abort, solver: &mut S, assumed: Lit) -> Result<Answe
     let assumed = [assumed];
     assert!(rt; all_below(&assumed, 4));
     solver.solve(&assumed)
+}
+
+/// The value of a variable in the model, if there is one.
+fn value_of<S: Solver>(solver: &mut S, var: usize) -> Result<Option<bool>, OutOfMemory>
+    requires { var < S.vars solver.old }
+    ensures { S.vars solver.new ≡ S.vars solver.old }
+{
+    match solver.solve(&[])? {
+        Answer::Model => Ok(Some(solver.model(var))),
+        Answer::NoModel => Ok(None),
+    }
+}
+
+#[test]
+fn a_unit_and_an_assumption(rt: HostRuntime) -> Result<(), Fail> {
+    let mut solver = Cdcl::new(rt.alloc());
+    four_variables(&mut solver)?;
+    add_pair(&rt, &mut solver, positive(0), positive(1))?;
+    add_pair(&rt, &mut solver, negative(0), negative(0))?;
+    let value = value_of(&mut solver, 1)?;
+    assert_eq!(rt; value, Some(true));
+    let answer = ask(&rt, &mut solver, negative(1))?;
+    assert_eq!(rt; answer, Answer::NoModel);
+    Ok(())
 }
 
 #[test]
