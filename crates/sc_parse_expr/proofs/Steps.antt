@@ -1,7 +1,12 @@
 -- Loops that count turns up, beside readings that count them down.
-use Rattle.std.proofs.Common.{◌≡◌, ℕ, zero, suc, ◌+◌, ◌-◌, ◌<◌, ◌≤◌, max, Bool, true, false, List, [], ◌∷◌, ◌++◌, Option, Some, None, Result, Ok, Err, is_some, IsErrAnd, if◌then◌else◌, refl, sym, ap, subst, ◌∙◌, arith}
+use Rattle.std.proofs.Common.{◌≡◌, ℕ, zero, suc, ◌+◌, ◌-◌, ◌<◌, ◌≤◌, max, Bool, true, false, ◌&&◌, List, [], ◌∷◌, ◌++◌, Option, Some, None, Result, Ok, Err, is_some, IsErrAnd, if◌then◌else◌, refl, sym, ap, subst, ◌∙◌, append_assoc, arith}
+use Rattle.std.specs.Ordering.{ord_max}
+use Rattle.std.proofs.Common.{nat_cmp, rules}
+use Rattle.std.proofs.lemmas.Grind.{common_steps}
 use Rattle.sc_tree.specs.declared.token.Token.{Token}
 use Rattle.sc_tree.specs.declared.token.Punct.{Punct}
+use Rattle.sc_tree.specs.declared.token.StrToken.{StrToken}
+use Rattle.std.proofs.lemmas.List.{append-nil}
 use Rattle.sc_tree.specs.declared.op.BinaryOp.{BinaryOp}
 use Rattle.sc_base.specs.declared.pos.Pos.{Pos}
 use Rattle.sc_base.specs.declared.pos.NameId.{NameId}
@@ -11,9 +16,9 @@ use Rattle.sc_parse_expr.specs.declared.found.Wanted.{Wanted}
 use Rattle.sc_parse_expr.specs.declared.found.Phrase.{Phrase}
 use Rattle.sc_parse_expr.specs.declared.found.Found.{Found}
 use Rattle.sc_parse_expr.specs.declared.found.Operand.{Operand}
-use Rattle.sc_parse_expr.specs.Front.{front, behind, is_comma, binary_at, Suffix, Indexing, Calling, Fielding, Stepping, NoSuffix, suffix}
+use Rattle.sc_parse_expr.specs.Front.{front, front_string, behind, is_comma, binary_at, Suffix, Indexing, Calling, Fielding, Stepping, NoSuffix, suffix}
 use Rattle.sc_parse_expr.specs.Read.{Read, read, Parse, Listed, listing, listed, commas, many}
-use Rattle.sc_parse_expr.specs.Reading.{combined, chained, chain, suffixed, suffixes, sequenced, sequencing, sequence, operators, derived, derive, Start, start, starts, piece_by, gathering, gather}
+use Rattle.sc_parse_expr.specs.Reading.{combined, chained, chain, suffixed, suffixes, sequenced, sequencing, sequence, operators, derived, derive, Start, start, starts, piece_by, gathering, gather, joined, passed, strings, past_strings, enrolled, parse, wanted}
 use Rattle.sc_parse_expr.specs.Steps.{one_suffix, is_suffix, one_derived}
 use Rattle.sc_parse_expr.specs.Laws.{is_derived}
 use Rattle.sc_parse_expr.specs.declared.found.Declared.{Declared}
@@ -22,11 +27,21 @@ use Rattle.sc_tree.specs.declared.grammar.Gathered.{Gathered}
 use Rattle.sc_tree.specs.Specifiers.{with_piece}
 use Rattle.sc_parse_expr.specs.declared.stop.Stop.{Stop}
 use Rattle.sc_parse_expr.specs.declared.stop.Stop.TheVariants.{Memory, Not}
-use Rattle.sc_parse_expr.specs.Gives.{Gives}
+use Rattle.sc_parse_expr.specs.declared.start.Start as begun
+use Rattle.sc_parse_expr.specs.declared.start.Start.TheVariants as begin
+use Rattle.sc_parse_expr.specs.Starts.{start_of}
+use Rattle.sc_parse_expr.specs.Gives.{Gives, GivesAs, Makes}
+use Rattle.sc_parse_expr.specs.Nests.{below}
+use Rattle.sc_tree.specs.declared.expr.Head.{Head}
+use Rattle.sc_parse_expr.specs.declared.found.Headed.{Headed}
 
 -- the items of a list alone
 abbrev pub items_of : {B : Type 0} → Read (Listed B) → Option (Read B)
 items_of r = Some (read r.it.items r.height r.rest)
+
+-- the greater of two numbers
+pub ord_max_nat : (a b : ℕ) → ord_max nat_cmp a b ≡ max a b
+ord_max_nat a b = first_of (search rules, grind (arith, common_steps))
 
 -- a reading that goes on as long as the test says, by one step each time, and for at most so many turns
 pub record Loops {X : Type 0} (loop : ℕ → X → Option X) (more : X → Bool) (step : X → Option X) : Type 0 where
@@ -209,7 +224,7 @@ module _ (types : List NameId) (limit : ℕ) (inner : Wanted → Parse Phrase) w
 
   -- pieces of specifiers
   abbrev pub more_pieces : Read Gathered → Bool
-  more_pieces x = starts (start types x.it.so_far x.rest)
+  more_pieces x = starts types limit inner (start types x.it.so_far x.rest)
 
   abbrev pub joined_piece : Read Gathered → Read Piece → Option (Read Gathered)
   joined_piece x p = with_piece x.it p.it >>= λ more. Some (read more (max x.height p.height) p.rest)
@@ -227,12 +242,12 @@ module _ (types : List NameId) (limit : ℕ) (inner : Wanted → Parse Phrase) w
   piece_joins go g h (Some x) = joins go (with_piece g x.it) (max h x.height) x.rest
   piece_joins go g h None = refl
 
-  gathering_goes : (go : Gathered → ℕ → Parse Gathered) (s : Start) (g : Gathered) (h : ℕ) (ts : List Token) → starts s ≡ true
+  gathering_goes : (go : Gathered → ℕ → Parse Gathered) (s : Start) (g : Gathered) (h : ℕ) (ts : List Token) → starts types limit inner s ≡ true
       → gathering types limit inner go s g h ts ≡ (piece_by types limit inner s ts >>= λ x. with_piece g x.it >>= λ more. go more (max h x.height) x.rest)
   unfolding gathering
   gathering_goes go s g h ts so = ap (λ b. if b then (piece_by types limit inner s ts >>= λ x. with_piece g x.it >>= λ more. go more (max h x.height) x.rest) else Some (read g h ts)) so
 
-  gathering_stops : (go : Gathered → ℕ → Parse Gathered) (s : Start) (g : Gathered) (h : ℕ) (ts : List Token) → starts s ≡ false
+  gathering_stops : (go : Gathered → ℕ → Parse Gathered) (s : Start) (g : Gathered) (h : ℕ) (ts : List Token) → starts types limit inner s ≡ false
       → gathering types limit inner go s g h ts ≡ Some (read g h ts)
   unfolding gathering
   gathering_stops go s g h ts not_so = ap (λ b. if b then (piece_by types limit inner s ts >>= λ x. with_piece g x.it >>= λ more. go more (max h x.height) x.rest) else Some (read g h ts)) not_so
@@ -393,3 +408,95 @@ operator_some r l p op is some = let e : suc l ≡ l + 1 = omega arith in ap (λ
 
 pub operator_there : (r : Option BinaryOp) (l : ℕ) (p : Option Punct) (b : Bool) → r ≡ binary_at (l + 1) p → is_some r ≡ b → is_some (binary_at (suc l) p) ≡ b
 operator_there r l p b is there = let e : suc l ≡ l + 1 = omega arith in ap (λ n. is_some (binary_at n p)) e ∙ ap is_some (sym is) ∙ there
+
+-- ---- string literals
+
+pub strings_step : (ts : List Token) (x : StrToken) → front_string ts ≡ Some x → strings ts ≡ x ∷ strings (behind ts)
+unfolding strings
+strings_step [] x is = (cc)
+strings_step (t ∷ ts) x is = ap (λ o. joined o (strings ts)) is
+
+pub past_strings_step : (ts : List Token) (x : StrToken) → front_string ts ≡ Some x → past_strings ts ≡ past_strings (behind ts)
+unfolding past_strings
+past_strings_step [] x is = (cc)
+past_strings_step (t ∷ ts) x is = ap (λ o. passed o (past_strings ts) (t ∷ ts)) is
+
+pub strings_end : (ts : List Token) → front_string ts ≡ None → strings ts ≡ []
+unfolding strings
+strings_end [] is = refl
+strings_end (t ∷ ts) is = ap (λ o. joined o (strings ts)) is
+
+pub past_strings_end : (ts : List Token) → front_string ts ≡ None → past_strings ts ≡ ts
+unfolding past_strings
+past_strings_end [] is = refl
+past_strings_end (t ∷ ts) is = ap (λ o. passed o (past_strings ts) (t ∷ ts)) is
+
+-- one more of the strings is seen
+pub strings_more : (all new whole : List StrToken) (ts us : List Token) (x : StrToken) → all ++ strings ts ≡ whole → front_string ts ≡ Some x → new ≡ all ++ x ∷ [] → us ≡ behind ts → new ++ strings us ≡ whole
+strings_more all new whole ts us x so is more rest =
+    ap (λ vs. new ++ strings vs) rest ∙ ap (λ l. l ++ strings (behind ts)) more ∙ append_assoc all (x ∷ []) (strings (behind ts)) ∙ sym (ap (λ l. all ++ l) (strings_step ts x is)) ∙ so
+
+pub past_strings_more : (ts us : List Token) (x : StrToken) (whole : List Token) → past_strings ts ≡ whole → front_string ts ≡ Some x → us ≡ behind ts → past_strings us ≡ whole
+past_strings_more ts us x whole so is rest = ap past_strings rest ∙ sym (past_strings_step ts x is) ∙ so
+
+pub strings_all : (all whole : List StrToken) (ts : List Token) → all ++ strings ts ≡ whole → front_string ts ≡ None → all ≡ whole
+strings_all all whole ts so is = sym (ap (λ l. all ++ l) (strings_end ts is) ∙ append-nil all) ∙ so
+
+-- ---- what begins a piece
+
+pub starts_as : (types : List NameId) (limit : ℕ) (inner : Wanted → Parse Phrase) (r : Option begun.Start) (s : Start) (b : Bool) → start_of r ≡ s → is_some r ≡ b → starts types limit inner s ≡ b
+starts_as types limit inner r s b is some = ap (starts types limit inner) (sym is) ∙ started r ∙ some
+  where
+    started : (q : Option begun.Start) → starts types limit inner (start_of q) ≡ is_some q
+    started (Some (begin.Storage x)) = refl
+    started (Some (begin.Word x)) = refl
+    started (Some (begin.Record x)) = refl
+    started (Some begin.Enum) = refl
+    started (Some (begin.Name x)) = refl
+    started None = refl
+
+-- a refusal to make something is passed on where it refuses the whole
+pub made_passed_on : {A B : Type 0} {o : Option A} {p : Option (Read B)} (r : Result (Found B) Stop) (more : List Token) (e : Stop)
+    → Makes o (Err e) → IsErrAnd r (λ f. f ≡ e) → (o ≡ None → p ≡ None) → Gives p r more
+made_passed_on (Ok x) more e given is refused = absurd is
+made_passed_on {p = p} (Err f) more Not given is refused = subst (λ x. Gives p (Err x) more) (sym is) (refused given)
+made_passed_on {p = p} (Err f) more Memory given is refused = subst (λ x. Gives p (Err x) more) (sym is) tt
+
+-- ---- levels
+
+module _ (types : List NameId) (limit : ℕ) (inner : Wanted → Parse Phrase) (ts : List Token) (begin : Pos) (begins : begin ≡ first_pos ts) where
+  pub operators_next : (k : ℕ) (a b : Read Operand) → operators types limit inner k ts ≡ Some a → chain types limit inner limit k begin a ≡ Some b → operators types limit inner (k + 1) ts ≡ Some b
+  unfolding operators
+  operators_next k a b is more =
+      let next : k + 1 ≡ suc k = omega arith in
+      ap (λ n. operators types limit inner n ts) next ∙ ap (λ o. o >>= chain types limit inner limit k (first_pos ts)) is ∙ ap (λ q. chain types limit inner limit k q a) (sym begins) ∙ more
+
+  pub operators_refused : (k level : ℕ) (a : Read Operand) → k < level → operators types limit inner k ts ≡ Some a → chain types limit inner limit k begin a ≡ None → operators types limit inner level ts ≡ None
+  unfolding operators
+  operators_refused k level a below is none =
+      let rest : level ≡ (level - (k + 1)) + suc k = omega arith in
+      operators_none types limit inner (suc k) (level - (k + 1)) level ts rest
+          (ap (λ o. o >>= chain types limit inner limit k (first_pos ts)) is ∙ ap (λ q. chain types limit inner limit k q a) (sym begins) ∙ none)
+
+-- as `passed_on`, where the call gives what is read in a form of its own
+pub passed_on_as : {A B C : Type 0} {o : Option (Read A)} {p : Option (Read C)} (seen : B → C) (r : Result (Found B) Stop) (left more : List Token) (e : Stop)
+    → Gives o (Err e) left → IsErrAnd r (λ f. f ≡ e) → (o ≡ None → p ≡ None) → GivesAs seen p r more
+passed_on_as seen (Ok x) left more e given is refused = absurd is
+passed_on_as {p = p} seen (Err f) left more Not given is refused = subst (λ x. GivesAs seen p (Err x) more) (sym is) (refused given)
+passed_on_as {p = p} seen (Err f) left more Memory given is refused = subst (λ x. GivesAs seen p (Err x) more) (sym is) tt
+
+-- the parameters with one more
+pub roll_more : (heads new : List Head) (named all : Bool) (x : Headed) → new ≡ heads ++ x.head ∷ [] → all ≡ (named && x.named)
+    → record { heads = new; named = all } ≡ enrolled (record { heads = heads; named = named }) x
+roll_more heads new named all x more both = ap (λ l. record { heads = l; named = all }) more ∙ ap (λ b. record { heads = heads ++ x.head ∷ []; named = b }) both
+
+-- ---- the knot
+
+pub parse_by : (types : List NameId) (limit : ℕ) (w : Wanted) (ts : List Token) → 0 < limit → parse types limit w ts ≡ wanted types limit (below types limit) w ts
+unfolding parse
+parse_by types zero w ts some = absurd (omega arith)
+parse_by types (suc n) w ts some = let less : n ≡ suc n - 1 = omega arith in ap (λ m. wanted types (suc n) (λ v us. parse types m v us) w ts) less
+
+pub parse_zero : (types : List NameId) (limit : ℕ) (w : Wanted) (ts : List Token) → limit ≡ 0 → parse types limit w ts ≡ None
+unfolding parse
+parse_zero types limit w ts none = ap (λ n. parse types n w ts) none

@@ -1,6 +1,7 @@
 // Choices, assignments and commas (C11 6.5.15 to 6.5.17), and all levels together.
 
 ghost use Rattle.std.specs.Prelude.{◌≡◌};
+ghost use Rattle.sc_parse_expr.specs.Front.{front, assign_at};
 ghost use Rattle.sc_parse_expr.specs.Gives.{Gives};
 ghost use Rattle.sc_parse_expr.specs.Nests.{Nests, below};
 ghost use Rattle.sc_parse_expr.specs.Read.{read};

@@ -13,6 +13,7 @@ ghost use Rattle.sc_parse_expr.specs.Reading as spec;
 use crate::cursor::Cursor;
 use crate::found::{Declared, Found, Phrase, Wanted};
 use crate::grammar::{Grammar, node};
+use crate::parameters::Params;
 use crate::stop::Stop;
 use crate::type_names::TypeNames;
 use sc_base::{Boxed, NameId};
@@ -141,13 +142,11 @@ impl<'t, F: Fn(Global, &TypeNames, &mut Cursor<'_>, usize, Wanted) -> Result<Fou
         tokens.advance();
         let found = self.parameters(tokens)?;
         tokens.pass_right_paren()?;
-        let core = called(found.it.named, inside.it.core);
-        let height = inside.height.max(found.height);
-        self.declared(
-            Declarator::Func(inside.it.declarator, found.it.heads, found.it.dots),
-            core,
-            height,
-        )
+        let Found { it, height: tall } = found;
+        let Params { heads, named, dots } = it;
+        let core = called(named, inside.it.core);
+        let height = inside.height.max(tall);
+        self.declared(Declarator::Func(inside.it.declarator, heads, dots), core, height)
     }
 
     /// A declarator with the first of the arrays and parameters behind it.

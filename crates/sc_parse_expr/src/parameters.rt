@@ -1,13 +1,13 @@
 // The parameters of a function (C11 6.7.6.3).
 
-ghost use Rattle.std.specs.Prelude.{◌≡◌};
+ghost use Rattle.std.specs.Prelude.{◌≡◌, ◌&&◌};
 ghost use Rattle.sc_parse_expr.specs.Gives.{GivesAs};
 ghost use Rattle.sc_parse_expr.specs.Nests.{Nests, below};
 ghost use Rattle.sc_parse_expr.specs.Reading as spec;
 ghost use Rattle.sc_parse_expr.specs.Steps.{params_of, some_heads};
 
 use crate::cursor::Cursor;
-use crate::found::{Found, Phrase, Wanted};
+use crate::found::{Found, Headed, Phrase, Wanted};
 use crate::grammar::Grammar;
 use crate::stop::Stop;
 use crate::type_names::TypeNames;
@@ -25,6 +25,12 @@ pub struct Params {
     pub dots: bool,
 }
 
+fn both(all: bool, this: bool) -> bool
+    ensures { result ≡ (all && this) }
+{
+    all && this
+}
+
 impl<'t, F: Fn(Global, &TypeNames, &mut Cursor<'_>, usize, Wanted) -> Result<Found<Phrase>, Stop>>
     Grammar<'t, F>
 {
@@ -38,9 +44,14 @@ impl<'t, F: Fn(Global, &TypeNames, &mut Cursor<'_>, usize, Wanted) -> Result<Fou
         let mut height = 0;
         for _turn in 0..tokens.len() {
             let found = self.inner_head(tokens, Naming::Optional)?;
-            all.push(found.it.head.into_inner())?;
-            named = named && found.it.named;
-            height = height.max(found.height);
+            let Found { it, height: tall } = found;
+            let Headed {
+                head,
+                named: has_name,
+            } = it;
+            all.push(head.into_inner())?;
+            named = both(named, has_name);
+            height = height.max(tall);
             if !tokens.is_comma() {
                 let it = Params {
                     heads: Some(all),
