@@ -4,7 +4,7 @@ use Rattle.sc_parse_expr.proofs.Steps.{parse_by, parse_zero}
 use Rattle.sc_parse_expr.proofs.parse.+parse.Goals as goal
 
 pub returns-then-limit-eq0 : goal.returns-then-limit-eq0
-returns-then-limit-eq0 t c _ = let none : c.args.limit ≡ 0 = omega arith in parse_zero c.args.types.now c.args.limit c.args.wanted c.args.tokens.now none
+returns-then-limit-eq0 t c = let none : c.args.limit ≡ 0 = omega arith in parse_zero c.args.types.now c.args.limit c.args.wanted c.args.tokens.now none
 
 pub returns : goal.returns
 returns t c =
