@@ -7,3 +7,10 @@ pub mod SoundExpr
 pub mod SoundSpecs
 pub mod SoundDeclarator
 pub mod SoundReading
+pub mod Begins
+pub mod Inner
+pub mod CompleteExpr
+pub mod CompleteSpecs
+pub mod CompleteDeclarator
+pub mod Completeness
+pub mod Whole

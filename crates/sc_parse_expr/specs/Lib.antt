@@ -7,3 +7,4 @@ pub mod Nests
 pub mod TypeNames
 pub mod Steps
 pub mod Starts
+pub mod Spans

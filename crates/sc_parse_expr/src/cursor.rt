@@ -3,6 +3,7 @@
 ghost use Rattle.std.specs.Prelude.{◌≡◌, [], ◌∷◌, length, MatchOption};
 ghost use Rattle.sc_tree.specs.Tokens.{first_pos};
 ghost use Rattle.sc_parse_expr.specs.Front as spec;
+ghost use Rattle.sc_parse_expr.specs.Spans.{is_empty};
 
 use sc_base::{NameId, Pos};
 use sc_tree::{Kind, Punct, Reserved, StrToken, Token};
@@ -36,6 +37,13 @@ impl<'a> Cursor<'a> {
         ensures { result ≡ length self.now }
     {
         self.left.len()
+    }
+
+    /// Whether no token is left.
+    pub fn is_empty(&self) -> bool
+        ensures { result ≡ is_empty self.now }
+    {
+        matches!(self.left, [])
     }
 
     /// The first token, and goes behind it.
