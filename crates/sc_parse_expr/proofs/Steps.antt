@@ -476,7 +476,7 @@ module _ (types : List NameId) (limit : ℕ) (inner : Wanted → Parse Phrase) (
   operators_refused k level a below is none =
       let rest : level ≡ (level - (k + 1)) + suc k = omega arith in
       operators_none types limit inner (suc k) (level - (k + 1)) level ts rest
-          (ap (λ o. o >>= chain types limit inner limit k (first_pos ts)) is ∙ ap (λ q. chain types limit inner limit k q a) (sym begins) ∙ none)
+      (ap (λ o. o >>= chain types limit inner limit k (first_pos ts)) is ∙ ap (λ q. chain types limit inner limit k q a) (sym begins) ∙ none)
 
 -- as `passed_on`, where the call gives what is read in a form of its own
 pub passed_on_as : {A B C : Type 0} {o : Option (Read A)} {p : Option (Read C)} (seen : B → C) (r : Result (Found B) Stop) (left more : List Token) (e : Stop)

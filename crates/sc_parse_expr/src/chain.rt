@@ -17,12 +17,20 @@ use sc_tree::grammar::Level;
 use sc_tree::op::BinaryOp;
 use std::alloc::Global;
 
-impl<'t, F: Fn(Global, &TypeNames, &mut Cursor<'_>, usize, Wanted) -> Result<Found<Phrase>, Stop>>
-    Grammar<'t, F>
-{
+impl<
+    't,
+    F: Fn(Global, &TypeNames, &mut Cursor<'_>, usize, Wanted) -> Result<Found<Phrase>, Stop>,
+> Grammar<'t, F> {
     /// An operand with an operator and the operand behind it, which is of the next stronger level.
     #[tactic(auto, unfolding(crate::specs::Reading::combined))]
-    fn combined(&self, tokens: &mut Cursor<'_>, stronger: u8, begin: Pos, op: BinaryOp, a: Found<Operand>) -> Result<Found<Operand>, Stop>
+    fn combined(
+        &self,
+        tokens: &mut Cursor<'_>,
+        stronger: u8,
+        begin: Pos,
+        op: BinaryOp,
+        a: Found<Operand>,
+    ) -> Result<Found<Operand>, Stop>
         requires { Nests self.now.limit (F.pre self.now.inner) (F.post self.now.inner) }
         ensures { Gives (spec.combined self.now.types.now self.now.limit (below self.now.types.now self.now.limit) stronger begin op (read a.it a.height tokens.old)) result tokens.new }
     {
@@ -37,7 +45,13 @@ impl<'t, F: Fn(Global, &TypeNames, &mut Cursor<'_>, usize, Wanted) -> Result<Fou
     }
 
     /// An operand with all operators of the level above that one, and their operands.
-    fn chain(&self, tokens: &mut Cursor<'_>, stronger: u8, begin: Pos, first: Found<Operand>) -> Result<Found<Operand>, Stop>
+    fn chain(
+        &self,
+        tokens: &mut Cursor<'_>,
+        stronger: u8,
+        begin: Pos,
+        first: Found<Operand>,
+    ) -> Result<Found<Operand>, Stop>
         requires nests { Nests self.now.limit (F.pre self.now.inner) (F.post self.now.inner) }
         requires level { stronger < 255 }
         ensures { Gives (spec.chain self.now.types.now self.now.limit (below self.now.types.now self.now.limit) self.now.limit stronger begin (read first.it first.height tokens.old)) result tokens.new }
@@ -55,7 +69,11 @@ impl<'t, F: Fn(Global, &TypeNames, &mut Cursor<'_>, usize, Wanted) -> Result<Fou
         Ok(a)
     }
 
-    pub(crate) fn operators(&self, tokens: &mut Cursor<'_>, level: u8) -> Result<Found<Operand>, Stop>
+    pub(crate) fn operators(
+        &self,
+        tokens: &mut Cursor<'_>,
+        level: u8,
+    ) -> Result<Found<Operand>, Stop>
         requires { Nests self.now.limit (F.pre self.now.inner) (F.post self.now.inner) }
         ensures { Gives (spec.operators self.now.types.now self.now.limit (below self.now.types.now self.now.limit) level tokens.old) result tokens.new }
     {

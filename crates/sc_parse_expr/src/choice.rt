@@ -18,11 +18,17 @@ use sc_tree::grammar::Level;
 use sc_tree::op::AssignOp;
 use std::alloc::Global;
 
-impl<'t, F: Fn(Global, &TypeNames, &mut Cursor<'_>, usize, Wanted) -> Result<Found<Phrase>, Stop>>
-    Grammar<'t, F>
-{
+impl<
+    't,
+    F: Fn(Global, &TypeNames, &mut Cursor<'_>, usize, Wanted) -> Result<Found<Phrase>, Stop>,
+> Grammar<'t, F> {
     #[tactic(auto, unfolding(crate::specs::Reading::chosen))]
-    fn chosen(&self, tokens: &mut Cursor<'_>, begin: Pos, a: Found<Operand>) -> Result<Found<Operand>, Stop>
+    fn chosen(
+        &self,
+        tokens: &mut Cursor<'_>,
+        begin: Pos,
+        a: Found<Operand>,
+    ) -> Result<Found<Operand>, Stop>
         requires { Nests self.now.limit (F.pre self.now.inner) (F.post self.now.inner) }
         ensures { Gives (spec.chosen self.now.types.now self.now.limit (below self.now.types.now self.now.limit) begin (read a.it a.height tokens.old)) result tokens.new }
     {
@@ -35,7 +41,11 @@ impl<'t, F: Fn(Global, &TypeNames, &mut Cursor<'_>, usize, Wanted) -> Result<Fou
         tokens.pass_colon()?;
         let c = self.inner_expr(tokens, Level::Choice)?;
         let height = a.height.max(b.height.max(c.height));
-        self.operand(Expr::Cond(a.it.tree, b.it.tree, c.it.tree, place), false, height)
+        self.operand(
+            Expr::Cond(a.it.tree, b.it.tree, c.it.tree, place),
+            false,
+            height,
+        )
     }
 
     #[tactic(auto, unfolding(crate::specs::Reading::choice, crate::specs::Reading::choosing))]
@@ -53,7 +63,13 @@ impl<'t, F: Fn(Global, &TypeNames, &mut Cursor<'_>, usize, Wanted) -> Result<Fou
     }
 
     #[tactic(auto, unfolding(crate::specs::Reading::assigned))]
-    fn assigned(&self, tokens: &mut Cursor<'_>, begin: Pos, op: AssignOp, a: Found<Operand>) -> Result<Found<Operand>, Stop>
+    fn assigned(
+        &self,
+        tokens: &mut Cursor<'_>,
+        begin: Pos,
+        op: AssignOp,
+        a: Found<Operand>,
+    ) -> Result<Found<Operand>, Stop>
         requires { Nests self.now.limit (F.pre self.now.inner) (F.post self.now.inner) }
         ensures { Gives (spec.assigned self.now.types.now self.now.limit (below self.now.types.now self.now.limit) begin op (read a.it a.height tokens.old)) result tokens.new }
     {
@@ -68,7 +84,12 @@ impl<'t, F: Fn(Global, &TypeNames, &mut Cursor<'_>, usize, Wanted) -> Result<Fou
     }
 
     #[tactic(auto, unfolding(crate::specs::Reading::assigning))]
-    fn assigning(&self, tokens: &mut Cursor<'_>, begin: Pos, a: Found<Operand>) -> Result<Found<Operand>, Stop>
+    fn assigning(
+        &self,
+        tokens: &mut Cursor<'_>,
+        begin: Pos,
+        a: Found<Operand>,
+    ) -> Result<Found<Operand>, Stop>
         requires { Nests self.now.limit (F.pre self.now.inner) (F.post self.now.inner) }
         ensures { Gives (spec.assigning self.now.types.now self.now.limit (below self.now.types.now self.now.limit) begin a.it.unary (assign_at (front tokens.old)) (read a.it a.height tokens.old)) result tokens.new }
     {
@@ -92,7 +113,12 @@ impl<'t, F: Fn(Global, &TypeNames, &mut Cursor<'_>, usize, Wanted) -> Result<Fou
     }
 
     #[tactic(auto, unfolding(crate::specs::Reading::sequenced))]
-    fn sequenced(&self, tokens: &mut Cursor<'_>, begin: Pos, a: Found<Operand>) -> Result<Found<Operand>, Stop>
+    fn sequenced(
+        &self,
+        tokens: &mut Cursor<'_>,
+        begin: Pos,
+        a: Found<Operand>,
+    ) -> Result<Found<Operand>, Stop>
         requires { Nests self.now.limit (F.pre self.now.inner) (F.post self.now.inner) }
         ensures { Gives (spec.sequenced self.now.types.now self.now.limit (below self.now.types.now self.now.limit) begin (read a.it a.height tokens.old)) result tokens.new }
     {
@@ -106,7 +132,12 @@ impl<'t, F: Fn(Global, &TypeNames, &mut Cursor<'_>, usize, Wanted) -> Result<Fou
         self.operand(Expr::Comma(a.it.tree, b.it.tree, place), false, height)
     }
 
-    fn sequence(&self, tokens: &mut Cursor<'_>, begin: Pos, first: Found<Operand>) -> Result<Found<Operand>, Stop>
+    fn sequence(
+        &self,
+        tokens: &mut Cursor<'_>,
+        begin: Pos,
+        first: Found<Operand>,
+    ) -> Result<Found<Operand>, Stop>
         requires { Nests self.now.limit (F.pre self.now.inner) (F.post self.now.inner) }
         ensures { Gives (spec.sequence self.now.types.now self.now.limit (below self.now.types.now self.now.limit) self.now.limit begin (read first.it first.height tokens.old)) result tokens.new }
     {
@@ -134,7 +165,11 @@ impl<'t, F: Fn(Global, &TypeNames, &mut Cursor<'_>, usize, Wanted) -> Result<Fou
     }
 
     #[tactic(auto, unfolding(crate::specs::Reading::at_level))]
-    pub(crate) fn at_level(&self, tokens: &mut Cursor<'_>, level: Level) -> Result<Found<Operand>, Stop>
+    pub(crate) fn at_level(
+        &self,
+        tokens: &mut Cursor<'_>,
+        level: Level,
+    ) -> Result<Found<Operand>, Stop>
         requires { Nests self.now.limit (F.pre self.now.inner) (F.post self.now.inner) }
         ensures { Gives (spec.at_level self.now.types.now self.now.limit (below self.now.types.now self.now.limit) level tokens.old) result tokens.new }
     {

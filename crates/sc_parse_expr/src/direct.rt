@@ -57,11 +57,17 @@ fn may_lack(naming: Naming) -> bool
     matches!(naming, Naming::Optional | Naming::Absent)
 }
 
-impl<'t, F: Fn(Global, &TypeNames, &mut Cursor<'_>, usize, Wanted) -> Result<Found<Phrase>, Stop>>
-    Grammar<'t, F>
-{
+impl<
+    't,
+    F: Fn(Global, &TypeNames, &mut Cursor<'_>, usize, Wanted) -> Result<Found<Phrase>, Stop>,
+> Grammar<'t, F> {
     /// A declarator over parts of that height.
-    fn declared(&self, declarator: Declarator, core: Core, below: usize) -> Result<Found<Declared>, Stop>
+    fn declared(
+        &self,
+        declarator: Declarator,
+        core: Core,
+        below: usize,
+    ) -> Result<Found<Declared>, Stop>
         ensures { Grows self.now.limit (spec.declared declarator core) below result }
     {
         let declarator = Boxed::new(self.alloc, declarator)?;
@@ -118,7 +124,11 @@ impl<'t, F: Fn(Global, &TypeNames, &mut Cursor<'_>, usize, Wanted) -> Result<Fou
     }
 
     #[tactic(auto, unfolding(crate::specs::Reading::open_array, crate::specs::Reading::long_array, crate::specs::Reading::array_of))]
-    fn array_of(&self, tokens: &mut Cursor<'_>, inside: Found<Declared>) -> Result<Found<Declared>, Stop>
+    fn array_of(
+        &self,
+        tokens: &mut Cursor<'_>,
+        inside: Found<Declared>,
+    ) -> Result<Found<Declared>, Stop>
         requires { Nests self.now.limit (F.pre self.now.inner) (F.post self.now.inner) }
         ensures { Gives (spec.array_of self.now.types.now self.now.limit (below self.now.types.now self.now.limit) (read inside.it inside.height tokens.old)) result tokens.new }
     {
@@ -126,16 +136,28 @@ impl<'t, F: Fn(Global, &TypeNames, &mut Cursor<'_>, usize, Wanted) -> Result<Fou
         tokens.advance();
         if tokens.is_right_bracket() {
             tokens.advance();
-            return self.declared(Declarator::Array(inside.it.declarator, None), core, inside.height);
+            return self.declared(
+                Declarator::Array(inside.it.declarator, None),
+                core,
+                inside.height,
+            );
         }
         let len = self.inner_expr(tokens, Level::Choice)?;
         tokens.pass_right_bracket()?;
         let height = inside.height.max(len.height);
-        self.declared(Declarator::Array(inside.it.declarator, Some(len.it.tree)), core, height)
+        self.declared(
+            Declarator::Array(inside.it.declarator, Some(len.it.tree)),
+            core,
+            height,
+        )
     }
 
     #[tactic(auto, unfolding(crate::specs::Reading::function_of))]
-    fn function_of(&self, tokens: &mut Cursor<'_>, inside: Found<Declared>) -> Result<Found<Declared>, Stop>
+    fn function_of(
+        &self,
+        tokens: &mut Cursor<'_>,
+        inside: Found<Declared>,
+    ) -> Result<Found<Declared>, Stop>
         requires { Nests self.now.limit (F.pre self.now.inner) (F.post self.now.inner) }
         ensures { Gives (spec.function_of self.now.types.now self.now.limit (below self.now.types.now self.now.limit) (read inside.it inside.height tokens.old)) result tokens.new }
     {
@@ -146,11 +168,19 @@ impl<'t, F: Fn(Global, &TypeNames, &mut Cursor<'_>, usize, Wanted) -> Result<Fou
         let Params { heads, named, dots } = it;
         let core = called(named, inside.it.core);
         let height = inside.height.max(tall);
-        self.declared(Declarator::Func(inside.it.declarator, heads, dots), core, height)
+        self.declared(
+            Declarator::Func(inside.it.declarator, heads, dots),
+            core,
+            height,
+        )
     }
 
     /// A declarator with the first of the arrays and parameters behind it.
-    fn derived(&self, tokens: &mut Cursor<'_>, inside: Found<Declared>) -> Result<Found<Declared>, Stop>
+    fn derived(
+        &self,
+        tokens: &mut Cursor<'_>,
+        inside: Found<Declared>,
+    ) -> Result<Found<Declared>, Stop>
         requires { Nests self.now.limit (F.pre self.now.inner) (F.post self.now.inner) }
         ensures { Gives (one_derived self.now.types.now self.now.limit (below self.now.types.now self.now.limit) (suffix (front tokens.old)) (read inside.it inside.height tokens.old)) result tokens.new }
     {
@@ -162,7 +192,11 @@ impl<'t, F: Fn(Global, &TypeNames, &mut Cursor<'_>, usize, Wanted) -> Result<Fou
     }
 
     /// A declarator with all arrays and parameters behind it.
-    fn derive(&self, tokens: &mut Cursor<'_>, first: Found<Declared>) -> Result<Found<Declared>, Stop>
+    fn derive(
+        &self,
+        tokens: &mut Cursor<'_>,
+        first: Found<Declared>,
+    ) -> Result<Found<Declared>, Stop>
         requires { Nests self.now.limit (F.pre self.now.inner) (F.post self.now.inner) }
         ensures { Gives (spec.derive self.now.types.now self.now.limit (below self.now.types.now self.now.limit) self.now.limit (read first.it first.height tokens.old)) result tokens.new }
     {
@@ -189,7 +223,11 @@ impl<'t, F: Fn(Global, &TypeNames, &mut Cursor<'_>, usize, Wanted) -> Result<Fou
     }
 
     #[tactic(auto, unfolding(crate::specs::Reading::declarator, crate::specs::Reading::pointed))]
-    pub(crate) fn declarator(&self, tokens: &mut Cursor<'_>, naming: Naming) -> Result<Found<Declared>, Stop>
+    pub(crate) fn declarator(
+        &self,
+        tokens: &mut Cursor<'_>,
+        naming: Naming,
+    ) -> Result<Found<Declared>, Stop>
         requires { Nests self.now.limit (F.pre self.now.inner) (F.post self.now.inner) }
         ensures { Gives (spec.declarator self.now.types.now self.now.limit (below self.now.types.now self.now.limit) naming tokens.old) result tokens.new }
     {
@@ -199,6 +237,10 @@ impl<'t, F: Fn(Global, &TypeNames, &mut Cursor<'_>, usize, Wanted) -> Result<Fou
         tokens.advance();
         let inside = self.inner_declarator(tokens, naming)?;
         let core = covered(inside.it.core);
-        self.declared(Declarator::Pointer(inside.it.declarator), core, inside.height)
+        self.declared(
+            Declarator::Pointer(inside.it.declarator),
+            core,
+            inside.height,
+        )
     }
 }

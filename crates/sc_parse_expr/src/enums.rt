@@ -20,15 +20,21 @@ use sc_tree::expr::{Base, EnumSpec, Enumerator, Expr};
 use sc_tree::grammar::{BodyForm, Level, Piece};
 use std::alloc::Global;
 
-fn enum_piece(pos: Pos, tag: Option<NameId>, body: Option<List<Enumerator>>, form: BodyForm) -> Piece
+fn enum_piece(
+    pos: Pos,
+    tag: Option<NameId>,
+    body: Option<List<Enumerator>>,
+    form: BodyForm,
+) -> Piece
     ensures { result ≡ piece.Whole (base.Enum (roll-EnumSpec (record { pos = pos; tag = tag; body = body }))) form }
 {
     Piece::Whole(Base::Enum(EnumSpec { pos, tag, body }), form)
 }
 
-impl<'t, F: Fn(Global, &TypeNames, &mut Cursor<'_>, usize, Wanted) -> Result<Found<Phrase>, Stop>>
-    Grammar<'t, F>
-{
+impl<
+    't,
+    F: Fn(Global, &TypeNames, &mut Cursor<'_>, usize, Wanted) -> Result<Found<Phrase>, Stop>,
+> Grammar<'t, F> {
     #[tactic(auto, unfolding(crate::specs::Reading::enumerator))]
     fn enumerator(&self, tokens: &mut Cursor<'_>) -> Result<Found<Enumerator>, Stop>
         requires { Nests self.now.limit (F.pre self.now.inner) (F.post self.now.inner) }
@@ -84,7 +90,12 @@ impl<'t, F: Fn(Global, &TypeNames, &mut Cursor<'_>, usize, Wanted) -> Result<Fou
     }
 
     #[tactic(auto, unfolding(crate::specs::Reading::enum_body))]
-    fn enum_body(&self, tokens: &mut Cursor<'_>, pos: Pos, tag: Option<NameId>) -> Result<Found<Piece>, Stop>
+    fn enum_body(
+        &self,
+        tokens: &mut Cursor<'_>,
+        pos: Pos,
+        tag: Option<NameId>,
+    ) -> Result<Found<Piece>, Stop>
         requires { Nests self.now.limit (F.pre self.now.inner) (F.post self.now.inner) }
         ensures { Gives (spec.enum_body self.now.types.now self.now.limit (below self.now.types.now self.now.limit) pos tag tokens.old) result tokens.new }
     {
@@ -98,7 +109,12 @@ impl<'t, F: Fn(Global, &TypeNames, &mut Cursor<'_>, usize, Wanted) -> Result<Fou
     }
 
     #[tactic(auto, unfolding(crate::specs::Reading::tagged_enum))]
-    fn tagged_enum(&self, tokens: &mut Cursor<'_>, pos: Pos, tag: NameId) -> Result<Found<Piece>, Stop>
+    fn tagged_enum(
+        &self,
+        tokens: &mut Cursor<'_>,
+        pos: Pos,
+        tag: NameId,
+    ) -> Result<Found<Piece>, Stop>
         requires { Nests self.now.limit (F.pre self.now.inner) (F.post self.now.inner) }
         ensures { Gives (spec.tagged_enum self.now.types.now self.now.limit (below self.now.types.now self.now.limit) pos tag tokens.old) result tokens.new }
     {
@@ -114,7 +130,11 @@ impl<'t, F: Fn(Global, &TypeNames, &mut Cursor<'_>, usize, Wanted) -> Result<Fou
 
     /// Behind its keyword, which stands at that place.
     #[tactic(auto, unfolding(crate::specs::Reading::enum_by))]
-    pub(crate) fn enumeration(&self, tokens: &mut Cursor<'_>, pos: Pos) -> Result<Found<Piece>, Stop>
+    pub(crate) fn enumeration(
+        &self,
+        tokens: &mut Cursor<'_>,
+        pos: Pos,
+    ) -> Result<Found<Piece>, Stop>
         requires { Nests self.now.limit (F.pre self.now.inner) (F.post self.now.inner) }
         ensures { Gives (spec.enum_by self.now.types.now self.now.limit (below self.now.types.now self.now.limit) pos (front_word tokens.old) tokens.old) result tokens.new }
     {

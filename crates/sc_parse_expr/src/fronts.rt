@@ -9,8 +9,8 @@ use crate::cursor::Cursor;
 use crate::tables;
 use crate::type_names::TypeNames;
 use sc_base::NameId;
-use sc_tree::{Punct, Reserved};
 use sc_tree::op::{AssignOp, BinaryOp, Step, UnaryOp};
+use sc_tree::{Punct, Reserved};
 
 impl<'a> Cursor<'a> {
     /// The operator of that level between two operands.
@@ -46,10 +46,7 @@ impl<'a> Cursor<'a> {
     pub fn has_derived(&self) -> bool
         ensures { result ≡ is_derived (spec.suffix (spec.front self.now)) }
     {
-        matches!(
-            self.front(),
-            Some(Punct::LeftBracket | Punct::LeftParen)
-        )
+        matches!(self.front(), Some(Punct::LeftBracket | Punct::LeftParen))
     }
 
     /// The operator before an operand.

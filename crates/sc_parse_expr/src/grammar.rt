@@ -45,9 +45,10 @@ fn is_named(core: Core) -> bool
     !matches!(core, Core::Nameless)
 }
 
-impl<'t, F: Fn(Global, &TypeNames, &mut Cursor<'_>, usize, Wanted) -> Result<Found<Phrase>, Stop>>
-    Grammar<'t, F>
-{
+impl<
+    't,
+    F: Fn(Global, &TypeNames, &mut Cursor<'_>, usize, Wanted) -> Result<Found<Phrase>, Stop>,
+> Grammar<'t, F> {
     fn inner(&self, tokens: &mut Cursor<'_>, wanted: Wanted) -> Result<Found<Phrase>, Stop>
         requires { Nests self.now.limit (F.pre self.now.inner) (F.post self.now.inner) }
         ensures { Gives (below self.now.types.now self.now.limit wanted tokens.old) result tokens.new }
@@ -56,7 +57,12 @@ impl<'t, F: Fn(Global, &TypeNames, &mut Cursor<'_>, usize, Wanted) -> Result<Fou
     }
 
     /// An expression over parts of that height.
-    pub(crate) fn operand(&self, tree: Expr, unary: bool, below: usize) -> Result<Found<Operand>, Stop>
+    pub(crate) fn operand(
+        &self,
+        tree: Expr,
+        unary: bool,
+        below: usize,
+    ) -> Result<Found<Operand>, Stop>
         ensures { Grows self.now.limit (spec.operand tree unary) below result }
     {
         let tree = Boxed::new(self.alloc, tree)?;
@@ -64,7 +70,11 @@ impl<'t, F: Fn(Global, &TypeNames, &mut Cursor<'_>, usize, Wanted) -> Result<Fou
     }
 
     /// An expression of the level under a node.
-    pub(crate) fn inner_expr(&self, tokens: &mut Cursor<'_>, level: Level) -> Result<Found<Operand>, Stop>
+    pub(crate) fn inner_expr(
+        &self,
+        tokens: &mut Cursor<'_>,
+        level: Level,
+    ) -> Result<Found<Operand>, Stop>
         requires { Nests self.now.limit (F.pre self.now.inner) (F.post self.now.inner) }
         ensures { Gives (spec.inner_expr self.now.types.now self.now.limit (below self.now.types.now self.now.limit) level tokens.old) result tokens.new }
     {
@@ -90,7 +100,11 @@ impl<'t, F: Fn(Global, &TypeNames, &mut Cursor<'_>, usize, Wanted) -> Result<Fou
     }
 
     /// A declarator under a node.
-    pub(crate) fn inner_declarator(&self, tokens: &mut Cursor<'_>, naming: Naming) -> Result<Found<Declared>, Stop>
+    pub(crate) fn inner_declarator(
+        &self,
+        tokens: &mut Cursor<'_>,
+        naming: Naming,
+    ) -> Result<Found<Declared>, Stop>
         requires { Nests self.now.limit (F.pre self.now.inner) (F.post self.now.inner) }
         ensures { Gives (spec.inner_declarator self.now.types.now self.now.limit (below self.now.types.now self.now.limit) naming tokens.old) result tokens.new }
     {
@@ -104,7 +118,11 @@ impl<'t, F: Fn(Global, &TypeNames, &mut Cursor<'_>, usize, Wanted) -> Result<Fou
 
     /// Specifiers and a declarator under a node.
     #[tactic(auto, unfolding(crate::specs::Reading::inner_head, crate::specs::Reading::headed))]
-    pub(crate) fn inner_head(&self, tokens: &mut Cursor<'_>, naming: Naming) -> Result<Found<Headed>, Stop>
+    pub(crate) fn inner_head(
+        &self,
+        tokens: &mut Cursor<'_>,
+        naming: Naming,
+    ) -> Result<Found<Headed>, Stop>
         requires { Nests self.now.limit (F.pre self.now.inner) (F.post self.now.inner) }
         ensures { Gives (spec.inner_head self.now.types.now self.now.limit (below self.now.types.now self.now.limit) naming tokens.old) result tokens.new }
     {

@@ -31,9 +31,10 @@ fn both(all: bool, this: bool) -> bool
     all && this
 }
 
-impl<'t, F: Fn(Global, &TypeNames, &mut Cursor<'_>, usize, Wanted) -> Result<Found<Phrase>, Stop>>
-    Grammar<'t, F>
-{
+impl<
+    't,
+    F: Fn(Global, &TypeNames, &mut Cursor<'_>, usize, Wanted) -> Result<Found<Phrase>, Stop>,
+> Grammar<'t, F> {
     /// Parameters with commas between, and `...` behind them or not.
     fn heads(&self, tokens: &mut Cursor<'_>) -> Result<Found<Params>, Stop>
         requires { Nests self.now.limit (F.pre self.now.inner) (F.post self.now.inner) }

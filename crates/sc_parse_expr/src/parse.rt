@@ -13,9 +13,10 @@ use crate::type_names::TypeNames;
 use sc_tree::grammar::{Level, Naming, Specified};
 use std::alloc::Global;
 
-impl<'t, F: Fn(Global, &TypeNames, &mut Cursor<'_>, usize, Wanted) -> Result<Found<Phrase>, Stop>>
-    Grammar<'t, F>
-{
+impl<
+    't,
+    F: Fn(Global, &TypeNames, &mut Cursor<'_>, usize, Wanted) -> Result<Found<Phrase>, Stop>,
+> Grammar<'t, F> {
     #[tactic(auto, unfolding(crate::specs::Reading::wanted))]
     fn wanted(&self, tokens: &mut Cursor<'_>, wanted: Wanted) -> Result<Found<Phrase>, Stop>
         requires { Nests self.now.limit (F.pre self.now.inner) (F.post self.now.inner) }
@@ -48,7 +49,13 @@ impl<'t, F: Fn(Global, &TypeNames, &mut Cursor<'_>, usize, Wanted) -> Result<Fou
 }
 
 /// What is wanted, read at the front of the tokens with a tree of at most that height.
-fn parse(alloc: Global, types: &TypeNames, tokens: &mut Cursor<'_>, limit: usize, wanted: Wanted) -> Result<Found<Phrase>, Stop>
+fn parse(
+    alloc: Global,
+    types: &TypeNames,
+    tokens: &mut Cursor<'_>,
+    limit: usize,
+    wanted: Wanted,
+) -> Result<Found<Phrase>, Stop>
     ensures { Gives (spec.parse types.now limit wanted tokens.old) result tokens.new }
 {
     if limit == 0 {
@@ -65,7 +72,13 @@ fn parse(alloc: Global, types: &TypeNames, tokens: &mut Cursor<'_>, limit: usize
 
 /// The expression of that level at the front of the tokens, of at most that height, and goes behind
 /// it. After a refusal nothing is known of the tokens that are left.
-pub fn read_expr(alloc: Global, types: &TypeNames, tokens: &mut Cursor<'_>, limit: usize, level: Level) -> Result<Found<Operand>, Stop>
+pub fn read_expr(
+    alloc: Global,
+    types: &TypeNames,
+    tokens: &mut Cursor<'_>,
+    limit: usize,
+    level: Level,
+) -> Result<Found<Operand>, Stop>
     ensures { Gives (spec.expr_at types.now limit level tokens.old) result tokens.new }
 {
     let Found { it, height } = parse(alloc, types, tokens, limit, Wanted::Expr(level))?;
@@ -76,7 +89,12 @@ pub fn read_expr(alloc: Global, types: &TypeNames, tokens: &mut Cursor<'_>, limi
 }
 
 /// The specifiers that name a type at the front of the tokens, with bodies of at most that height.
-pub fn read_specs(alloc: Global, types: &TypeNames, tokens: &mut Cursor<'_>, limit: usize) -> Result<Found<Specified>, Stop>
+pub fn read_specs(
+    alloc: Global,
+    types: &TypeNames,
+    tokens: &mut Cursor<'_>,
+    limit: usize,
+) -> Result<Found<Specified>, Stop>
     ensures { Gives (spec.specs_at types.now limit tokens.old) result tokens.new }
 {
     let Found { it, height } = parse(alloc, types, tokens, limit, Wanted::Specs)?;
@@ -87,7 +105,13 @@ pub fn read_specs(alloc: Global, types: &TypeNames, tokens: &mut Cursor<'_>, lim
 }
 
 /// The declarator of that naming at the front of the tokens, of at most that height.
-pub fn read_declarator(alloc: Global, types: &TypeNames, tokens: &mut Cursor<'_>, limit: usize, naming: Naming) -> Result<Found<Declared>, Stop>
+pub fn read_declarator(
+    alloc: Global,
+    types: &TypeNames,
+    tokens: &mut Cursor<'_>,
+    limit: usize,
+    naming: Naming,
+) -> Result<Found<Declared>, Stop>
     ensures { Gives (spec.declarator_at types.now limit naming tokens.old) result tokens.new }
 {
     let Found { it, height } = parse(alloc, types, tokens, limit, Wanted::Declarator(naming))?;

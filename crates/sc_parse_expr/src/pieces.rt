@@ -31,9 +31,10 @@ fn one_token(tokens: &mut Cursor<'_>, piece: Piece) -> Result<Found<Piece>, Stop
     })
 }
 
-impl<'t, F: Fn(Global, &TypeNames, &mut Cursor<'_>, usize, Wanted) -> Result<Found<Phrase>, Stop>>
-    Grammar<'t, F>
-{
+impl<
+    't,
+    F: Fn(Global, &TypeNames, &mut Cursor<'_>, usize, Wanted) -> Result<Found<Phrase>, Stop>,
+> Grammar<'t, F> {
     #[tactic(auto, unfolding(crate::specs::Reading::piece_by))]
     fn piece(&self, tokens: &mut Cursor<'_>, start: Start) -> Result<Found<Piece>, Stop>
         requires { Nests self.now.limit (F.pre self.now.inner) (F.post self.now.inner) }
@@ -42,7 +43,10 @@ impl<'t, F: Fn(Global, &TypeNames, &mut Cursor<'_>, usize, Wanted) -> Result<Fou
         match start {
             Start::Storage(word) => one_token(tokens, Piece::Storage(word)),
             Start::Word(word) => one_token(tokens, Piece::Word(word)),
-            Start::Name(word) => one_token(tokens, Piece::Whole(Base::Named(word), BodyForm::NoBody)),
+            Start::Name(word) => one_token(
+                tokens,
+                Piece::Whole(Base::Named(word), BodyForm::NoBody),
+            ),
             Start::Record(union) => {
                 let pos = tokens.first_pos();
                 tokens.advance();

@@ -16,9 +16,10 @@ use sc_tree::grammar::{Level, Naming};
 use sc_tree::op::{Step, UnaryOp};
 use std::alloc::Global;
 
-impl<'t, F: Fn(Global, &TypeNames, &mut Cursor<'_>, usize, Wanted) -> Result<Found<Phrase>, Stop>>
-    Grammar<'t, F>
-{
+impl<
+    't,
+    F: Fn(Global, &TypeNames, &mut Cursor<'_>, usize, Wanted) -> Result<Found<Phrase>, Stop>,
+> Grammar<'t, F> {
     #[tactic(auto, unfolding(crate::specs::Reading::applied))]
     fn applied(&self, tokens: &mut Cursor<'_>, op: UnaryOp) -> Result<Found<Operand>, Stop>
         requires { Nests self.now.limit (F.pre self.now.inner) (F.post self.now.inner) }

@@ -29,7 +29,11 @@ pub(crate) fn at(pos: Pos) -> Place
 }
 
 /// This string literal and those at the front of the tokens.
-fn strings(alloc: Global, tokens: &mut Cursor<'_>, first: StrToken) -> Result<List<StrToken>, OutOfMemory>
+fn strings(
+    alloc: Global,
+    tokens: &mut Cursor<'_>,
+    first: StrToken,
+) -> Result<List<StrToken>, OutOfMemory>
     ensures all { IfOk result (λ all. all ≡ first ∷ spec.strings tokens.old) }
     ensures rest { OnOk result (tokens.new ≡ spec.past_strings tokens.old) }
 {
@@ -42,9 +46,10 @@ fn strings(alloc: Global, tokens: &mut Cursor<'_>, first: StrToken) -> Result<Li
     Ok(all)
 }
 
-impl<'t, F: Fn(Global, &TypeNames, &mut Cursor<'_>, usize, Wanted) -> Result<Found<Phrase>, Stop>>
-    Grammar<'t, F>
-{
+impl<
+    't,
+    F: Fn(Global, &TypeNames, &mut Cursor<'_>, usize, Wanted) -> Result<Found<Phrase>, Stop>,
+> Grammar<'t, F> {
     /// A name or a constant.
     fn atom(&self, tokens: &Cursor<'_>, tree: Expr) -> Result<Found<Operand>, Stop>
         ensures { Gives (spec.atom self.now.types.now self.now.limit (below self.now.types.now self.now.limit) tree tokens.now) result tokens.now }
@@ -77,7 +82,12 @@ impl<'t, F: Fn(Global, &TypeNames, &mut Cursor<'_>, usize, Wanted) -> Result<Fou
 
     /// Behind its first token.
     #[tactic(auto, unfolding(crate::specs::Reading::primary_by))]
-    fn primary_by(&self, tokens: &mut Cursor<'_>, first: Kind, pos: Pos) -> Result<Found<Operand>, Stop>
+    fn primary_by(
+        &self,
+        tokens: &mut Cursor<'_>,
+        first: Kind,
+        pos: Pos,
+    ) -> Result<Found<Operand>, Stop>
         requires { Nests self.now.limit (F.pre self.now.inner) (F.post self.now.inner) }
         ensures { Gives (spec.primary_by self.now.types.now self.now.limit (below self.now.types.now self.now.limit) first pos tokens.old) result tokens.new }
     {

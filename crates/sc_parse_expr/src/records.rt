@@ -32,7 +32,13 @@ fn body_form(tag: Option<NameId>) -> BodyForm
     }
 }
 
-fn record_piece(union: bool, pos: Pos, tag: Option<NameId>, body: Option<List<Member>>, form: BodyForm) -> Piece
+fn record_piece(
+    union: bool,
+    pos: Pos,
+    tag: Option<NameId>,
+    body: Option<List<Member>>,
+    form: BodyForm,
+) -> Piece
     ensures { result ≡ piece.Whole (base.Struct (roll-Aggregate (record { pos = pos; union = union; tag = tag; body = body }))) form }
 {
     let record = Aggregate {
@@ -44,9 +50,10 @@ fn record_piece(union: bool, pos: Pos, tag: Option<NameId>, body: Option<List<Me
     Piece::Whole(Base::Struct(record), form)
 }
 
-impl<'t, F: Fn(Global, &TypeNames, &mut Cursor<'_>, usize, Wanted) -> Result<Found<Phrase>, Stop>>
-    Grammar<'t, F>
-{
+impl<
+    't,
+    F: Fn(Global, &TypeNames, &mut Cursor<'_>, usize, Wanted) -> Result<Found<Phrase>, Stop>,
+> Grammar<'t, F> {
     /// A width alone, behind its `:`.
     #[tactic(auto, unfolding(crate::specs::Reading::padding))]
     fn padding(&self, tokens: &mut Cursor<'_>) -> Result<Found<Part>, Stop>
@@ -65,7 +72,11 @@ impl<'t, F: Fn(Global, &TypeNames, &mut Cursor<'_>, usize, Wanted) -> Result<Fou
     }
 
     #[tactic(auto, unfolding(crate::specs::Reading::with_width))]
-    fn with_width(&self, tokens: &mut Cursor<'_>, declared: Found<Declared>) -> Result<Found<Part>, Stop>
+    fn with_width(
+        &self,
+        tokens: &mut Cursor<'_>,
+        declared: Found<Declared>,
+    ) -> Result<Found<Part>, Stop>
         requires { Nests self.now.limit (F.pre self.now.inner) (F.post self.now.inner) }
         ensures { Gives (spec.with_width self.now.types.now self.now.limit (below self.now.types.now self.now.limit) (read declared.it declared.height tokens.old)) result tokens.new }
     {
@@ -121,7 +132,11 @@ impl<'t, F: Fn(Global, &TypeNames, &mut Cursor<'_>, usize, Wanted) -> Result<Fou
     }
 
     #[tactic(auto, unfolding(crate::specs::Reading::parts))]
-    fn parts(&self, tokens: &mut Cursor<'_>, specified: Found<Specified>) -> Result<Found<Member>, Stop>
+    fn parts(
+        &self,
+        tokens: &mut Cursor<'_>,
+        specified: Found<Specified>,
+    ) -> Result<Found<Member>, Stop>
         requires { Nests self.now.limit (F.pre self.now.inner) (F.post self.now.inner) }
         ensures { Gives (spec.parts self.now.types.now self.now.limit (below self.now.types.now self.now.limit) (read specified.it specified.height tokens.old)) result tokens.new }
     {
@@ -137,7 +152,11 @@ impl<'t, F: Fn(Global, &TypeNames, &mut Cursor<'_>, usize, Wanted) -> Result<Fou
     }
 
     /// Specifiers before a `;`.
-    fn lone_member(&self, tokens: &mut Cursor<'_>, specified: Found<Specified>) -> Result<Found<Member>, Stop>
+    fn lone_member(
+        &self,
+        tokens: &mut Cursor<'_>,
+        specified: Found<Specified>,
+    ) -> Result<Found<Member>, Stop>
         ensures { Gives (spec.lone_member self.now.types.now self.now.limit (below self.now.types.now self.now.limit) specified.it.form (read specified.it specified.height tokens.old)) result tokens.new }
     {
         if !matches!(specified.it.form, BodyForm::Untagged) {
@@ -188,7 +207,13 @@ impl<'t, F: Fn(Global, &TypeNames, &mut Cursor<'_>, usize, Wanted) -> Result<Fou
     }
 
     #[tactic(auto, unfolding(crate::specs::Reading::record_body))]
-    fn record_body(&self, tokens: &mut Cursor<'_>, union: bool, pos: Pos, tag: Option<NameId>) -> Result<Found<Piece>, Stop>
+    fn record_body(
+        &self,
+        tokens: &mut Cursor<'_>,
+        union: bool,
+        pos: Pos,
+        tag: Option<NameId>,
+    ) -> Result<Found<Piece>, Stop>
         requires { Nests self.now.limit (F.pre self.now.inner) (F.post self.now.inner) }
         ensures { Gives (spec.record_body self.now.types.now self.now.limit (below self.now.types.now self.now.limit) union pos tag tokens.old) result tokens.new }
     {
@@ -199,7 +224,13 @@ impl<'t, F: Fn(Global, &TypeNames, &mut Cursor<'_>, usize, Wanted) -> Result<Fou
     }
 
     #[tactic(auto, unfolding(crate::specs::Reading::tagged_record))]
-    fn tagged_record(&self, tokens: &mut Cursor<'_>, union: bool, pos: Pos, tag: NameId) -> Result<Found<Piece>, Stop>
+    fn tagged_record(
+        &self,
+        tokens: &mut Cursor<'_>,
+        union: bool,
+        pos: Pos,
+        tag: NameId,
+    ) -> Result<Found<Piece>, Stop>
         requires { Nests self.now.limit (F.pre self.now.inner) (F.post self.now.inner) }
         ensures { Gives (spec.tagged_record self.now.types.now self.now.limit (below self.now.types.now self.now.limit) union pos tag tokens.old) result tokens.new }
     {
@@ -215,7 +246,12 @@ impl<'t, F: Fn(Global, &TypeNames, &mut Cursor<'_>, usize, Wanted) -> Result<Fou
 
     /// Behind its keyword, which stands at that place.
     #[tactic(auto, unfolding(crate::specs::Reading::record_by))]
-    pub(crate) fn record(&self, tokens: &mut Cursor<'_>, union: bool, pos: Pos) -> Result<Found<Piece>, Stop>
+    pub(crate) fn record(
+        &self,
+        tokens: &mut Cursor<'_>,
+        union: bool,
+        pos: Pos,
+    ) -> Result<Found<Piece>, Stop>
         requires { Nests self.now.limit (F.pre self.now.inner) (F.post self.now.inner) }
         ensures { Gives (spec.record_by self.now.types.now self.now.limit (below self.now.types.now self.now.limit) union pos (front_word tokens.old) tokens.old) result tokens.new }
     {

@@ -1,11 +1,10 @@
 // Why nothing is read.
 
 ghost use Rattle.std.specs.Prelude.{◌≡◌};
+ghost use Rattle.sc_parse_expr.specs.declared.stop.Stop.TheVariants.{Memory};
 
 use sc_base::OutOfMemory;
 use std::alloc::AllocError;
-
-ghost use Rattle.sc_parse_expr.specs.declared.stop.Stop.TheVariants.{Memory};
 
 /// Why nothing was read.
 #[derive(Clone, Copy, Debug, PartialEq, Eq)]

@@ -20,12 +20,18 @@ use sc_tree::grammar::Level;
 use sc_tree::op::Step;
 use std::alloc::Global;
 
-impl<'t, F: Fn(Global, &TypeNames, &mut Cursor<'_>, usize, Wanted) -> Result<Found<Phrase>, Stop>>
-    Grammar<'t, F>
-{
+impl<
+    't,
+    F: Fn(Global, &TypeNames, &mut Cursor<'_>, usize, Wanted) -> Result<Found<Phrase>, Stop>,
+> Grammar<'t, F> {
     /// An operand with an index behind it.
     #[tactic(auto, unfolding(crate::specs::Reading::indexed))]
-    fn indexed(&self, tokens: &mut Cursor<'_>, begin: Pos, a: Found<Operand>) -> Result<Found<Operand>, Stop>
+    fn indexed(
+        &self,
+        tokens: &mut Cursor<'_>,
+        begin: Pos,
+        a: Found<Operand>,
+    ) -> Result<Found<Operand>, Stop>
         requires { Nests self.now.limit (F.pre self.now.inner) (F.post self.now.inner) }
         ensures { Gives (spec.indexed self.now.types.now self.now.limit (below self.now.types.now self.now.limit) begin (read a.it a.height tokens.old)) result tokens.new }
     {
@@ -76,7 +82,12 @@ impl<'t, F: Fn(Global, &TypeNames, &mut Cursor<'_>, usize, Wanted) -> Result<Fou
 
     /// An operand that is called.
     #[tactic(auto, unfolding(crate::specs::Reading::calling))]
-    fn calling(&self, tokens: &mut Cursor<'_>, begin: Pos, a: Found<Operand>) -> Result<Found<Operand>, Stop>
+    fn calling(
+        &self,
+        tokens: &mut Cursor<'_>,
+        begin: Pos,
+        a: Found<Operand>,
+    ) -> Result<Found<Operand>, Stop>
         requires { Nests self.now.limit (F.pre self.now.inner) (F.post self.now.inner) }
         ensures { Gives (spec.calling self.now.types.now self.now.limit (below self.now.types.now self.now.limit) begin (read a.it a.height tokens.old)) result tokens.new }
     {
@@ -93,7 +104,13 @@ impl<'t, F: Fn(Global, &TypeNames, &mut Cursor<'_>, usize, Wanted) -> Result<Fou
 
     /// An operand with a field behind it.
     #[tactic(auto, unfolding(crate::specs::Reading::fielded))]
-    fn fielded(&self, tokens: &mut Cursor<'_>, begin: Pos, arrow: bool, a: Found<Operand>) -> Result<Found<Operand>, Stop>
+    fn fielded(
+        &self,
+        tokens: &mut Cursor<'_>,
+        begin: Pos,
+        arrow: bool,
+        a: Found<Operand>,
+    ) -> Result<Found<Operand>, Stop>
         ensures { Gives (spec.fielded self.now.types.now self.now.limit (below self.now.types.now self.now.limit) begin arrow (read a.it a.height tokens.old)) result tokens.new }
     {
         tokens.advance();
@@ -110,7 +127,13 @@ impl<'t, F: Fn(Global, &TypeNames, &mut Cursor<'_>, usize, Wanted) -> Result<Fou
 
     /// An operand with `++` or `--` behind it.
     #[tactic(auto, unfolding(crate::specs::Reading::stepped))]
-    fn stepped(&self, tokens: &mut Cursor<'_>, begin: Pos, by: Step, a: Found<Operand>) -> Result<Found<Operand>, Stop>
+    fn stepped(
+        &self,
+        tokens: &mut Cursor<'_>,
+        begin: Pos,
+        by: Step,
+        a: Found<Operand>,
+    ) -> Result<Found<Operand>, Stop>
         ensures { Gives (spec.stepped self.now.types.now self.now.limit (below self.now.types.now self.now.limit) begin by (read a.it a.height tokens.old)) result tokens.new }
     {
         let place = Place {
@@ -122,7 +145,12 @@ impl<'t, F: Fn(Global, &TypeNames, &mut Cursor<'_>, usize, Wanted) -> Result<Fou
     }
 
     /// An operand with the first of what stands behind it.
-    fn suffixed(&self, tokens: &mut Cursor<'_>, begin: Pos, a: Found<Operand>) -> Result<Found<Operand>, Stop>
+    fn suffixed(
+        &self,
+        tokens: &mut Cursor<'_>,
+        begin: Pos,
+        a: Found<Operand>,
+    ) -> Result<Found<Operand>, Stop>
         requires { Nests self.now.limit (F.pre self.now.inner) (F.post self.now.inner) }
         ensures { Gives (one_suffix self.now.types.now self.now.limit (below self.now.types.now self.now.limit) begin (suffix (front tokens.old)) (read a.it a.height tokens.old)) result tokens.new }
     {
@@ -138,7 +166,12 @@ impl<'t, F: Fn(Global, &TypeNames, &mut Cursor<'_>, usize, Wanted) -> Result<Fou
     }
 
     /// An operand with all that stands behind it.
-    fn suffixes(&self, tokens: &mut Cursor<'_>, begin: Pos, first: Found<Operand>) -> Result<Found<Operand>, Stop>
+    fn suffixes(
+        &self,
+        tokens: &mut Cursor<'_>,
+        begin: Pos,
+        first: Found<Operand>,
+    ) -> Result<Found<Operand>, Stop>
         requires { Nests self.now.limit (F.pre self.now.inner) (F.post self.now.inner) }
         ensures { Gives (spec.suffixes self.now.types.now self.now.limit (below self.now.types.now self.now.limit) self.now.limit begin (read first.it first.height tokens.old)) result tokens.new }
     {

@@ -123,12 +123,7 @@ fn cast_or_call(rt: HostRuntime) -> Result<(), Fail> {
 fn choice_without_middle(rt: HostRuntime) -> Result<(), Fail> {
     let alloc = rt.alloc();
     let types = TypeNames::new(alloc);
-    let kinds = [
-        word(0),
-        sign(Punct::Question),
-        sign(Punct::Colon),
-        word(1),
-    ];
+    let kinds = [word(0), sign(Punct::Question), sign(Punct::Colon), word(1)];
     let found = parsed(alloc, &kinds, &types)?;
     assert!(rt; is_not(&found));
     Ok(())

@@ -7,7 +7,7 @@ ghost use Rattle.sc_tree.specs.declared.grammar.Piece.TheVariants as piece;
 ghost use Rattle.sc_parse_expr.specs.Gives.{Makes};
 
 use crate::stop::Stop;
-use sc_base::{List};
+use sc_base::List;
 use sc_tree::ctype::{CType, IntKind, OpaqueKind};
 use sc_tree::expr::{Base, Specs, Storage};
 use sc_tree::grammar::{

@@ -9,7 +9,7 @@ returns-then-not-has_derived g c = loop_stops (derive_loop c.args.self.now.types
 pub returns-in_err-a : goal.returns-in_err-a
 returns-in_err-a g c =
     passed_on c.from_residual.result c.derived.new.tokens c.derived.new.tokens c.in_err-a.field-0.0 c.in_err-a.ensures c.from_residual.ensures.1
-        (λ none. loop_refused (derive_loop c.args.self.now.types.now c.args.self.now.limit (below c.args.self.now.types.now c.args.self.now.limit)) _ _ _ c.loop-turn-test.true c.loop-turn.invariant (sym c.has_derived.ensures ∙ c.if-not-has_derived.false) none)
+    (λ none. loop_refused (derive_loop c.args.self.now.types.now c.args.self.now.limit (below c.args.self.now.types.now c.args.self.now.limit)) _ _ _ c.loop-turn-test.true c.loop-turn.invariant (sym c.has_derived.ensures ∙ c.if-not-has_derived.false) none)
 
 pub loop-turn-preserved : goal.loop-turn-preserved
 loop-turn-preserved g c = loop_next (derive_loop c.args.self.now.types.now c.args.self.now.limit (below c.args.self.now.types.now c.args.self.now.limit)) _ _ _ _ c.loop-turn-test.true c.loop-turn.invariant (sym c.has_derived.ensures ∙ c.if-not-has_derived.false) c.in_ok-a.ensures

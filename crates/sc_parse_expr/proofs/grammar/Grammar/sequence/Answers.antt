@@ -9,7 +9,7 @@ returns-then-not-is_comma g c = loop_stops (sequence_loop c.args.self.now.types.
 pub returns-in_err-a : goal.returns-in_err-a
 returns-in_err-a g c =
     passed_on c.from_residual.result c.sequenced.new.tokens c.sequenced.new.tokens c.in_err-a.field-0.0 c.in_err-a.ensures c.from_residual.ensures.1
-        (λ none. loop_refused (sequence_loop c.args.self.now.types.now c.args.self.now.limit (below c.args.self.now.types.now c.args.self.now.limit) c.args.begin) _ _ _ c.loop-turn-test.true c.loop-turn.invariant (sym c.is_comma.ensures ∙ c.if-not-is_comma.false) none)
+    (λ none. loop_refused (sequence_loop c.args.self.now.types.now c.args.self.now.limit (below c.args.self.now.types.now c.args.self.now.limit) c.args.begin) _ _ _ c.loop-turn-test.true c.loop-turn.invariant (sym c.is_comma.ensures ∙ c.if-not-is_comma.false) none)
 
 pub loop-turn-preserved : goal.loop-turn-preserved
 loop-turn-preserved g c = loop_next (sequence_loop c.args.self.now.types.now c.args.self.now.limit (below c.args.self.now.types.now c.args.self.now.limit) c.args.begin) _ _ _ _ c.loop-turn-test.true c.loop-turn.invariant (sym c.is_comma.ensures ∙ c.if-not-is_comma.false) c.in_ok-a.ensures
