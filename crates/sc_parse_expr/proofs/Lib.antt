@@ -1,4 +1,7 @@
 pub mod Begins
+mod Names
+mod Steps
+mod Spans
 pub mod Tools
 pub mod SoundLists
 pub mod SoundExpr

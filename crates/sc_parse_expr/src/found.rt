@@ -1,5 +1,6 @@
 // What is read at the front of tokens.
 
+use sc_base::Boxed;
 use sc_tree::expr::{Declarator, Expr, Head};
 use sc_tree::grammar::{Core, Level, Naming, Specified};
 
@@ -26,21 +27,21 @@ pub enum Phrase {
 /// the operators before their operand.
 #[derive(Debug, Drop)]
 pub struct Operand {
-    pub tree: Expr,
+    pub tree: Boxed<Expr>,
     pub unary: bool,
 }
 
 /// A declarator, and what it declares.
 #[derive(Debug, Drop)]
 pub struct Declared {
-    pub declarator: Declarator,
+    pub declarator: Boxed<Declarator>,
     pub core: Core,
 }
 
 /// Specifiers and a declarator, and whether it has a name.
 #[derive(Debug, Drop)]
 pub struct Headed {
-    pub head: Head,
+    pub head: Boxed<Head>,
     pub named: bool,
 }
 

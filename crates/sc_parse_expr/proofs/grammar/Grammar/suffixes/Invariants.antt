@@ -1,0 +1,11 @@
+use Rattle.std.proofs.Common.{◌≡◌, ◌-◌}
+use Rattle.sc_parse_expr.specs.Read.{read}
+use Rattle.sc_parse_expr.specs.Reading.{suffixes}
+use Rattle.sc_parse_expr.specs.Nests.{below}
+use Rattle.sc_parse_expr.proofs.grammar.Grammar.suffixes.Given as goal
+
+-- what is still to be read gives what all gives
+abbrev pub invariant-loop-turn : goal.invariant-loop-turn
+invariant-loop-turn g l =
+    suffixes l.self.types.now l.self.limit (below l.self.types.now l.self.limit) l.self.limit l.begin (read l.fn.first.it l.fn.first.height l.fn.tokens)
+    ≡ suffixes l.self.types.now l.self.limit (below l.self.types.now l.self.limit) (l.self.limit - l._turn) l.begin (read l.a.it l.a.height l.tokens)

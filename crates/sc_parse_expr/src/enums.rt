@@ -1,0 +1,152 @@
+// Enums with their enumerators (C11 6.7.2.2).
+
+ghost use Rattle.std.specs.Prelude.{◌≡◌};
+ghost use Rattle.sc_tree.specs.declared.expr.Base.TheVariants as base;
+ghost use Rattle.sc_tree.specs.declared.expr.EnumSpec.{roll-EnumSpec};
+ghost use Rattle.sc_tree.specs.declared.grammar.Piece.TheVariants as piece;
+ghost use Rattle.sc_parse_expr.specs.Front.{front_word};
+ghost use Rattle.sc_parse_expr.specs.Steps.{some_enumerators};
+ghost use Rattle.sc_parse_expr.specs.Gives.{Gives};
+ghost use Rattle.sc_parse_expr.specs.Nests.{Nests, below};
+ghost use Rattle.sc_parse_expr.specs.Reading as spec;
+
+use crate::cursor::Cursor;
+use crate::found::{Found, Phrase, Wanted};
+use crate::grammar::{Grammar, node};
+use crate::stop::Stop;
+use crate::type_names::TypeNames;
+use sc_base::{List, NameId, Pos};
+use sc_tree::expr::{Base, EnumSpec, Enumerator, Expr};
+use sc_tree::grammar::{BodyForm, Level, Piece};
+use std::alloc::Global;
+
+fn enum_piece(
+    pos: Pos,
+    tag: Option<NameId>,
+    body: Option<List<Enumerator>>,
+    form: BodyForm,
+) -> Piece
+    ensures { result ≡ piece.Whole (base.Enum (roll-EnumSpec (record { pos = pos; tag = tag; body = body }))) form }
+{
+    Piece::Whole(Base::Enum(EnumSpec { pos, tag, body }), form)
+}
+
+impl<
+    't,
+    F: Fn(Global, &TypeNames, &mut Cursor<'_>, usize, Wanted) -> Result<Found<Phrase>, Stop>,
+> Grammar<'t, F> {
+    #[tactic(auto, unfolding(crate::specs::Reading::enumerator))]
+    fn enumerator(&self, tokens: &mut Cursor<'_>) -> Result<Found<Enumerator>, Stop>
+        requires { Nests self.now.limit (F.pre self.now.inner) (F.post self.now.inner) }
+        ensures { Gives (spec.enumerator self.now.types.now self.now.limit (below self.now.types.now self.now.limit) tokens.old) result tokens.new }
+    {
+        let Some(name) = tokens.word() else {
+            return Err(Stop::Not);
+        };
+        let pos = tokens.first_pos();
+        tokens.advance();
+        if !tokens.is_equals() {
+            return Ok(Found {
+                it: Enumerator {
+                    pos,
+                    name,
+                    value: None,
+                },
+                height: 0,
+            });
+        }
+        tokens.advance();
+        let value = self.inner_expr(tokens, Level::Choice)?;
+        Ok(Found {
+            it: Enumerator {
+                pos,
+                name,
+                value: Some(value.it.tree.into_inner()),
+            },
+            height: value.height,
+        })
+    }
+
+    /// The enumerators, with commas between; a comma may end them.
+    fn enumerators(&self, tokens: &mut Cursor<'_>) -> Result<Found<List<Enumerator>>, Stop>
+        requires { Nests self.now.limit (F.pre self.now.inner) (F.post self.now.inner) }
+        ensures { Gives (some_enumerators self.now.types.now self.now.limit (below self.now.types.now self.now.limit) tokens.old) result tokens.new }
+    {
+        let mut all = List::new(self.alloc);
+        let mut height = 0;
+        for _turn in 0..tokens.len() {
+            let found = self.enumerator(tokens)?;
+            all.push(found.it)?;
+            height = height.max(found.height);
+            if !tokens.is_comma() {
+                return Ok(Found { it: all, height });
+            }
+            tokens.advance();
+            if tokens.is_right_brace() {
+                return Ok(Found { it: all, height });
+            }
+        }
+        Err(Stop::Not)
+    }
+
+    #[tactic(auto, unfolding(crate::specs::Reading::enum_body))]
+    fn enum_body(
+        &self,
+        tokens: &mut Cursor<'_>,
+        pos: Pos,
+        tag: Option<NameId>,
+    ) -> Result<Found<Piece>, Stop>
+        requires { Nests self.now.limit (F.pre self.now.inner) (F.post self.now.inner) }
+        ensures { Gives (spec.enum_body self.now.types.now self.now.limit (below self.now.types.now self.now.limit) pos tag tokens.old) result tokens.new }
+    {
+        let all = self.enumerators(tokens)?;
+        tokens.pass_right_brace()?;
+        node(
+            self.limit,
+            enum_piece(pos, tag, Some(all.it), BodyForm::WithBody),
+            all.height,
+        )
+    }
+
+    #[tactic(auto, unfolding(crate::specs::Reading::tagged_enum))]
+    fn tagged_enum(
+        &self,
+        tokens: &mut Cursor<'_>,
+        pos: Pos,
+        tag: NameId,
+    ) -> Result<Found<Piece>, Stop>
+        requires { Nests self.now.limit (F.pre self.now.inner) (F.post self.now.inner) }
+        ensures { Gives (spec.tagged_enum self.now.types.now self.now.limit (below self.now.types.now self.now.limit) pos tag tokens.old) result tokens.new }
+    {
+        if tokens.is_left_brace() {
+            tokens.advance();
+            return self.enum_body(tokens, pos, Some(tag));
+        }
+        Ok(Found {
+            it: enum_piece(pos, Some(tag), None, BodyForm::NoBody),
+            height: 0,
+        })
+    }
+
+    /// Behind its keyword, which stands at that place.
+    #[tactic(auto, unfolding(crate::specs::Reading::enum_by))]
+    pub(crate) fn enumeration(
+        &self,
+        tokens: &mut Cursor<'_>,
+        pos: Pos,
+    ) -> Result<Found<Piece>, Stop>
+        requires { Nests self.now.limit (F.pre self.now.inner) (F.post self.now.inner) }
+        ensures { Gives (spec.enum_by self.now.types.now self.now.limit (below self.now.types.now self.now.limit) pos (front_word tokens.old) tokens.old) result tokens.new }
+    {
+        if let Some(tag) = tokens.word() {
+            let place = tokens.first_pos();
+            tokens.advance();
+            return self.tagged_enum(tokens, place, tag);
+        }
+        if !tokens.is_left_brace() {
+            return Err(Stop::Not);
+        }
+        tokens.advance();
+        self.enum_body(tokens, pos, None)
+    }
+}

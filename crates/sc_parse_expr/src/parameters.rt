@@ -1,0 +1,102 @@
+// The parameters of a function (C11 6.7.6.3).
+
+ghost use Rattle.std.specs.Prelude.{◌≡◌, ◌&&◌};
+ghost use Rattle.sc_parse_expr.specs.Gives.{GivesAs};
+ghost use Rattle.sc_parse_expr.specs.Nests.{Nests, below};
+ghost use Rattle.sc_parse_expr.specs.Reading as spec;
+ghost use Rattle.sc_parse_expr.specs.Steps.{params_of, some_heads};
+
+use crate::cursor::Cursor;
+use crate::found::{Found, Headed, Phrase, Wanted};
+use crate::grammar::Grammar;
+use crate::stop::Stop;
+use crate::type_names::TypeNames;
+use sc_base::List;
+use sc_tree::expr::Head;
+use sc_tree::grammar::Naming;
+use std::alloc::Global;
+
+/// The parameters of a function, whether each has a name, and whether `...` stands behind them.
+#[derive(Debug, Drop)]
+pub struct Params {
+    /// `None` for empty brackets, and none at all for `void`.
+    pub heads: Option<List<Head>>,
+    pub named: bool,
+    pub dots: bool,
+}
+
+fn both(all: bool, this: bool) -> bool
+    ensures { result ≡ (all && this) }
+{
+    all && this
+}
+
+impl<
+    't,
+    F: Fn(Global, &TypeNames, &mut Cursor<'_>, usize, Wanted) -> Result<Found<Phrase>, Stop>,
+> Grammar<'t, F> {
+    /// Parameters with commas between, and `...` behind them or not.
+    fn heads(&self, tokens: &mut Cursor<'_>) -> Result<Found<Params>, Stop>
+        requires { Nests self.now.limit (F.pre self.now.inner) (F.post self.now.inner) }
+        ensures { GivesAs params_of (some_heads self.now.types.now self.now.limit (below self.now.types.now self.now.limit) tokens.old) result tokens.new }
+    {
+        let mut all = List::new(self.alloc);
+        let mut named = true;
+        let mut height = 0;
+        for _turn in 0..tokens.len() {
+            let found = self.inner_head(tokens, Naming::Optional)?;
+            let Found { it, height: tall } = found;
+            let Headed {
+                head,
+                named: has_name,
+            } = it;
+            all.push(head.into_inner())?;
+            named = both(named, has_name);
+            height = height.max(tall);
+            if !tokens.is_comma() {
+                let it = Params {
+                    heads: Some(all),
+                    named,
+                    dots: false,
+                };
+                return Ok(Found { it, height });
+            }
+            tokens.advance();
+            if tokens.is_ellipsis() {
+                tokens.advance();
+                let it = Params {
+                    heads: Some(all),
+                    named,
+                    dots: true,
+                };
+                return Ok(Found { it, height });
+            }
+        }
+        Err(Stop::Not)
+    }
+
+    #[tactic(auto, unfolding(crate::specs::Reading::parameters))]
+    pub(crate) fn parameters(&self, tokens: &mut Cursor<'_>) -> Result<Found<Params>, Stop>
+        requires { Nests self.now.limit (F.pre self.now.inner) (F.post self.now.inner) }
+        ensures { GivesAs params_of (spec.parameters self.now.types.now self.now.limit (below self.now.types.now self.now.limit) tokens.old) result tokens.new }
+    {
+        if tokens.is_right_paren() {
+            let it = Params {
+                heads: None,
+                named: true,
+                dots: false,
+            };
+            return Ok(Found { it, height: 0 });
+        }
+        if tokens.is_void() && tokens.behind().is_right_paren() {
+            tokens.advance();
+            let it = Params {
+                heads: Some(List::new(self.alloc)),
+                named: true,
+                dots: false,
+            };
+            return Ok(Found { it, height: 0 });
+        }
+        self.heads(tokens)
+    }
+}

@@ -1,0 +1,102 @@
+// The pieces of specifiers, one after the other (C11 6.7).
+
+ghost use Rattle.std.specs.Prelude.{◌≡◌, Some, length};
+ghost use Rattle.sc_tree.specs.Specifiers.{no_pieces};
+ghost use Rattle.sc_parse_expr.specs.Front.{behind};
+ghost use Rattle.sc_parse_expr.specs.Starts.{start_of};
+ghost use Rattle.sc_parse_expr.specs.Gives.{Gives};
+ghost use Rattle.sc_parse_expr.specs.Nests.{Nests, below};
+ghost use Rattle.sc_parse_expr.specs.Read.{read};
+ghost use Rattle.sc_parse_expr.specs.Reading as spec;
+
+use crate::cursor::Cursor;
+use crate::found::{Found, Phrase, Wanted};
+use crate::grammar::Grammar;
+use crate::start::{Start, begun_piece};
+use crate::stop::Stop;
+use crate::type_names::TypeNames;
+use crate::words::{finished, no_pieces, with_piece};
+use sc_tree::expr::Base;
+use sc_tree::grammar::{BodyForm, Gathered, Piece, Specified};
+use std::alloc::Global;
+
+/// A piece of one token.
+fn one_token(tokens: &mut Cursor<'_>, piece: Piece) -> Result<Found<Piece>, Stop>
+    ensures { Gives (Some (read piece 0 (behind tokens.old))) result tokens.new }
+{
+    tokens.advance();
+    Ok(Found {
+        it: piece,
+        height: 0,
+    })
+}
+
+impl<
+    't,
+    F: Fn(Global, &TypeNames, &mut Cursor<'_>, usize, Wanted) -> Result<Found<Phrase>, Stop>,
+> Grammar<'t, F> {
+    #[tactic(auto, unfolding(crate::specs::Reading::piece_by))]
+    fn piece(&self, tokens: &mut Cursor<'_>, start: Start) -> Result<Found<Piece>, Stop>
+        requires { Nests self.now.limit (F.pre self.now.inner) (F.post self.now.inner) }
+        ensures { Gives (spec.piece_by self.now.types.now self.now.limit (below self.now.types.now self.now.limit) (start_of (Some start)) tokens.old) result tokens.new }
+    {
+        match start {
+            Start::Storage(word) => one_token(tokens, Piece::Storage(word)),
+            Start::Word(word) => one_token(tokens, Piece::Word(word)),
+            Start::Name(word) => one_token(
+                tokens,
+                Piece::Whole(Base::Named(word), BodyForm::NoBody),
+            ),
+            Start::Record(union) => {
+                let pos = tokens.first_pos();
+                tokens.advance();
+                self.record(tokens, union, pos)
+            }
+            Start::Enum => {
+                let pos = tokens.first_pos();
+                tokens.advance();
+                self.enumeration(tokens, pos)
+            }
+        }
+    }
+
+    /// All pieces, as long as one begins.
+    fn gather(&self, tokens: &mut Cursor<'_>) -> Result<Found<Gathered>, Stop>
+        requires { Nests self.now.limit (F.pre self.now.inner) (F.post self.now.inner) }
+        ensures { Gives (spec.gather self.now.types.now self.now.limit (below self.now.types.now self.now.limit) (length tokens.old) no_pieces 0 tokens.old) result tokens.new }
+    {
+        let mut gathered = no_pieces(self.alloc);
+        let mut height = 0;
+        for _turn in 0..tokens.len() {
+            let Some(start) = begun_piece(self.types, &gathered.so_far, tokens) else {
+                return Ok(Found {
+                    it: gathered,
+                    height,
+                });
+            };
+            let piece = self.piece(tokens, start)?;
+            gathered = with_piece(gathered, piece.it)?;
+            height = height.max(piece.height);
+        }
+        if begun_piece(self.types, &gathered.so_far, tokens).is_some() {
+            return Err(Stop::Not);
+        }
+        Ok(Found {
+            it: gathered,
+            height,
+        })
+    }
+
+    #[tactic(auto, unfolding(crate::specs::Reading::specs))]
+    pub(crate) fn specs(&self, tokens: &mut Cursor<'_>) -> Result<Found<Specified>, Stop>
+        requires { Nests self.now.limit (F.pre self.now.inner) (F.post self.now.inner) }
+        ensures { Gives (spec.specs self.now.types.now self.now.limit (below self.now.types.now self.now.limit) tokens.old) result tokens.new }
+    {
+        let found = self.gather(tokens)?;
+        let it = finished(found.it)?;
+        Ok(Found {
+            it,
+            height: found.height,
+        })
+    }
+}

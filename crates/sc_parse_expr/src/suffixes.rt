@@ -1,0 +1,200 @@
+// What may stand behind an operand: indices, arguments, fields, `++` and `--` (C11 6.5.2).
+
+ghost use Rattle.std.specs.Prelude.{◌≡◌};
+ghost use Rattle.sc_parse_expr.specs.Front.{front, suffix};
+ghost use Rattle.sc_parse_expr.specs.Steps.{one_suffix, some_arguments};
+ghost use Rattle.sc_parse_expr.specs.Gives.{Gives};
+ghost use Rattle.sc_parse_expr.specs.Nests.{Nests, below};
+ghost use Rattle.sc_parse_expr.specs.Read.{read};
+ghost use Rattle.sc_parse_expr.specs.Reading as spec;
+
+use crate::cursor::Cursor;
+use crate::found::{Found, Operand, Phrase, Wanted};
+use crate::grammar::Grammar;
+use crate::stop::Stop;
+use crate::type_names::TypeNames;
+use sc_base::{List, Pos};
+use sc_tree::Punct;
+use sc_tree::expr::{Expr, Place};
+use sc_tree::grammar::Level;
+use sc_tree::op::Step;
+use std::alloc::Global;
+
+impl<
+    't,
+    F: Fn(Global, &TypeNames, &mut Cursor<'_>, usize, Wanted) -> Result<Found<Phrase>, Stop>,
+> Grammar<'t, F> {
+    /// An operand with an index behind it.
+    #[tactic(auto, unfolding(crate::specs::Reading::indexed))]
+    fn indexed(
+        &self,
+        tokens: &mut Cursor<'_>,
+        begin: Pos,
+        a: Found<Operand>,
+    ) -> Result<Found<Operand>, Stop>
+        requires { Nests self.now.limit (F.pre self.now.inner) (F.post self.now.inner) }
+        ensures { Gives (spec.indexed self.now.types.now self.now.limit (below self.now.types.now self.now.limit) begin (read a.it a.height tokens.old)) result tokens.new }
+    {
+        let place = Place {
+            token: tokens.first_pos(),
+            first: begin,
+        };
+        tokens.advance();
+        let b = self.inner_expr(tokens, Level::Whole)?;
+        tokens.pass_right_bracket()?;
+        let height = a.height.max(b.height);
+        self.operand(Expr::Index(a.it.tree, b.it.tree, place), true, height)
+    }
+
+    /// Arguments with commas between, at least one.
+    fn some_arguments(&self, tokens: &mut Cursor<'_>) -> Result<Found<List<Expr>>, Stop>
+        requires { Nests self.now.limit (F.pre self.now.inner) (F.post self.now.inner) }
+        ensures { Gives (some_arguments self.now.types.now self.now.limit (below self.now.types.now self.now.limit) tokens.old) result tokens.new }
+    {
+        let mut all = List::new(self.alloc);
+        let mut height = 0;
+        for _turn in 0..tokens.len() {
+            let found = self.inner_expr(tokens, Level::Assignment)?;
+            all.push(found.it.tree.into_inner())?;
+            height = height.max(found.height);
+            if !tokens.is_comma() {
+                return Ok(Found { it: all, height });
+            }
+            tokens.advance();
+        }
+        Err(Stop::Not)
+    }
+
+    /// What stands between the brackets of a call.
+    #[tactic(auto, unfolding(crate::specs::Reading::arguments))]
+    fn arguments(&self, tokens: &mut Cursor<'_>) -> Result<Found<List<Expr>>, Stop>
+        requires { Nests self.now.limit (F.pre self.now.inner) (F.post self.now.inner) }
+        ensures { Gives (spec.arguments self.now.types.now self.now.limit (below self.now.types.now self.now.limit) tokens.old) result tokens.new }
+    {
+        if tokens.is_right_paren() {
+            return Ok(Found {
+                it: List::new(self.alloc),
+                height: 0,
+            });
+        }
+        self.some_arguments(tokens)
+    }
+
+    /// An operand that is called.
+    #[tactic(auto, unfolding(crate::specs::Reading::calling))]
+    fn calling(
+        &self,
+        tokens: &mut Cursor<'_>,
+        begin: Pos,
+        a: Found<Operand>,
+    ) -> Result<Found<Operand>, Stop>
+        requires { Nests self.now.limit (F.pre self.now.inner) (F.post self.now.inner) }
+        ensures { Gives (spec.calling self.now.types.now self.now.limit (below self.now.types.now self.now.limit) begin (read a.it a.height tokens.old)) result tokens.new }
+    {
+        let place = Place {
+            token: tokens.first_pos(),
+            first: begin,
+        };
+        tokens.advance();
+        let b = self.arguments(tokens)?;
+        tokens.pass_right_paren()?;
+        let height = a.height.max(b.height);
+        self.operand(Expr::Call(a.it.tree, b.it, place), true, height)
+    }
+
+    /// An operand with a field behind it.
+    #[tactic(auto, unfolding(crate::specs::Reading::fielded))]
+    fn fielded(
+        &self,
+        tokens: &mut Cursor<'_>,
+        begin: Pos,
+        arrow: bool,
+        a: Found<Operand>,
+    ) -> Result<Found<Operand>, Stop>
+        ensures { Gives (spec.fielded self.now.types.now self.now.limit (below self.now.types.now self.now.limit) begin arrow (read a.it a.height tokens.old)) result tokens.new }
+    {
+        tokens.advance();
+        let Some(word) = tokens.word() else {
+            return Err(Stop::Not);
+        };
+        let place = Place {
+            token: tokens.first_pos(),
+            first: begin,
+        };
+        tokens.advance();
+        self.operand(Expr::Field(a.it.tree, word, arrow, place), true, a.height)
+    }
+
+    /// An operand with `++` or `--` behind it.
+    #[tactic(auto, unfolding(crate::specs::Reading::stepped))]
+    fn stepped(
+        &self,
+        tokens: &mut Cursor<'_>,
+        begin: Pos,
+        by: Step,
+        a: Found<Operand>,
+    ) -> Result<Found<Operand>, Stop>
+        ensures { Gives (spec.stepped self.now.types.now self.now.limit (below self.now.types.now self.now.limit) begin by (read a.it a.height tokens.old)) result tokens.new }
+    {
+        let place = Place {
+            token: tokens.first_pos(),
+            first: begin,
+        };
+        tokens.advance();
+        self.operand(Expr::PostInc(by, a.it.tree, place), true, a.height)
+    }
+
+    /// An operand with the first of what stands behind it.
+    fn suffixed(
+        &self,
+        tokens: &mut Cursor<'_>,
+        begin: Pos,
+        a: Found<Operand>,
+    ) -> Result<Found<Operand>, Stop>
+        requires { Nests self.now.limit (F.pre self.now.inner) (F.post self.now.inner) }
+        ensures { Gives (one_suffix self.now.types.now self.now.limit (below self.now.types.now self.now.limit) begin (suffix (front tokens.old)) (read a.it a.height tokens.old)) result tokens.new }
+    {
+        match tokens.front() {
+            Some(Punct::LeftBracket) => self.indexed(tokens, begin, a),
+            Some(Punct::LeftParen) => self.calling(tokens, begin, a),
+            Some(Punct::Dot) => self.fielded(tokens, begin, false, a),
+            Some(Punct::Arrow) => self.fielded(tokens, begin, true, a),
+            Some(Punct::PlusPlus) => self.stepped(tokens, begin, Step::Up, a),
+            Some(Punct::MinusMinus) => self.stepped(tokens, begin, Step::Down, a),
+            _ => Err(Stop::Not),
+        }
+    }
+
+    /// An operand with all that stands behind it.
+    fn suffixes(
+        &self,
+        tokens: &mut Cursor<'_>,
+        begin: Pos,
+        first: Found<Operand>,
+    ) -> Result<Found<Operand>, Stop>
+        requires { Nests self.now.limit (F.pre self.now.inner) (F.post self.now.inner) }
+        ensures { Gives (spec.suffixes self.now.types.now self.now.limit (below self.now.types.now self.now.limit) self.now.limit begin (read first.it first.height tokens.old)) result tokens.new }
+    {
+        let mut a = first;
+        for _turn in 0..self.limit {
+            if !tokens.has_suffix() {
+                return Ok(a);
+            }
+            a = self.suffixed(tokens, begin, a)?;
+        }
+        if tokens.has_suffix() {
+            return Err(Stop::Not);
+        }
+        Ok(a)
+    }
+
+    #[tactic(auto, unfolding(crate::specs::Reading::postfix))]
+    pub(crate) fn postfix(&self, tokens: &mut Cursor<'_>) -> Result<Found<Operand>, Stop>
+        requires { Nests self.now.limit (F.pre self.now.inner) (F.post self.now.inner) }
+        ensures { Gives (spec.postfix self.now.types.now self.now.limit (below self.now.types.now self.now.limit) tokens.old) result tokens.new }
+    {
+        let begin = tokens.first_pos();
+        let a = self.primary(tokens)?;
+        self.suffixes(tokens, begin, a)
+    }
+}
