@@ -56,6 +56,11 @@ abbrev pub front_string : List Token → Option StrToken
 front_string [] = None
 front_string (t ∷ ts) = string_of t.kind
 
+-- what the first token is
+abbrev pub front_kind : List Token → Option Kind
+front_kind [] = None
+front_kind (t ∷ ts) = Some t.kind
+
 -- the tokens behind the first
 abbrev pub behind : List Token → List Token
 behind [] = []

@@ -59,6 +59,16 @@ impl<'a> Cursor<'a> {
         }
     }
 
+    /// What the first token is.
+    pub fn kind(&self) -> Option<Kind>
+        ensures { result ≡ spec.front_kind self.now }
+    {
+        match self.left {
+            [] => None,
+            [first, ..] => Some(first.kind),
+        }
+    }
+
     /// The place of the first token, and one that no token has where there is none.
     pub fn first_pos(&self) -> Pos
         ensures { result ≡ first_pos self.now }

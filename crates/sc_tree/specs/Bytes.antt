@@ -1,5 +1,5 @@
 -- The classes of bytes that tokens are made of (C11 5.2.1, 6.4).
-use Rattle.std.specs.Prelude.{ℕ, Bool, not, ◌==◌, ◌&&◌, ◌||◌}
+use Rattle.std.specs.Prelude.{ℕ, Bool, not, ◌==◌, ◌||◌}
 use Rattle.std.specs.Char.{is_ascii_alphabetic, is_ascii_alphanumeric}
 use Rattle.std.specs.Int.{is_in_range}
 

@@ -5,7 +5,7 @@
 --
 -- `types` are the typedef names declared before. They decide the grammar: a typedef name is never an
 -- expression, and never the name of a variable, a parameter or a function.
-use Rattle.std.specs.Prelude.{◌≡◌, ℕ, zero, suc, max, Bool, true, false, ◌&&◌, List, [], ◌∷◌, ◌++◌, Option, Some, None, ℤ, if◌then◌else◌}
+use Rattle.std.specs.Prelude.{◌≡◌, ℕ, suc, max, Bool, true, false, ◌&&◌, List, [], ◌∷◌, ◌++◌, Option, Some, None, ℤ, if◌then◌else◌}
 use Rattle.sc_base.specs.declared.pos.Pos.{Pos}
 use Rattle.sc_base.specs.declared.pos.NameId.{NameId}
 use Rattle.sc_tree.specs.declared.token.Token.{Token}
@@ -26,10 +26,10 @@ use Rattle.sc_tree.specs.declared.expr.Expr.TheVariants as e
 use Rattle.sc_tree.specs.declared.expr.Storage.{Storage}
 use Rattle.sc_tree.specs.declared.expr.Head.{Head, roll-Head}
 use Rattle.sc_tree.specs.declared.expr.Base.TheVariants as base
-use Rattle.sc_tree.specs.declared.expr.Aggregate.{Aggregate, roll-Aggregate}
+use Rattle.sc_tree.specs.declared.expr.Aggregate.{roll-Aggregate}
 use Rattle.sc_tree.specs.declared.expr.Member.{Member, roll-Member}
 use Rattle.sc_tree.specs.declared.expr.Part.{Part, roll-Part}
-use Rattle.sc_tree.specs.declared.expr.EnumSpec.{EnumSpec, roll-EnumSpec}
+use Rattle.sc_tree.specs.declared.expr.EnumSpec.{roll-EnumSpec}
 use Rattle.sc_tree.specs.declared.expr.Enumerator.{Enumerator, roll-Enumerator}
 use Rattle.sc_tree.specs.declared.expr.Declarator.{Declarator}
 use Rattle.sc_tree.specs.declared.expr.Declarator.TheVariants as d
@@ -46,7 +46,7 @@ use Rattle.sc_tree.specs.declared.grammar.Piece.{Piece}
 use Rattle.sc_tree.specs.declared.grammar.Piece.TheVariants as piece
 use Rattle.sc_tree.specs.declared.grammar.Gathered.{Gathered}
 use Rattle.sc_tree.specs.declared.grammar.Specified.{Specified}
-use Rattle.sc_tree.specs.Operators.{Binding, binding, binary, unary, step, assign, field}
+use Rattle.sc_tree.specs.Operators.{binding, binary, unary, step, assign, field}
 use Rattle.sc_tree.specs.TypeWords.{storage_word, type_word}
 use Rattle.sc_tree.specs.Specifiers.{no_pieces, with_pieces, finished}
 use Rattle.sc_tree.specs.Tokens.{token, word, punct, reserved, first_pos, at, after, is_type}
@@ -196,23 +196,23 @@ mutual
     -- C11 6.7.2.1
     a_record : (w : Reserved) (u : Bool) (tag : NameId) (p q : Pos) → record_word w ≡ Some u
         → APiece types 0 (piece.Whole (base.Struct (roll-Aggregate (record { pos = q; union = u; tag = Some tag; body = None }))) form.NoBody)
-            (reserved w p ∷ word tag q ∷ [])
+        (reserved w p ∷ word tag q ∷ [])
     a_record_body : {h : ℕ} {ms : List Member} {s : List Token} (w : Reserved) (u : Bool) (p q o : Pos) → record_word w ≡ Some u → Members types h ms s
         → APiece types (suc h) (piece.Whole (base.Struct (roll-Aggregate (record { pos = p; union = u; tag = None; body = Some ms }))) form.Untagged)
-            (reserved w p ∷ punct sign.LeftBrace q ∷ (s ++ punct sign.RightBrace o ∷ []))
+        (reserved w p ∷ punct sign.LeftBrace q ∷ (s ++ punct sign.RightBrace o ∷ []))
     a_record_whole : {h : ℕ} {ms : List Member} {s : List Token} (w : Reserved) (u : Bool) (tag : NameId) (p q o v : Pos) → record_word w ≡ Some u → Members types h ms s
         → APiece types (suc h) (piece.Whole (base.Struct (roll-Aggregate (record { pos = q; union = u; tag = Some tag; body = Some ms }))) form.WithBody)
-            (reserved w p ∷ word tag q ∷ punct sign.LeftBrace o ∷ (s ++ punct sign.RightBrace v ∷ []))
+        (reserved w p ∷ word tag q ∷ punct sign.LeftBrace o ∷ (s ++ punct sign.RightBrace v ∷ []))
     -- C11 6.7.2.2
     an_enum : (tag : NameId) (p q : Pos)
         → APiece types 0 (piece.Whole (base.Enum (roll-EnumSpec (record { pos = q; tag = Some tag; body = None }))) form.NoBody)
-            (reserved key.Enum p ∷ word tag q ∷ [])
+        (reserved key.Enum p ∷ word tag q ∷ [])
     an_enum_body : {h : ℕ} {xs : List Enumerator} {s : List Token} (p q o : Pos) → Enumerators types h xs s
         → APiece types (suc h) (piece.Whole (base.Enum (roll-EnumSpec (record { pos = p; tag = None; body = Some xs }))) form.WithBody)
-            (reserved key.Enum p ∷ punct sign.LeftBrace q ∷ (s ++ punct sign.RightBrace o ∷ []))
+        (reserved key.Enum p ∷ punct sign.LeftBrace q ∷ (s ++ punct sign.RightBrace o ∷ []))
     an_enum_whole : {h : ℕ} {xs : List Enumerator} {s : List Token} (tag : NameId) (p q o v : Pos) → Enumerators types h xs s
         → APiece types (suc h) (piece.Whole (base.Enum (roll-EnumSpec (record { pos = q; tag = Some tag; body = Some xs }))) form.WithBody)
-            (reserved key.Enum p ∷ word tag q ∷ punct sign.LeftBrace o ∷ (s ++ punct sign.RightBrace v ∷ []))
+        (reserved key.Enum p ∷ word tag q ∷ punct sign.LeftBrace o ∷ (s ++ punct sign.RightBrace v ∷ []))
 
   -- The lines between the braces of a struct or union; there may be none.
   pub data Members (types : List NameId) : ℕ → List Member → List Token → Type 0 where

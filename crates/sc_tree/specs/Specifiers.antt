@@ -1,13 +1,12 @@
 -- What the pieces of specifiers make together (C11 6.7, 6.7.1, 6.7.2).
-use Rattle.std.specs.Prelude.{Bool, true, false, not, ◌&&◌, List, [], ◌∷◌, ◌++◌, Option, Some, None}
+use Rattle.std.specs.Prelude.{Bool, true, false, List, [], ◌∷◌, ◌++◌, Option, Some, None}
 use Rattle.sc_tree.specs.declared.expr.Storage.{Storage}
 use Rattle.sc_tree.specs.declared.expr.Storage.TheVariants as storage
 use Rattle.sc_tree.specs.declared.expr.Base.{Base}
 use Rattle.sc_tree.specs.declared.expr.Base.TheVariants as base
-use Rattle.sc_tree.specs.declared.expr.Specs.{Specs, roll-Specs}
+use Rattle.sc_tree.specs.declared.expr.Specs.{roll-Specs}
 use Rattle.sc_tree.specs.declared.grammar.BodyForm.{BodyForm}
 use Rattle.sc_tree.specs.declared.grammar.BodyForm.TheVariants as form
-use Rattle.sc_tree.specs.declared.grammar.TypeWord.{TypeWord}
 use Rattle.sc_tree.specs.declared.grammar.Piece.{Piece}
 use Rattle.sc_tree.specs.declared.grammar.Piece.TheVariants as piece
 use Rattle.sc_tree.specs.declared.grammar.SoFar.{SoFar}

@@ -1,7 +1,7 @@
 -- Which tokens spell which initialiser, declaration and statement (C11 6.7, 6.7.9, 6.8): one case for each
 -- row of the grammar. Each statement counts one for the height, and so does each pair of braces of an
 -- initialiser; `case` and `default` count nothing.
-use Rattle.std.specs.Prelude.{◌≡◌, ℕ, zero, suc, max, Bool, true, false, List, [], ◌∷◌, ◌++◌, Option, Some, None}
+use Rattle.std.specs.Prelude.{◌≡◌, ℕ, suc, max, Bool, true, false, List, [], ◌∷◌, ◌++◌, Option, Some, None}
 use Rattle.sc_base.specs.declared.pos.Pos.{Pos}
 use Rattle.sc_base.specs.declared.pos.NameId.{NameId}
 use Rattle.sc_tree.specs.declared.token.Token.{Token}
@@ -115,19 +115,19 @@ mutual
         → States types true (suc (max h m)) (stmt.If c x None p) (reserved key.If p ∷ punct sign.LeftParen q ∷ (s ++ punct sign.RightParen o ∷ r))
     an_if_else : {b : Bool} {h m n : ℕ} {c : Expr} {x y : Stmt} {s r u : List Token} (p q o v : Pos) → Spells types Whole h c s → States types false m x r → States types b n y u
         → States types b (suc (max h (max m n))) (stmt.If c x (Some y) p)
-            (reserved key.If p ∷ punct sign.LeftParen q ∷ (s ++ punct sign.RightParen o ∷ (r ++ reserved key.Else v ∷ u)))
+        (reserved key.If p ∷ punct sign.LeftParen q ∷ (s ++ punct sign.RightParen o ∷ (r ++ reserved key.Else v ∷ u)))
     a_while : {b : Bool} {h m : ℕ} {c : Expr} {x : Stmt} {s r : List Token} (p q o : Pos) → Spells types Whole h c s → States types b m x r
         → States types b (suc (max h m)) (stmt.While c x p) (reserved key.While p ∷ punct sign.LeftParen q ∷ (s ++ punct sign.RightParen o ∷ r))
     a_do : {b : Bool} {h m : ℕ} {c : Expr} {x : Stmt} {s r : List Token} (p q o v w : Pos) → States types b h x s → Spells types Whole m c r
         → States types false (suc (max h m)) (stmt.Do x c p)
-            (reserved key.Do p ∷ (s ++ reserved key.While q ∷ punct sign.LeftParen o ∷ (r ++ punct sign.RightParen v ∷ punct sign.Semicolon w ∷ [])))
+        (reserved key.Do p ∷ (s ++ reserved key.While q ∷ punct sign.LeftParen o ∷ (r ++ punct sign.RightParen v ∷ punct sign.Semicolon w ∷ [])))
     a_for : {b : Bool} {h k m n : ℕ} {f : ForStart} {c e : Option Expr} {x : Stmt} {s r u v : List Token} (p q o w : Pos)
         → Starts types h f s → AtMost types k c r → AtMost types m e u → States types b n x v
         → States types b (suc (max h (max k (max m n)))) (stmt.For f c e x p)
-            (reserved key.For p ∷ punct sign.LeftParen q ∷ (s ++ (r ++ punct sign.Semicolon o ∷ (u ++ punct sign.RightParen w ∷ v))))
+        (reserved key.For p ∷ punct sign.LeftParen q ∷ (s ++ (r ++ punct sign.Semicolon o ∷ (u ++ punct sign.RightParen w ∷ v))))
     a_switch : {h m : ℕ} {c : Expr} {xs : List Stmt} {s r : List Token} (p q o v w : Pos) → Spells types Whole h c s → Items types true m xs r
         → States types false (suc (max h m)) (stmt.Switch c xs p w)
-            (reserved key.Switch p ∷ punct sign.LeftParen q ∷ (s ++ punct sign.RightParen o ∷ punct sign.LeftBrace v ∷ (r ++ punct sign.RightBrace w ∷ [])))
+        (reserved key.Switch p ∷ punct sign.LeftParen q ∷ (s ++ punct sign.RightParen o ∷ punct sign.LeftBrace v ∷ (r ++ punct sign.RightBrace w ∷ [])))
     a_goto : (l : NameId) (p q o : Pos) → States types false 1 (stmt.Goto l p) (reserved key.Goto p ∷ word l q ∷ punct sign.Semicolon o ∷ [])
     a_break : (p q : Pos) → States types false 1 (stmt.Break p) (reserved key.Break p ∷ punct sign.Semicolon q ∷ [])
     a_continue : (p q : Pos) → States types false 1 (stmt.Continue p) (reserved key.Continue p ∷ punct sign.Semicolon q ∷ [])

@@ -2,25 +2,22 @@
 --
 -- The typedef names declared before decide the grammar, so each segment is spelled with those that the
 -- segments before it leave. A typedef name holds from the end of its declarator on.
-use Rattle.std.specs.Prelude.{◌≡◌, ◌≤◌, ℕ, zero, suc, max, ◌-◌, Bool, true, false, ◌&&◌, List, [], ◌∷◌, ◌++◌, take, drop, Option, Some, None, if◌then◌else◌}
+use Rattle.std.specs.Prelude.{◌≡◌, ◌≤◌, ℕ, zero, suc, max, ◌-◌, Bool, true, false, List, [], ◌∷◌, ◌++◌, take, drop, Some, None, if◌then◌else◌}
 use Rattle.sc_base.specs.declared.pos.Pos.{Pos}
 use Rattle.sc_base.specs.declared.pos.NameId.{NameId}
 use Rattle.sc_base.specs.declared.skip.Skip.TheVariants.{Grammar}
 use Rattle.sc_tree.specs.declared.token.Token.{Token}
 use Rattle.sc_tree.specs.declared.token.Kind.{Kind}
 use Rattle.sc_tree.specs.declared.token.Kind.TheVariants as k
-use Rattle.sc_tree.specs.declared.token.Punct.{Punct}
 use Rattle.sc_tree.specs.declared.token.Punct.TheVariants as sign
-use Rattle.sc_tree.specs.declared.expr.Expr.{Expr}
 use Rattle.sc_tree.specs.declared.expr.Head.{Head, roll-Head}
-use Rattle.sc_tree.specs.declared.expr.Specs.{Specs, roll-Specs}
+use Rattle.sc_tree.specs.declared.expr.Specs.{roll-Specs}
 use Rattle.sc_tree.specs.declared.expr.Base.TheVariants as base
 use Rattle.sc_tree.specs.declared.expr.Declarator.{Declarator}
 use Rattle.sc_tree.specs.declared.decl.Init.{Init}
 use Rattle.sc_tree.specs.declared.decl.Decl.{Decl}
 use Rattle.sc_tree.specs.declared.decl.InitDeclarator.{InitDeclarator}
 use Rattle.sc_tree.specs.declared.stmt.Stmt.{Stmt}
-use Rattle.sc_tree.specs.declared.stmt.Stmt.TheVariants as stmt
 use Rattle.sc_tree.specs.declared.unit.Segment.{Segment}
 use Rattle.sc_tree.specs.declared.unit.Segment.TheVariants as segment
 use Rattle.sc_tree.specs.declared.unit.Body.TheVariants as body
