@@ -1,4 +1,4 @@
-use Rattle.std.proofs.Common.{◌≡◌, ◌++◌, ◌∷◌, [], Some, None, true, false, refl, sym, ap, ◌∙◌}
+use Rattle.std.proofs.Common.{refl, sym, ◌∙◌}
 use Rattle.sc_parse_expr.specs.Front.{is_right_brace}
 use Rattle.sc_parse_expr.specs.Reading.{enumerator, with_item}
 use Rattle.sc_parse_expr.specs.Nests.{below}

@@ -1,4 +1,4 @@
-use Rattle.std.proofs.Common.{◌≡◌, ◌++◌, ◌∷◌, [], Some, None, true, false, refl, sym, ap, ◌∙◌}
+use Rattle.std.proofs.Common.{◌++◌, ◌∷◌, [], Some, true, refl, sym, ap, ◌∙◌}
 use Rattle.sc_tree.specs.declared.grammar.Naming.TheVariants as naming
 use Rattle.sc_parse_expr.specs.Front.{is_ellipsis}
 use Rattle.sc_parse_expr.specs.Reading.{params, inner_head, enrolled, listed_params}

@@ -4,7 +4,7 @@ use Rattle.sc_parse_expr.specs.Front.{is_ellipsis}
 use Rattle.sc_parse_expr.specs.Reading.{inner_head, enrolled, listed_params}
 use Rattle.sc_parse_expr.specs.Steps.{some_heads}
 use Rattle.sc_parse_expr.specs.Nests.{below}
-use Rattle.sc_parse_expr.proofs.Steps.{commas_then, items_of}
+use Rattle.sc_parse_expr.proofs.Steps.{commas_then}
 use Rattle.sc_parse_expr.proofs.grammar.Grammar.heads.Given as goal
 
 -- what is still to be read gives what all gives

@@ -1,9 +1,9 @@
-use Rattle.std.proofs.Common.{◌≡◌, Some, None, true, false, refl, sym, ◌∙◌}
+use Rattle.std.proofs.Common.{sym, ◌∙◌}
 use Rattle.sc_parse_expr.specs.Front.{is_right_brace}
 use Rattle.sc_parse_expr.specs.Nests.{below}
 use Rattle.sc_parse_expr.specs.Read.{read}
 use Rattle.sc_parse_expr.specs.Reading.{member, with_item}
-use Rattle.sc_parse_expr.proofs.Steps.{many_ended, many_refused, many_next, many_out, passed_on, ord_max_nat}
+use Rattle.sc_parse_expr.proofs.Steps.{many_ended, many_refused, many_next, many_out, passed_on}
 use Rattle.sc_parse_expr.proofs.grammar.Grammar.members.Goals as goal
 
 pub returns-then-is_right_brace : goal.returns-then-is_right_brace

@@ -1,8 +1,8 @@
-use Rattle.std.proofs.Common.{◌≡◌, Some, None, refl, sym, ◌∙◌, arith, ◌+◌, ◌-◌}
+use Rattle.std.proofs.Common.{◌≡◌, arith, ◌+◌}
 use Rattle.sc_parse_expr.specs.Nests.{below}
 use Rattle.sc_parse_expr.specs.Read.{read}
 use Rattle.sc_parse_expr.specs.Reading.{operators}
-use Rattle.sc_parse_expr.proofs.Steps.{operators_none, operators_next, operators_refused, passed_on, ord_max_nat}
+use Rattle.sc_parse_expr.proofs.Steps.{operators_none, operators_next, operators_refused, passed_on}
 use Rattle.sc_parse_expr.proofs.grammar.Grammar.operators.Goals as goal
 
 pub returns-in_err-a : goal.returns-in_err-a

@@ -1,4 +1,4 @@
-use Rattle.std.proofs.Common.{◌≡◌, Some, None, true, false, sym, ◌∙◌}
+use Rattle.std.proofs.Common.{sym, ◌∙◌}
 use Rattle.sc_parse_expr.specs.Nests.{below}
 use Rattle.sc_parse_expr.proofs.Steps.{sequence_loop, loop_stops, loop_refused, loop_next, loop_out, passed_on}
 use Rattle.sc_parse_expr.proofs.grammar.Grammar.sequence.Goals as goal

@@ -1,9 +1,9 @@
-use Rattle.std.proofs.Common.{◌≡◌, ◌++◌, ◌∷◌, [], Some, None, true, false, refl, sym, ap, ◌∙◌}
+use Rattle.std.proofs.Common.{◌++◌, ◌∷◌, [], refl, sym, ap, ◌∙◌}
 use Rattle.sc_tree.specs.declared.grammar.Level.TheVariants.{Assignment}
 use Rattle.sc_parse_expr.specs.Reading.{inner_expr, with_tree, never}
 use Rattle.sc_parse_expr.specs.Nests.{below}
 use Rattle.sc_parse_expr.specs.Read.{read}
-use Rattle.sc_parse_expr.proofs.Steps.{commas_refused, commas_last, commas_ended, commas_next, commas_out, items_of, passed_on, ord_max_nat}
+use Rattle.sc_parse_expr.proofs.Steps.{commas_refused, commas_last, commas_next, commas_out, items_of, passed_on, ord_max_nat}
 use Rattle.sc_parse_expr.proofs.grammar.Grammar.some_arguments.Goals as goal
 
 pub returns-in_err-found : goal.returns-in_err-found

@@ -1,8 +1,8 @@
-use Rattle.std.proofs.Common.{◌≡◌, ◌++◌, ◌∷◌, [], Some, None, true, false, refl, sym, ap, ◌∙◌}
+use Rattle.std.proofs.Common.{refl, sym, ◌∙◌}
 use Rattle.sc_parse_expr.specs.Reading.{part, with_item, never}
 use Rattle.sc_parse_expr.specs.Nests.{below}
 use Rattle.sc_parse_expr.specs.Read.{read}
-use Rattle.sc_parse_expr.proofs.Steps.{commas_refused, commas_last, commas_ended, commas_next, commas_out, items_of, passed_on, ord_max_nat}
+use Rattle.sc_parse_expr.proofs.Steps.{commas_refused, commas_last, commas_next, commas_out, items_of, passed_on, ord_max_nat}
 use Rattle.sc_parse_expr.proofs.grammar.Grammar.some_parts.Goals as goal
 
 pub returns-in_err-found : goal.returns-in_err-found
