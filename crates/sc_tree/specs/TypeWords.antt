@@ -9,7 +9,7 @@ use Rattle.sc_tree.specs.declared.grammar.TypeWord.TheVariants as w
 use Rattle.sc_tree.specs.declared.grammar.MainWord.{MainWord}
 use Rattle.sc_tree.specs.declared.grammar.MainWord.TheVariants as main
 use Rattle.sc_tree.specs.declared.grammar.Length.{Length}
-use Rattle.sc_tree.specs.declared.grammar.Length.TheVariants as length
+use Rattle.sc_tree.specs.declared.grammar.Length.TheVariants as how_long
 use Rattle.sc_tree.specs.declared.grammar.Sign.{Sign}
 use Rattle.sc_tree.specs.declared.grammar.Sign.TheVariants as sign
 use Rattle.sc_tree.specs.declared.grammar.TypeWords.{TypeWords}
@@ -44,7 +44,7 @@ type_word _ = None
 
 -- no word yet
 abbrev pub no_words : TypeWords
-no_words = record { main = None; sign = None; length = length.Plain; int = false }
+no_words = record { main = None; sign = None; length = how_long.Plain; int = false }
 
 abbrev pub with_main : TypeWords → MainWord → Option MainWord → Option TypeWords
 with_main ws m None = Some (record ws { main = Some m })
@@ -55,12 +55,12 @@ with_sign ws g None = Some (record ws { sign = Some g })
 with_sign ws g (Some h) = None
 
 abbrev pub with_short : TypeWords → Length → Option TypeWords
-with_short ws length.Plain = Some (record ws { length = length.Short })
+with_short ws how_long.Plain = Some (record ws { length = how_long.Short })
 with_short ws _ = None
 
 abbrev pub with_long : TypeWords → Length → Option TypeWords
-with_long ws length.Plain = Some (record ws { length = length.Long })
-with_long ws length.Long = Some (record ws { length = length.LongLong })
+with_long ws how_long.Plain = Some (record ws { length = how_long.Long })
+with_long ws how_long.Long = Some (record ws { length = how_long.LongLong })
 with_long ws _ = None
 
 abbrev pub with_int : TypeWords → Bool → Option TypeWords
@@ -78,38 +78,38 @@ with_word ws w.Unsigned = with_sign ws sign.Unsigned ws.sign
 
 -- a main word without `signed`, `unsigned` and `int`
 abbrev pub main_alone : MainWord → Length → Option CType
-main_alone main.Void length.Plain = Some c.Void
-main_alone main.Bool length.Plain = Some c.Bool
-main_alone main.Char length.Plain = Some (c.Int i.Char)
-main_alone main.Float length.Plain = Some (c.Opaque o.Float)
-main_alone main.Double length.Plain = Some (c.Opaque o.Double)
-main_alone main.Double length.Long = Some (c.Opaque o.LongDouble)
-main_alone main.VaList length.Plain = Some (c.Opaque o.VaList)
+main_alone main.Void how_long.Plain = Some c.Void
+main_alone main.Bool how_long.Plain = Some c.Bool
+main_alone main.Char how_long.Plain = Some (c.Int i.Char)
+main_alone main.Float how_long.Plain = Some (c.Opaque o.Float)
+main_alone main.Double how_long.Plain = Some (c.Opaque o.Double)
+main_alone main.Double how_long.Long = Some (c.Opaque o.LongDouble)
+main_alone main.VaList how_long.Plain = Some (c.Opaque o.VaList)
 main_alone _ _ = None
 
 -- a main word with `signed` or `unsigned`
 abbrev pub main_signed : MainWord → Sign → Length → Option CType
-main_signed main.Char sign.Signed length.Plain = Some (c.Int i.SChar)
-main_signed main.Char sign.Unsigned length.Plain = Some (c.Int i.UChar)
+main_signed main.Char sign.Signed how_long.Plain = Some (c.Int i.SChar)
+main_signed main.Char sign.Unsigned how_long.Plain = Some (c.Int i.UChar)
 main_signed _ _ _ = None
 
 abbrev pub signed_kind : Length → IntKind
-signed_kind length.Plain = i.Int
-signed_kind length.Short = i.Short
-signed_kind length.Long = i.Long
-signed_kind length.LongLong = i.LongLong
+signed_kind how_long.Plain = i.Int
+signed_kind how_long.Short = i.Short
+signed_kind how_long.Long = i.Long
+signed_kind how_long.LongLong = i.LongLong
 
 abbrev pub unsigned_kind : Length → IntKind
-unsigned_kind length.Plain = i.UInt
-unsigned_kind length.Short = i.UShort
-unsigned_kind length.Long = i.ULong
-unsigned_kind length.LongLong = i.ULongLong
+unsigned_kind how_long.Plain = i.UInt
+unsigned_kind how_long.Short = i.UShort
+unsigned_kind how_long.Long = i.ULong
+unsigned_kind how_long.LongLong = i.ULongLong
 
 -- no main word: an integer type, if a word is there at all
 abbrev pub without_main : Option Sign → Length → Bool → Option CType
 without_main (Some sign.Unsigned) l n = Some (c.Int (unsigned_kind l))
 without_main (Some sign.Signed) l n = Some (c.Int (signed_kind l))
-without_main None length.Plain false = None
+without_main None how_long.Plain false = None
 without_main None l n = Some (c.Int (signed_kind l))
 
 -- the type that the words name (C11 6.7.2, paragraph 2)
