@@ -104,7 +104,7 @@ module _ (types : List NameId) (below : ℕ) (inner : Parse Init) where
   unfoldable pub braces : Parse Init
   braces ts = if is_right_brace (front ts) then node (suc below) (init.List []) 0 (behind ts)
       else (commas init_item with_item is_right_brace (length ts) [] 0 ts >>= λ xs. taking is_right_brace xs.rest >>= λ rest.
-          node (suc below) (init.List xs.it.items) xs.height rest)
+      node (suc below) (init.List xs.it.items) xs.height rest)
 
   unfoldable pub init_value : Parse Init
   init_value ts = expr_at types (suc below) Assignment ts >>= λ a. Some (read (init.One a.it.tree) a.height a.rest)
