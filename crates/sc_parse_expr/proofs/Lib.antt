@@ -1,6 +1,6 @@
 pub mod Begins
 mod Names
-mod Steps
+pub mod Steps
 mod Spans
 pub mod Tools
 pub mod SoundLists

@@ -6,7 +6,8 @@ use Rattle.std.proofs.lemmas.Cmp.{nat_eq_equiv}
 use Rattle.indexmap.specs.IndexSet.{insert_key}
 use Rattle.sc_base.specs.declared.pos.NameId.{NameId}
 use Rattle.sc_tree.specs.Tokens.{is_type}
-use Rattle.sc_parse_expr.specs.TypeNames.{name_at, with_name}
+use Rattle.sc_tree.specs.Units.{with_type}
+use Rattle.sc_parse_expr.specs.TypeNames.{name_at}
 
 pub is_type_at : (keys : List ℕ) (w : NameId) → is_type (map name_at keys) w ≡ list_any (nat_eq w.at) keys
 is_type_at [] w = refl
@@ -16,7 +17,7 @@ declared_by : (b : Bool) (keys : List ℕ) (w : NameId) → map name_at (if b th
 declared_by true keys w = refl
 declared_by false keys w = map-append name_at keys (w.at ∷ [])
 
-pub name_declared : (keys new : List ℕ) (w : NameId) → new ≡ insert_key nat_eq keys w.at → map name_at new ≡ with_name (map name_at keys) w
+pub name_declared : (keys new : List ℕ) (w : NameId) → new ≡ insert_key nat_eq keys w.at → map name_at new ≡ with_type (map name_at keys) w
 name_declared keys new w is =
     ap (map name_at) is ∙ declared_by (list_any (nat_eq w.at) keys) keys w ∙ ap (λ b. if b then map name_at keys else map name_at keys ++ w ∷ []) (sym (is_type_at keys w))
 

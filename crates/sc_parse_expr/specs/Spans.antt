@@ -1,10 +1,11 @@
 -- What a span of tokens is.
-use Rattle.std.specs.Prelude.{◌≡◌, Bool, true, false, List, [], ◌∷◌, Option, Some, None, if◌then◌else◌}
+use Rattle.std.specs.Prelude.{◌≡◌, List, Option, Some, None, if◌then◌else◌}
 use Rattle.sc_base.specs.declared.pos.NameId.{NameId}
 use Rattle.sc_tree.specs.declared.token.Token.{Token}
 use Rattle.sc_tree.specs.declared.expr.Expr.{Expr}
 use Rattle.sc_tree.specs.declared.grammar.Level.TheVariants.{Whole}
 use Rattle.sc_tree.specs.Trees.{IsExpr}
+use Rattle.sc_tree.specs.Units.{is_empty}
 use Rattle.sc_parse_expr.specs.declared.found.Operand.{Operand}
 use Rattle.sc_parse_expr.specs.declared.span.Parsed.{Parsed}
 use Rattle.sc_parse_expr.specs.declared.span.Parsed.TheVariants.{Tree, Not}
@@ -14,10 +15,6 @@ use Rattle.sc_parse_expr.specs.Read.{Read}
 abbrev pub IsParsed : List NameId → List Token → Parsed Expr → Type 0
 IsParsed types span (Tree t) = IsExpr types Whole span t
 IsParsed types span Not = (t : Expr) → IsExpr types Whole span t → ⊥
-
-abbrev pub is_empty : List Token → Bool
-is_empty [] = true
-is_empty (t ∷ ts) = false
 
 -- the tree that was read where nothing is left
 abbrev pub alone : List Token → Expr → Option Expr

@@ -78,9 +78,9 @@ impl<
             first: begin,
         };
         tokens.advance();
-        let b = self.inner_expr(tokens, Level::Assignment)?;
-        let height = a.height.max(b.height);
-        self.operand(Expr::Assign(op, a.it.tree, b.it.tree, place), false, height)
+        let value = self.inner_expr(tokens, Level::Assignment)?;
+        let height = a.height.max(value.height);
+        self.operand(Expr::Assign(op, a.it.tree, value.it.tree, place), false, height)
     }
 
     #[tactic(auto, unfolding(crate::specs::Reading::assigning))]

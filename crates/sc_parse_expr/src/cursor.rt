@@ -3,7 +3,7 @@
 ghost use Rattle.std.specs.Prelude.{◌≡◌, [], ◌∷◌, length, MatchOption};
 ghost use Rattle.sc_tree.specs.Tokens.{first_pos};
 ghost use Rattle.sc_parse_expr.specs.Front as spec;
-ghost use Rattle.sc_parse_expr.specs.Spans.{is_empty};
+ghost use Rattle.sc_tree.specs.Units.{is_empty};
 
 use sc_base::{NameId, Pos};
 use sc_tree::{Kind, Punct, Reserved, StrToken, Token};

@@ -2,6 +2,7 @@
 
 ghost use Rattle.std.specs.Prelude.{◌≡◌, ◌≤◌, ◌-◌, length, take, drop, IfOk};
 ghost use Rattle.sc_tree.specs.declared.grammar.Level.TheVariants.{Whole};
+ghost use Rattle.sc_tree.specs.Trees.{max_height};
 ghost use Rattle.sc_parse_expr.specs.Reading.{expr_at};
 ghost use Rattle.sc_parse_expr.specs.Spans.{Answers, IsParsed};
 
@@ -29,7 +30,7 @@ pub enum Parsed<T> {
 
 // By the reading function.
 fn all_of(alloc: Global, span: &[Token], types: &TypeNames) -> Result<Parsed<Expr>, OutOfMemory>
-    ensures { IfOk result (Answers (expr_at types.now 128 Whole span.now)) }
+    ensures { IfOk result (Answers (expr_at types.now max_height Whole span.now)) }
 {
     let mut tokens = Cursor::new(span);
     match read_expr(alloc, types, &mut tokens, MAX_HEIGHT, Level::Whole) {

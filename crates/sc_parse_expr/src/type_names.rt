@@ -2,7 +2,7 @@
 
 ghost use Rattle.std.specs.Prelude.{◌≡◌, ◌≤◌, ℕ, [], ◌++◌, ◌∷◌, length, take, OnOk, OnErr};
 ghost use Rattle.sc_tree.specs.Tokens.{is_type};
-ghost use Rattle.sc_parse_expr.specs.TypeNames.{with_name};
+ghost use Rattle.sc_tree.specs.Units.{with_type};
 
 use indexmap::IndexSet;
 use sc_base::{NameId, OutOfMemory};
@@ -53,7 +53,7 @@ impl TypeNames {
     /// One more, which goes behind the others where it is not there yet. Where memory is refused
     /// they stay as they were.
     pub fn declare(&mut self, name: NameId) -> Result<(), OutOfMemory>
-        ensures ok { OnOk result (self.new ≡ with_name self.old name) }
+        ensures ok { OnOk result (self.new ≡ with_type self.old name) }
         ensures err { OnErr result (self.new ≡ self.old) }
     {
         self.places.insert(name.at)?;

@@ -1,6 +1,6 @@
 -- Where the segments of a file end: at a `;` outside all brackets, or at a `}` whose `{` stands outside all
 -- brackets and follows a `)` or begins the segment. Tokens left at the end are a last segment.
-use Rattle.std.specs.Prelude.{ℕ, Bool, true, false, ◌+◌, ◌==◌, ◌&&◌, List, [], ◌∷◌, if◌then◌else◌}
+use Rattle.std.specs.Prelude.{ℕ, Bool, true, false, ◌+◌, ◌==◌, ◌&&◌, ◌<◌, ◌≤◌, List, [], ◌∷◌, if◌then◌else◌}
 use Rattle.sc_tree.specs.declared.token.Token.{Token}
 use Rattle.sc_tree.specs.declared.piece.Bracket.{Bracket}
 use Rattle.sc_tree.specs.declared.piece.Bracket.TheVariants as bracket
@@ -47,3 +47,9 @@ ends_from start at spot (t ∷ ts) =
 
 unfoldable pub ends_of : List Token → List ℕ
 ends_of tokens = ends_from 0 0 first_spot tokens
+
+-- The ends cut that many tokens, from that place on, into segments that are not empty: each is above the one
+-- before it, and none is above the number of tokens.
+abbrev pub Cuts : ℕ → ℕ → List ℕ → Type 0
+Cuts from count [] = Unit
+Cuts from count (end ∷ ends) = (from < end) × (end ≤ count) × Cuts end count ends
