@@ -115,7 +115,7 @@ impl<'a> Cursor<'a> {
     }
 
     /// Goes behind the first token where it was found to be the wanted one.
-    fn pass(&mut self, found: bool) -> Result<(), Stop>
+    pub fn pass(&mut self, found: bool) -> Result<(), Stop>
         ensures { Passes found result self.old self.new }
     {
         if !found {

@@ -11,3 +11,4 @@ pub mod SoundOutline
 pub mod SoundAll
 pub mod Completeness
 pub mod Segments
+mod Loops

@@ -358,9 +358,12 @@ abbrev pub is_function : Core → Bool
 is_function (core.Function w true) = true
 is_function _ = false
 
+abbrev pub head_of : Pos → Specified → Declared → Head
+head_of p f t = roll-Head (record { pos = p; specs = f.specs; declarator = t.declarator })
+
 unfoldable pub function_head : List NameId → Pos → Read Specified → Read Declared → Option Outlined
 function_head types p f t = if is_function t.it.core && is_braced t.rest
-    then Some (outlined (outline.Function (roll-Head (record { pos = p; specs = f.it.specs; declarator = t.it.declarator }))) types t.rest) else None
+    then Some (outlined (outline.Function (head_of p f.it t.it)) types t.rest) else None
 
 unfoldable pub first_declared : List NameId → Pos → Read Specified → Read Declared → Option Outlined
 first_declared types p f t = if is_left_brace (front t.rest) then function_head types p f t

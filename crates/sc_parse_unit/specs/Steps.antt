@@ -1,0 +1,43 @@
+-- What the calls that read a part of a segment give.
+use Rattle.std.specs.Prelude.{◌≡◌, ℕ, length, take, Bool, true, false, List, [], Option, Some, None, Result, Ok, Err}
+use Rattle.sc_base.specs.declared.pos.NameId.{NameId}
+use Rattle.sc_tree.specs.declared.token.Token.{Token}
+use Rattle.sc_tree.specs.declared.decl.InitItem.{InitItem}
+use Rattle.sc_tree.specs.declared.decl.Init.{Init}
+use Rattle.sc_tree.specs.declared.decl.InitDeclarator.{InitDeclarator}
+use Rattle.sc_tree.specs.Tables.{◌>>=◌}
+use Rattle.sc_tree.specs.Units.{Turn, Opens, Closes, Neither}
+use Rattle.sc_parse_expr.specs.declared.stop.Stop.{Stop}
+use Rattle.sc_parse_expr.specs.declared.stop.Stop.TheVariants.{Memory, Not}
+use Rattle.sc_parse_expr.specs.Front.{is_right_brace}
+use Rattle.sc_parse_expr.specs.Read.{read, Parse, commas}
+use Rattle.sc_parse_expr.specs.Reading.{with_item, never}
+use Rattle.sc_parse_unit.specs.declared.found.Outline.{Outline}
+use Rattle.sc_parse_unit.specs.Reading.{init_item, init_declarator, Outlined, outlined}
+
+-- initialisers with commas between, one at least; a comma may end them
+abbrev pub some_items : List NameId → ℕ → Parse Init → Parse (List InitItem)
+some_items types below inner ts = commas (init_item types below inner) with_item is_right_brace (length ts) [] 0 ts >>= λ r. Some (read r.it.items r.height r.rest)
+
+-- declarators with commas between, one at least
+abbrev pub some_declarators : List NameId → ℕ → Parse (List InitDeclarator)
+some_declarators types limit ts = commas (init_declarator types limit) with_item never (length ts) [] 0 ts >>= λ r. Some (read r.it.items r.height r.rest)
+
+abbrev pub is_opening : Turn → Bool
+is_opening Opens = true
+is_opening _ = false
+
+abbrev pub is_closing : Turn → Bool
+is_closing Closes = true
+is_closing _ = false
+
+-- the typedef names that were there stay at the front
+abbrev pub Keeps : List NameId → List NameId → Type 0
+Keeps old new = take (length old) new ≡ old
+
+-- The call gives what the segment is before its body, with the typedef names and the tokens that are left
+-- then, or that it is nothing; where memory is refused it says nothing.
+abbrev pub GivesOutline : Option Outlined → Result Outline Stop → List NameId → List Token → Type 0
+GivesOutline o (Ok x) types left = o ≡ Some (outlined x types left)
+GivesOutline o (Err Not) types left = o ≡ None
+GivesOutline o (Err Memory) types left = Unit

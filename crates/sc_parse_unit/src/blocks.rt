@@ -1,0 +1,163 @@
+// Blocks and `switch`, with the items between their braces (C11 6.8.1, 6.8.2, 6.8.4.2).
+
+ghost use Rattle.std.specs.Prelude.{◌≡◌, ◌-◌};
+ghost use Rattle.sc_parse_expr.specs.Gives.{Gives};
+ghost use Rattle.sc_parse_expr.specs.Front.{front_reserved};
+ghost use Rattle.sc_parse_unit.specs.Nests.{Nests, inner_stmt};
+ghost use Rattle.sc_parse_unit.specs.Reading as spec;
+
+use crate::declarations::read_declaration;
+use crate::fronts;
+use crate::parts::Statements;
+use sc_base::{Boxed, List, Pos};
+use sc_parse_expr::{Cursor, Found, Stop, TypeNames, node, read_expr};
+use sc_tree::Reserved;
+use sc_tree::grammar::Level;
+use sc_tree::stmt::Stmt;
+use std::alloc::Global;
+
+impl<
+    't,
+    F: Fn(Global, &TypeNames, &mut Cursor<'_>, usize) -> Result<Found<Boxed<Stmt>>, Stop>,
+> Statements<'t, F> {
+    /// A declaration among items.
+    #[tactic(auto, unfolding(crate::specs::Reading::local))]
+    fn local(&self, tokens: &mut Cursor<'_>) -> Result<Found<Boxed<Stmt>>, Stop>
+        requires { Nests spec.statement self.now.limit (F.pre self.now.inner) (F.post self.now.inner) }
+        ensures { Gives (spec.local self.now.types.now (self.now.limit - 1) (inner_stmt self.now.types.now self.now.limit) tokens.old) result tokens.new }
+    {
+        let pos = tokens.first_pos();
+        let found = read_declaration(self.alloc, self.types, tokens, self.limit - 1)?;
+        let stmt = Stmt::Decl(found.it.into_inner(), pos);
+        node(self.limit - 1, Boxed::new(self.alloc, stmt)?, found.height)
+    }
+
+    #[tactic(auto, unfolding(crate::specs::Reading::case_item))]
+    fn case_item(&self, tokens: &mut Cursor<'_>) -> Result<Found<Boxed<Stmt>>, Stop>
+        requires { Nests spec.statement self.now.limit (F.pre self.now.inner) (F.post self.now.inner) }
+        ensures { Gives (spec.case_item self.now.types.now (self.now.limit - 1) (inner_stmt self.now.types.now self.now.limit) tokens.old) result tokens.new }
+    {
+        let pos = tokens.first_pos();
+        tokens.advance();
+        let found = read_expr(
+            self.alloc,
+            self.types,
+            tokens,
+            self.limit - 1,
+            Level::Choice,
+        )?;
+        tokens.pass_colon()?;
+        let stmt = Stmt::Case(found.it.tree.into_inner(), pos);
+        Ok(Found {
+            it: Boxed::new(self.alloc, stmt)?,
+            height: found.height,
+        })
+    }
+
+    #[tactic(auto, unfolding(crate::specs::Reading::default_item))]
+    fn default_item(&self, tokens: &mut Cursor<'_>) -> Result<Found<Boxed<Stmt>>, Stop>
+        requires { Nests spec.statement self.now.limit (F.pre self.now.inner) (F.post self.now.inner) }
+        ensures { Gives (spec.default_item self.now.types.now (self.now.limit - 1) (inner_stmt self.now.types.now self.now.limit) tokens.old) result tokens.new }
+    {
+        let pos = tokens.first_pos();
+        tokens.advance();
+        tokens.pass_colon()?;
+        Ok(Found {
+            it: Boxed::new(self.alloc, Stmt::Default(pos))?,
+            height: 0,
+        })
+    }
+
+    /// A declaration or a statement.
+    #[tactic(auto, unfolding(crate::specs::Reading::plain_item))]
+    fn plain_item(&self, tokens: &mut Cursor<'_>) -> Result<Found<Boxed<Stmt>>, Stop>
+        requires { Nests spec.statement self.now.limit (F.pre self.now.inner) (F.post self.now.inner) }
+        ensures { Gives (spec.plain_item self.now.types.now (self.now.limit - 1) (inner_stmt self.now.types.now self.now.limit) tokens.old) result tokens.new }
+    {
+        if tokens.begins_type(self.types) && !fronts::is_label(tokens) {
+            self.local(tokens)
+        } else {
+            self.inner(tokens)
+        }
+    }
+
+    /// An item of a `switch`.
+    #[tactic(auto, unfolding(crate::specs::Reading::marked_item))]
+    fn marked_item(&self, tokens: &mut Cursor<'_>) -> Result<Found<Boxed<Stmt>>, Stop>
+        requires { Nests spec.statement self.now.limit (F.pre self.now.inner) (F.post self.now.inner) }
+        ensures { Gives (spec.marked_item self.now.types.now (self.now.limit - 1) (inner_stmt self.now.types.now self.now.limit) (spec.marker (front_reserved tokens.old)) tokens.old) result tokens.new }
+    {
+        match tokens.reserved() {
+            Some(Reserved::Case) => self.case_item(tokens),
+            Some(Reserved::Default) => self.default_item(tokens),
+            _ => self.plain_item(tokens),
+        }
+    }
+
+    /// An item, of a `switch` where the flag is set.
+    #[tactic(auto, unfolding(crate::specs::Reading::an_item))]
+    fn an_item(&self, tokens: &mut Cursor<'_>, switch: bool) -> Result<Found<Boxed<Stmt>>, Stop>
+        requires { Nests spec.statement self.now.limit (F.pre self.now.inner) (F.post self.now.inner) }
+        ensures { Gives (spec.an_item self.now.types.now (self.now.limit - 1) (inner_stmt self.now.types.now self.now.limit) switch tokens.old) result tokens.new }
+    {
+        if switch {
+            self.marked_item(tokens)
+        } else {
+            self.plain_item(tokens)
+        }
+    }
+
+    /// All items up to the closing brace, which is left.
+    fn items(&self, tokens: &mut Cursor<'_>, switch: bool) -> Result<Found<List<Stmt>>, Stop>
+        requires { Nests spec.statement self.now.limit (F.pre self.now.inner) (F.post self.now.inner) }
+        ensures { Gives (spec.items self.now.types.now (self.now.limit - 1) (inner_stmt self.now.types.now self.now.limit) switch tokens.old) result tokens.new }
+    {
+        let mut all = List::new(self.alloc);
+        let mut height = 0;
+        for _turn in 0..tokens.len() {
+            if tokens.is_right_brace() {
+                return Ok(Found { it: all, height });
+            }
+            let found = self.an_item(tokens, switch)?;
+            all.push(found.it.into_inner())?;
+            height = height.max(found.height);
+        }
+        if !tokens.is_right_brace() {
+            return Err(Stop::Not);
+        }
+        Ok(Found { it: all, height })
+    }
+
+    #[tactic(auto, unfolding(crate::specs::Reading::a_block))]
+    pub(crate) fn a_block(&self, tokens: &mut Cursor<'_>) -> Result<Found<Boxed<Stmt>>, Stop>
+        requires { Nests spec.statement self.now.limit (F.pre self.now.inner) (F.post self.now.inner) }
+        ensures { Gives (spec.a_block self.now.types.now (self.now.limit - 1) (inner_stmt self.now.types.now self.now.limit) tokens.old) result tokens.new }
+    {
+        let opened = tokens.first_pos();
+        tokens.advance();
+        let items = self.items(tokens, false)?;
+        let closed = tokens.first_pos();
+        tokens.advance();
+        self.made(Stmt::Block(items.it, opened, closed), items.height)
+    }
+
+    /// Behind `switch`.
+    #[tactic(auto, unfolding(crate::specs::Reading::a_switch))]
+    pub(crate) fn a_switch(
+        &self,
+        tokens: &mut Cursor<'_>,
+        pos: Pos,
+    ) -> Result<Found<Boxed<Stmt>>, Stop>
+        requires { Nests spec.statement self.now.limit (F.pre self.now.inner) (F.post self.now.inner) }
+        ensures { Gives (spec.a_switch self.now.types.now (self.now.limit - 1) (inner_stmt self.now.types.now self.now.limit) pos tokens.old) result tokens.new }
+    {
+        let c = self.condition(tokens)?;
+        fronts::pass_left_brace(tokens)?;
+        let items = self.items(tokens, true)?;
+        let closed = tokens.first_pos();
+        tokens.advance();
+        let height = c.height.max(items.height);
+        let stmt = Stmt::Switch(c.it.into_inner(), items.it, pos, closed);
+        self.made(stmt, height)
+    }
+}

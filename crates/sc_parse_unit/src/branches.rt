@@ -1,0 +1,104 @@
+// `if`, `while` and `do` (C11 6.8.4.1, 6.8.5).
+
+ghost use Rattle.std.specs.Prelude.{◌≡◌, ◌-◌, []};
+ghost use Rattle.sc_parse_expr.specs.Gives.{Gives};
+ghost use Rattle.sc_parse_expr.specs.Read.{read};
+ghost use Rattle.sc_parse_unit.specs.Nests.{Nests, inner_stmt};
+ghost use Rattle.sc_parse_unit.specs.Reading as spec;
+
+use crate::fronts;
+use crate::parts::Statements;
+use sc_base::{Boxed, Pos};
+use sc_parse_expr::{Cursor, Found, Stop, TypeNames};
+use sc_tree::expr::Expr;
+use sc_tree::stmt::Stmt;
+use std::alloc::Global;
+
+impl<
+    't,
+    F: Fn(Global, &TypeNames, &mut Cursor<'_>, usize) -> Result<Found<Boxed<Stmt>>, Stop>,
+> Statements<'t, F> {
+    /// Behind the first statement of an `if`, before its `else`.
+    #[tactic(auto, unfolding(crate::specs::Reading::if_else))]
+    fn with_else(
+        &self,
+        tokens: &mut Cursor<'_>,
+        pos: Pos,
+        c: Found<Boxed<Expr>>,
+        x: Found<Boxed<Stmt>>,
+    ) -> Result<Found<Boxed<Stmt>>, Stop>
+        requires { Nests spec.statement self.now.limit (F.pre self.now.inner) (F.post self.now.inner) }
+        ensures { Gives (spec.if_else self.now.types.now (self.now.limit - 1) (inner_stmt self.now.types.now self.now.limit) pos (read c.it c.height []) (read x.it x.height tokens.old)) result tokens.new }
+    {
+        tokens.advance();
+        let y = self.inner(tokens)?;
+        let height = c.height.max(x.height.max(y.height));
+        let stmt = Stmt::If(c.it.into_inner(), x.it, Some(y.it), pos);
+        self.made(stmt, height)
+    }
+
+    /// Behind the first statement of an `if`. An `else` there belongs to it.
+    #[tactic(auto, unfolding(crate::specs::Reading::if_rest, crate::specs::Reading::if_else))]
+    fn if_rest(
+        &self,
+        tokens: &mut Cursor<'_>,
+        pos: Pos,
+        c: Found<Boxed<Expr>>,
+        x: Found<Boxed<Stmt>>,
+    ) -> Result<Found<Boxed<Stmt>>, Stop>
+        requires { Nests spec.statement self.now.limit (F.pre self.now.inner) (F.post self.now.inner) }
+        ensures { Gives (spec.if_rest self.now.types.now (self.now.limit - 1) (inner_stmt self.now.types.now self.now.limit) pos (read c.it c.height []) (read x.it x.height tokens.old)) result tokens.new }
+    {
+        if fronts::is_else(tokens) {
+            return self.with_else(tokens, pos, c, x);
+        }
+        let height = c.height.max(x.height);
+        let stmt = Stmt::If(c.it.into_inner(), x.it, None, pos);
+        self.made(stmt, height)
+    }
+
+    /// Behind `if`, which stands at that place.
+    #[tactic(auto, unfolding(crate::specs::Reading::an_if, crate::specs::Reading::if_rest, crate::specs::Reading::if_else))]
+    pub(crate) fn an_if(
+        &self,
+        tokens: &mut Cursor<'_>,
+        pos: Pos,
+    ) -> Result<Found<Boxed<Stmt>>, Stop>
+        requires { Nests spec.statement self.now.limit (F.pre self.now.inner) (F.post self.now.inner) }
+        ensures { Gives (spec.an_if self.now.types.now (self.now.limit - 1) (inner_stmt self.now.types.now self.now.limit) pos tokens.old) result tokens.new }
+    {
+        let c = self.condition(tokens)?;
+        let x = self.inner(tokens)?;
+        self.if_rest(tokens, pos, c, x)
+    }
+
+    /// Behind `while`.
+    #[tactic(auto, unfolding(crate::specs::Reading::a_while))]
+    pub(crate) fn a_while(
+        &self,
+        tokens: &mut Cursor<'_>,
+        pos: Pos,
+    ) -> Result<Found<Boxed<Stmt>>, Stop>
+        requires { Nests spec.statement self.now.limit (F.pre self.now.inner) (F.post self.now.inner) }
+        ensures { Gives (spec.a_while self.now.types.now (self.now.limit - 1) (inner_stmt self.now.types.now self.now.limit) pos tokens.old) result tokens.new }
+    {
+        let c = self.condition(tokens)?;
+        let x = self.inner(tokens)?;
+        let height = c.height.max(x.height);
+        self.made(Stmt::While(c.it.into_inner(), x.it, pos), height)
+    }
+
+    /// Behind `do`.
+    #[tactic(auto, unfolding(crate::specs::Reading::a_do))]
+    pub(crate) fn a_do(&self, tokens: &mut Cursor<'_>, pos: Pos) -> Result<Found<Boxed<Stmt>>, Stop>
+        requires { Nests spec.statement self.now.limit (F.pre self.now.inner) (F.post self.now.inner) }
+        ensures { Gives (spec.a_do self.now.types.now (self.now.limit - 1) (inner_stmt self.now.types.now self.now.limit) pos tokens.old) result tokens.new }
+    {
+        let x = self.inner(tokens)?;
+        fronts::pass_while(tokens)?;
+        let c = self.condition(tokens)?;
+        tokens.pass_semicolon()?;
+        let height = x.height.max(c.height);
+        self.made(Stmt::Do(x.it, c.it.into_inner(), pos), height)
+    }
+}

@@ -1,0 +1,170 @@
+// Statements (C11 6.8): what the first tokens begin, jumps, labels and expressions.
+
+ghost use Rattle.std.specs.Prelude.{◌≡◌, ◌-◌};
+ghost use Rattle.sc_parse_expr.specs.Gives.{Gives};
+ghost use Rattle.sc_parse_expr.specs.Front.{front_reserved};
+ghost use Rattle.sc_parse_unit.specs.Nests.{Nests, inner_stmt};
+ghost use Rattle.sc_parse_unit.specs.Reading as spec;
+
+use crate::fronts;
+use crate::parts::{Statements, unboxed};
+use sc_base::{Boxed, NameId, Pos};
+use sc_parse_expr::{Cursor, Found, Stop, TypeNames};
+use sc_tree::Reserved;
+use sc_tree::stmt::Stmt;
+use std::alloc::Global;
+
+impl<
+    't,
+    F: Fn(Global, &TypeNames, &mut Cursor<'_>, usize) -> Result<Found<Boxed<Stmt>>, Stop>,
+> Statements<'t, F> {
+    #[tactic(auto, unfolding(crate::specs::Reading::a_goto))]
+    fn a_goto(&self, tokens: &mut Cursor<'_>, pos: Pos) -> Result<Found<Boxed<Stmt>>, Stop>
+        requires { Nests spec.statement self.now.limit (F.pre self.now.inner) (F.post self.now.inner) }
+        ensures { Gives (spec.a_goto self.now.types.now (self.now.limit - 1) (inner_stmt self.now.types.now self.now.limit) pos tokens.old) result tokens.new }
+    {
+        let Some(label) = tokens.word() else {
+            return Err(Stop::Not);
+        };
+        tokens.advance();
+        tokens.pass_semicolon()?;
+        self.made(Stmt::Goto(label, pos), 0)
+    }
+
+    #[tactic(auto, unfolding(crate::specs::Reading::a_break))]
+    fn a_break(&self, tokens: &mut Cursor<'_>, pos: Pos) -> Result<Found<Boxed<Stmt>>, Stop>
+        requires { Nests spec.statement self.now.limit (F.pre self.now.inner) (F.post self.now.inner) }
+        ensures { Gives (spec.a_break self.now.types.now (self.now.limit - 1) (inner_stmt self.now.types.now self.now.limit) pos tokens.old) result tokens.new }
+    {
+        tokens.pass_semicolon()?;
+        self.made(Stmt::Break(pos), 0)
+    }
+
+    #[tactic(auto, unfolding(crate::specs::Reading::a_continue))]
+    fn a_continue(&self, tokens: &mut Cursor<'_>, pos: Pos) -> Result<Found<Boxed<Stmt>>, Stop>
+        requires { Nests spec.statement self.now.limit (F.pre self.now.inner) (F.post self.now.inner) }
+        ensures { Gives (spec.a_continue self.now.types.now (self.now.limit - 1) (inner_stmt self.now.types.now self.now.limit) pos tokens.old) result tokens.new }
+    {
+        tokens.pass_semicolon()?;
+        self.made(Stmt::Continue(pos), 0)
+    }
+
+    #[tactic(auto, unfolding(crate::specs::Reading::a_return))]
+    fn a_return(&self, tokens: &mut Cursor<'_>, pos: Pos) -> Result<Found<Boxed<Stmt>>, Stop>
+        requires { Nests spec.statement self.now.limit (F.pre self.now.inner) (F.post self.now.inner) }
+        ensures { Gives (spec.a_return self.now.types.now (self.now.limit - 1) (inner_stmt self.now.types.now self.now.limit) pos tokens.old) result tokens.new }
+    {
+        let found = self.before_semicolon(tokens)?;
+        tokens.pass_semicolon()?;
+        self.made(Stmt::Return(unboxed(found.it), pos), found.height)
+    }
+
+    #[tactic(auto, unfolding(crate::specs::Reading::expression))]
+    fn expression(&self, tokens: &mut Cursor<'_>) -> Result<Found<Boxed<Stmt>>, Stop>
+        requires { Nests spec.statement self.now.limit (F.pre self.now.inner) (F.post self.now.inner) }
+        ensures { Gives (spec.expression self.now.types.now (self.now.limit - 1) (inner_stmt self.now.types.now self.now.limit) tokens.old) result tokens.new }
+    {
+        let pos = tokens.first_pos();
+        let found = self.before_semicolon(tokens)?;
+        tokens.pass_semicolon()?;
+        self.made(Stmt::Expr(unboxed(found.it), pos), found.height)
+    }
+
+    /// A label with its colon, and the statement behind it.
+    #[tactic(auto, unfolding(crate::specs::Reading::a_label))]
+    fn a_label(&self, tokens: &mut Cursor<'_>, label: NameId) -> Result<Found<Boxed<Stmt>>, Stop>
+        requires { Nests spec.statement self.now.limit (F.pre self.now.inner) (F.post self.now.inner) }
+        ensures { Gives (spec.a_label self.now.types.now (self.now.limit - 1) (inner_stmt self.now.types.now self.now.limit) label tokens.old) result tokens.new }
+    {
+        let pos = tokens.first_pos();
+        tokens.advance();
+        tokens.advance();
+        let x = self.inner(tokens)?;
+        self.made(Stmt::Label(label, x.it, pos), x.height)
+    }
+
+    /// By the reserved word at the front.
+    #[tactic(auto, unfolding(crate::specs::Reading::by_keyword))]
+    fn by_keyword(&self, tokens: &mut Cursor<'_>) -> Result<Found<Boxed<Stmt>>, Stop>
+        requires { Nests spec.statement self.now.limit (F.pre self.now.inner) (F.post self.now.inner) }
+        ensures { Gives (spec.by_keyword self.now.types.now (self.now.limit - 1) (inner_stmt self.now.types.now self.now.limit) (spec.keyword (front_reserved tokens.old)) tokens.old) result tokens.new }
+    {
+        let pos = tokens.first_pos();
+        match tokens.reserved() {
+            Some(Reserved::If) => {
+                tokens.advance();
+                self.an_if(tokens, pos)
+            }
+            Some(Reserved::While) => {
+                tokens.advance();
+                self.a_while(tokens, pos)
+            }
+            Some(Reserved::Do) => {
+                tokens.advance();
+                self.a_do(tokens, pos)
+            }
+            Some(Reserved::For) => {
+                tokens.advance();
+                self.a_for(tokens, pos)
+            }
+            Some(Reserved::Switch) => {
+                tokens.advance();
+                self.a_switch(tokens, pos)
+            }
+            Some(Reserved::Goto) => {
+                tokens.advance();
+                self.a_goto(tokens, pos)
+            }
+            Some(Reserved::Break) => {
+                tokens.advance();
+                self.a_break(tokens, pos)
+            }
+            Some(Reserved::Continue) => {
+                tokens.advance();
+                self.a_continue(tokens, pos)
+            }
+            Some(Reserved::Return) => {
+                tokens.advance();
+                self.a_return(tokens, pos)
+            }
+            _ => self.expression(tokens),
+        }
+    }
+
+    /// A statement.
+    #[tactic(auto, unfolding(crate::specs::Reading::statement_by, crate::specs::Reading::by_label))]
+    fn statement(&self, tokens: &mut Cursor<'_>) -> Result<Found<Boxed<Stmt>>, Stop>
+        requires { Nests spec.statement self.now.limit (F.pre self.now.inner) (F.post self.now.inner) }
+        ensures { Gives (spec.statement_by self.now.types.now (self.now.limit - 1) (inner_stmt self.now.types.now self.now.limit) tokens.old) result tokens.new }
+    {
+        if let Some(label) = fronts::label_at(tokens) {
+            return self.a_label(tokens, label);
+        }
+        if tokens.is_left_brace() {
+            return self.a_block(tokens);
+        }
+        self.by_keyword(tokens)
+    }
+}
+
+/// The statement at the front of the tokens, of at most that height, and goes behind it. After a
+/// refusal nothing is known of the tokens that are left.
+pub(crate) fn read_statement(
+    alloc: Global,
+    types: &TypeNames,
+    tokens: &mut Cursor<'_>,
+    limit: usize,
+) -> Result<Found<Boxed<Stmt>>, Stop>
+    ensures { Gives (spec.statement types.now limit tokens.old) result tokens.new }
+{
+    if limit == 0 {
+        return Err(Stop::Not);
+    }
+    Statements {
+        alloc,
+        types,
+        limit,
+        inner: read_statement,
+    }
+    .statement(tokens)
+}
