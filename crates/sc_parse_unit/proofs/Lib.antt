@@ -10,5 +10,5 @@ pub mod SoundStmt
 pub mod SoundOutline
 pub mod SoundAll
 pub mod Completeness
-pub mod Segments
-mod Loops
+pub mod Fitting
+mod Turns

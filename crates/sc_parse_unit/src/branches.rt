@@ -4,6 +4,7 @@ ghost use Rattle.std.specs.Prelude.{◌≡◌, ◌-◌, []};
 ghost use Rattle.sc_parse_expr.specs.Gives.{Gives};
 ghost use Rattle.sc_parse_expr.specs.Read.{read};
 ghost use Rattle.sc_parse_unit.specs.Nests.{Nests, inner_stmt};
+ghost use Rattle.sc_parse_unit.specs.Steps.{do_rest};
 ghost use Rattle.sc_parse_unit.specs.Reading as spec;
 
 use crate::fronts;
@@ -88,6 +89,23 @@ impl<
         self.made(Stmt::While(c.it.into_inner(), x.it, pos), height)
     }
 
+    /// Behind the statement of a `do`.
+    fn do_rest(
+        &self,
+        tokens: &mut Cursor<'_>,
+        pos: Pos,
+        x: Found<Boxed<Stmt>>,
+    ) -> Result<Found<Boxed<Stmt>>, Stop>
+        requires { Nests spec.statement self.now.limit (F.pre self.now.inner) (F.post self.now.inner) }
+        ensures { Gives (do_rest self.now.types.now (self.now.limit - 1) (inner_stmt self.now.types.now self.now.limit) pos (read x.it x.height tokens.old)) result tokens.new }
+    {
+        fronts::pass_while(tokens)?;
+        let c = self.condition(tokens)?;
+        tokens.pass_semicolon()?;
+        let height = x.height.max(c.height);
+        self.made(Stmt::Do(x.it, c.it.into_inner(), pos), height)
+    }
+
     /// Behind `do`.
     #[tactic(auto, unfolding(crate::specs::Reading::a_do))]
     pub(crate) fn a_do(&self, tokens: &mut Cursor<'_>, pos: Pos) -> Result<Found<Boxed<Stmt>>, Stop>
@@ -95,10 +113,6 @@ impl<
         ensures { Gives (spec.a_do self.now.types.now (self.now.limit - 1) (inner_stmt self.now.types.now self.now.limit) pos tokens.old) result tokens.new }
     {
         let x = self.inner(tokens)?;
-        fronts::pass_while(tokens)?;
-        let c = self.condition(tokens)?;
-        tokens.pass_semicolon()?;
-        let height = x.height.max(c.height);
-        self.made(Stmt::Do(x.it, c.it.into_inner(), pos), height)
+        self.do_rest(tokens, pos, x)
     }
 }

@@ -56,13 +56,13 @@ pub fn segments_are_read()
 {}
 
 /// A segment fits one tree, and leaves the typedef names behind it in one way.
-#[tactic(auto, using(crate::proofs::Segments::one_fit))]
+#[tactic(auto, using(crate::proofs::Fitting::one_fit))]
 pub fn one_segment()
     ensures { (types us vs : List NameId) (ts : List Token) (x y : Segment) → Fits types us ts x → Fits types vs ts y → (x ≡ y) × (us ≡ vs) }
 {}
 
 /// A file, cut at any ends, has segments that fit, and only one list of them.
-#[tactic(auto, using(crate::proofs::Segments::some_list, crate::proofs::Segments::one_list))]
+#[tactic(auto, using(crate::proofs::Fitting::some_list, crate::proofs::Fitting::one_list))]
 pub fn one_list_of_segments()
     ensures some { (types : List NameId) (ts : List Token) (from : ℕ) (ends : List ℕ) → (xs : List Segment) × AllFit types ts from ends xs }
     ensures one { (types : List NameId) (ts : List Token) (from : ℕ) (ends : List ℕ) (xs ys : List Segment) → AllFit types ts from ends xs → AllFit types ts from ends ys → xs ≡ ys }

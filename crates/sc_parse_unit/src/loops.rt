@@ -1,15 +1,18 @@
 // `for` (C11 6.8.5.3).
 
-ghost use Rattle.std.specs.Prelude.{◌≡◌, ◌-◌};
+ghost use Rattle.std.specs.Prelude.{◌≡◌, ◌-◌, []};
 ghost use Rattle.sc_parse_expr.specs.Gives.{Gives};
+ghost use Rattle.sc_parse_expr.specs.Read.{read};
 ghost use Rattle.sc_parse_unit.specs.Nests.{Nests, inner_stmt};
+ghost use Rattle.sc_parse_unit.specs.Steps.{for_last, for_rest};
 ghost use Rattle.sc_parse_unit.specs.Reading as spec;
 
 use crate::declarations::read_declaration;
 use crate::fronts;
 use crate::parts::{Statements, unboxed};
-use sc_base::{Boxed, OutOfMemory, Pos};
+use sc_base::{Boxed, Pos};
 use sc_parse_expr::{Cursor, Found, Stop, TypeNames, node};
+use sc_tree::expr::Expr;
 use sc_tree::stmt::{ForStart, Stmt};
 use std::alloc::Global;
 
@@ -62,20 +65,17 @@ impl<
         }
     }
 
-    /// Behind `for`.
-    #[tactic(auto, unfolding(crate::specs::Reading::a_for))]
-    pub(crate) fn a_for(
+    /// Behind the second `;` of a `for`.
+    fn for_last(
         &self,
         tokens: &mut Cursor<'_>,
         pos: Pos,
+        start: Found<Boxed<ForStart>>,
+        test: Found<Option<Boxed<Expr>>>,
     ) -> Result<Found<Boxed<Stmt>>, Stop>
         requires { Nests spec.statement self.now.limit (F.pre self.now.inner) (F.post self.now.inner) }
-        ensures { Gives (spec.a_for self.now.types.now (self.now.limit - 1) (inner_stmt self.now.types.now self.now.limit) pos tokens.old) result tokens.new }
+        ensures { Gives (for_last self.now.types.now (self.now.limit - 1) (inner_stmt self.now.types.now self.now.limit) pos (read start.it start.height []) (read test.it test.height []) tokens.old) result tokens.new }
     {
-        fronts::pass_left_paren(tokens)?;
-        let start = self.for_start(tokens)?;
-        let test = self.before_semicolon(tokens)?;
-        tokens.pass_semicolon()?;
         let step = self.before_right_paren(tokens)?;
         tokens.pass_right_paren()?;
         let x = self.inner(tokens)?;
@@ -88,5 +88,35 @@ impl<
             pos,
         );
         self.made(stmt, height)
+    }
+
+    /// Behind what stands in the first place of a `for`.
+    fn for_rest(
+        &self,
+        tokens: &mut Cursor<'_>,
+        pos: Pos,
+        start: Found<Boxed<ForStart>>,
+    ) -> Result<Found<Boxed<Stmt>>, Stop>
+        requires { Nests spec.statement self.now.limit (F.pre self.now.inner) (F.post self.now.inner) }
+        ensures { Gives (for_rest self.now.types.now (self.now.limit - 1) (inner_stmt self.now.types.now self.now.limit) pos (read start.it start.height tokens.old)) result tokens.new }
+    {
+        let test = self.before_semicolon(tokens)?;
+        tokens.pass_semicolon()?;
+        self.for_last(tokens, pos, start, test)
+    }
+
+    /// Behind `for`.
+    #[tactic(auto, unfolding(crate::specs::Reading::a_for))]
+    pub(crate) fn a_for(
+        &self,
+        tokens: &mut Cursor<'_>,
+        pos: Pos,
+    ) -> Result<Found<Boxed<Stmt>>, Stop>
+        requires { Nests spec.statement self.now.limit (F.pre self.now.inner) (F.post self.now.inner) }
+        ensures { Gives (spec.a_for self.now.types.now (self.now.limit - 1) (inner_stmt self.now.types.now self.now.limit) pos tokens.old) result tokens.new }
+    {
+        fronts::pass_left_paren(tokens)?;
+        let start = self.for_start(tokens)?;
+        self.for_rest(tokens, pos, start)
     }
 }

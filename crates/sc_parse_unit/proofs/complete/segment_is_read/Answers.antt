@@ -1,4 +1,4 @@
-use Rattle.sc_parse_unit.proofs.Segments.{one_segment}
+use Rattle.sc_parse_unit.proofs.Fitting.{one_segment}
 use Rattle.sc_parse_unit.proofs.complete.segment_is_read.Goals as goal
 
 pub returns : goal.returns

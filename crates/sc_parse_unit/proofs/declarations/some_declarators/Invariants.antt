@@ -8,5 +8,5 @@ use Rattle.sc_parse_unit.proofs.declarations.some_declarators.Given as goal
 -- what is still to be read gives what all gives
 abbrev pub invariant-loop-turn : goal.invariant-loop-turn
 invariant-loop-turn l =
-    some_declarators l.types.now l.limit l.fn.tokens
-    ≡ commas_then (init_declarator l.types.now l.limit) with_item never items_of (l._turn-end - l._turn) l.all l.height l.tokens
+    some_declarators l.types l.limit l.fn.tokens
+    ≡ commas_then (init_declarator l.types l.limit) with_item never items_of (l._turn-end - l._turn) l.all l.height l.tokens

@@ -1,6 +1,6 @@
 use Rattle.std.proofs.Common.{◌≡◌, subst, sym, arith}
 use Rattle.sc_parse_expr.specs.Gives.{Gives}
-use Rattle.sc_parse_unit.proofs.Loops.{initialiser_by_limit, initialiser_of_none}
+use Rattle.sc_parse_unit.proofs.Turns.{initialiser_by_limit, initialiser_of_none}
 use Rattle.sc_parse_unit.proofs.initialisers.+read_initialiser.Goals as goal
 
 pub returns-then-limit-eq0 : goal.returns-then-limit-eq0

@@ -1,6 +1,6 @@
 use Rattle.std.proofs.Common.{◌≡◌, subst, sym, arith}
 use Rattle.sc_parse_expr.specs.Gives.{Gives}
-use Rattle.sc_parse_unit.proofs.Loops.{statement_by_limit, statement_of_none}
+use Rattle.sc_parse_unit.proofs.Turns.{statement_by_limit, statement_of_none}
 use Rattle.sc_parse_unit.proofs.statements.+read_statement.Goals as goal
 
 pub returns-then-limit-eq0 : goal.returns-then-limit-eq0

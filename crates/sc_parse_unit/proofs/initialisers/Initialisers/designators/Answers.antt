@@ -1,7 +1,7 @@
 use Rattle.std.proofs.Common.{◌-◌, sym, ◌∙◌}
 use Rattle.sc_parse_expr.specs.Reading.{with_item}
 use Rattle.sc_parse_unit.specs.Reading.{a_designator}
-use Rattle.sc_parse_unit.proofs.Loops.{ends_designators}
+use Rattle.sc_parse_unit.proofs.Turns.{ends_designators, designators_begin}
 use Rattle.sc_parse_expr.specs.Read.{read}
 use Rattle.sc_parse_expr.proofs.Steps.{many_ended, many_refused, many_next, many_out, passed_on}
 use Rattle.sc_parse_unit.proofs.initialisers.Initialisers.designators.Goals as goal
@@ -24,3 +24,6 @@ returns-then-not-is_no_designator g c = many_out (a_designator c.args.self.now.t
 
 pub returns : goal.returns
 returns g c = many_ended (a_designator c.args.self.now.types.now (c.args.self.now.limit - 1)) with_item ends_designators _ c.loop-turn.all c.loop-turn.height c.loop-turn.tokens c.loop-turn.invariant (sym c.is_no_designator-2.ensures ∙ c.if-not-is_no_designator.false)
+
+pub loop-turn-init : goal.loop-turn-init
+loop-turn-init g c = designators_begin c.args.self.now.types.now (c.args.self.now.limit - 1) _ _ c.args.tokens.now c.len-turn-end.ensures c.new-all.ensures

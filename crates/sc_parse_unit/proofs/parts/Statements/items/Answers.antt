@@ -5,7 +5,8 @@ use Rattle.sc_parse_unit.specs.Nests.{inner_stmt}
 use Rattle.sc_parse_unit.specs.Reading.{an_item}
 use Rattle.sc_parse_expr.specs.Read.{read}
 use Rattle.sc_parse_expr.proofs.Steps.{many_ended, many_refused, many_next, many_out, passed_on}
-use Rattle.sc_parse_unit.proofs.blocks.Statements.items.Goals as goal
+use Rattle.sc_parse_unit.proofs.Turns.{items_begin}
+use Rattle.sc_parse_unit.proofs.parts.Statements.items.Goals as goal
 
 pub returns-then-is_right_brace : goal.returns-then-is_right_brace
 returns-then-is_right_brace g c = many_ended (an_item c.args.self.now.types.now (c.args.self.now.limit - 1) (inner_stmt c.args.self.now.types.now c.args.self.now.limit) c.args.switch) with_item is_right_brace _ c.loop-turn.all c.loop-turn.height c.loop-turn.tokens c.loop-turn.invariant (sym c.is_right_brace.ensures ∙ c.if-is_right_brace.true)
@@ -25,3 +26,6 @@ returns-then-not-is_right_brace g c = many_out (an_item c.args.self.now.types.no
 
 pub returns : goal.returns
 returns g c = many_ended (an_item c.args.self.now.types.now (c.args.self.now.limit - 1) (inner_stmt c.args.self.now.types.now c.args.self.now.limit) c.args.switch) with_item is_right_brace _ c.loop-turn.all c.loop-turn.height c.loop-turn.tokens c.loop-turn.invariant (sym c.is_right_brace-2.ensures ∙ c.if-not-is_right_brace.false)
+
+pub loop-turn-init : goal.loop-turn-init
+loop-turn-init g c = items_begin c.args.self.now.types.now (c.args.self.now.limit - 1) (inner_stmt c.args.self.now.types.now c.args.self.now.limit) c.args.switch _ _ c.args.tokens.now c.len-turn-end.ensures c.new-all.ensures

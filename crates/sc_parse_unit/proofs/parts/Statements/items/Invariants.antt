@@ -4,7 +4,7 @@ use Rattle.sc_parse_expr.specs.Read.{many}
 use Rattle.sc_parse_expr.specs.Reading.{with_item}
 use Rattle.sc_parse_unit.specs.Nests.{inner_stmt}
 use Rattle.sc_parse_unit.specs.Reading.{items, an_item}
-use Rattle.sc_parse_unit.proofs.blocks.Statements.items.Given as goal
+use Rattle.sc_parse_unit.proofs.parts.Statements.items.Given as goal
 
 -- what is still to be read gives what all gives
 abbrev pub invariant-loop-turn : goal.invariant-loop-turn
