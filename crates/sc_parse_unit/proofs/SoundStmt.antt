@@ -216,7 +216,7 @@ module _ (types : List NameId) (below : ℕ) (inner : Parse Stmt) (exprs : lower
       (g.a_do (first_pos ts) (first_pos y.rest) (first_pos us) d.end (first_pos c.rest) w.spelled d.spelled)
 
   do_took : (ts : List Token) (x : Read Stmt) → One ts (reserved key.Do (first_pos ts)) (behind ts) → u.a_do types below inner (first_pos ts) (behind ts) ≡ Some x → TakesStmt types (suc below) ts x
-  unfolding u.a_do
+  unfolding u.a_do u.do_rest
   do_took ts x k is =
       let y = bind_some (inner (behind ts)) _ x is in
       let l = bind_some (taking_word is_while y.value.rest) _ x y.gives in
@@ -271,7 +271,7 @@ module _ (types : List NameId) (below : ℕ) (inner : Parse Stmt) (exprs : lower
       (g.a_for (first_pos ts) (first_pos (behind ts)) (first_pos c.rest) (first_pos e.rest) s.spelled a.spelled b.spelled w.spelled) w.closed
 
   for_took : (ts : List Token) (x : Read Stmt) → One ts (reserved key.For (first_pos ts)) (behind ts) → u.a_for types below inner (first_pos ts) (behind ts) ≡ Some x → TakesStmt types (suc below) ts x
-  unfolding u.a_for
+  unfolding u.a_for u.for_rest u.for_last
   for_took ts x k is =
       let o = bind_some (taking is_left_paren (behind ts)) _ x is in
       let f = bind_some (u.for_start types below inner o.value) _ x o.gives in

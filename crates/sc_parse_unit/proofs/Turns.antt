@@ -10,7 +10,7 @@ use Rattle.sc_parse_expr.specs.Front.{is_right_brace}
 use Rattle.sc_parse_expr.specs.Read.{Read, read, Parse, many}
 use Rattle.sc_parse_expr.specs.Reading.{with_item}
 use Rattle.sc_parse_unit.specs.Nests.{inner_init, inner_stmt}
-use Rattle.sc_parse_unit.specs.Reading.{begins_designator, is_no_designator, a_designator, designators, initialiser, initialiser_by, statement, statement_by, items, an_item, Keyword, AnIf, AWhile, ADo, AFor, ASwitch, AGoto, ABreak, AContinue, AReturn, NoKeyword, by_keyword, expression}
+use Rattle.sc_parse_unit.specs.Reading.{begins_designator, is_no_designator, a_designator, designators, initialiser, initialiser_by, statement, statement_by, items, an_item}
 
 -- ---- designators are items up to where none begins
 
@@ -31,30 +31,17 @@ module _ (types : List NameId) (limit : ℕ) where
       (λ a. designators_many n (with_item xs a.it) (max h a.height) a.rest))
 
   pub designators_begin : (n : ℕ) (xs : List Designator) (ts : List Token) → n ≡ length ts → xs ≡ []
-      → designators types limit (length ts) [] 0 ts ≡ many (a_designator types limit) with_item ends_designators n xs 0 ts
-  designators_begin n xs ts all none = designators_many (length ts) [] 0 ts ∙ ap (λ m. many (a_designator types limit) with_item ends_designators m [] 0 ts) (sym all)
-      ∙ ap (λ ys. many (a_designator types limit) with_item ends_designators n ys 0 ts) (sym none)
+      → designators types limit (length ts) [] 0 ts ≡ many (a_designator types limit) with_item ends_designators (n - 0) xs 0 ts
+  designators_begin n xs ts all none = let less : length ts ≡ n - 0 = omega arith in designators_many (length ts) [] 0 ts ∙ ap (λ m. many (a_designator types limit) with_item ends_designators m [] 0 ts) less
+      ∙ ap (λ ys. many (a_designator types limit) with_item ends_designators (n - 0) ys 0 ts) (sym none)
 
 -- ---- items
 
 pub items_begin : (types : List NameId) (below : ℕ) (inner : Parse Stmt) (switch : Bool) (n : ℕ) (xs : List Stmt) (ts : List Token) → n ≡ length ts → xs ≡ []
-    → items types below inner switch ts ≡ many (an_item types below inner switch) with_item is_right_brace n xs 0 ts
+    → items types below inner switch ts ≡ many (an_item types below inner switch) with_item is_right_brace (n - 0) xs 0 ts
 unfolding items
-items_begin types below inner switch n xs ts all none = ap (λ m. many (an_item types below inner switch) with_item is_right_brace m [] 0 ts) (sym all)
-    ∙ ap (λ ys. many (an_item types below inner switch) with_item is_right_brace n ys 0 ts) (sym none)
-
-pub keyword_else : {types : List NameId} {below : ℕ} {inner : Parse Stmt} (ts : List Token) (k : Keyword) → k ≡ NoKeyword → by_keyword types below inner k ts ≡ expression types below inner ts
-unfolding by_keyword
-keyword_else ts NoKeyword none = refl
-keyword_else ts AnIf none = (cc)
-keyword_else ts AWhile none = (cc)
-keyword_else ts ADo none = (cc)
-keyword_else ts AFor none = (cc)
-keyword_else ts ASwitch none = (cc)
-keyword_else ts AGoto none = (cc)
-keyword_else ts ABreak none = (cc)
-keyword_else ts AContinue none = (cc)
-keyword_else ts AReturn none = (cc)
+items_begin types below inner switch n xs ts all none = let less : length ts ≡ n - 0 = omega arith in ap (λ m. many (an_item types below inner switch) with_item is_right_brace m [] 0 ts) less
+    ∙ ap (λ ys. many (an_item types below inner switch) with_item is_right_brace (n - 0) ys 0 ts) (sym none)
 
 -- ---- the knots
 

@@ -230,9 +230,13 @@ module _ (types : List NameId) (below : ℕ) (inner : Parse Stmt) where
   unfoldable pub a_while : Pos → Parse Stmt
   a_while p ts = condition ts >>= λ c. inner c.rest >>= λ x. made (stmt.While c.it x.it p) (max c.height x.height) x.rest
 
-  unfoldable pub a_do : Pos → Parse Stmt
-  a_do p ts = inner ts >>= λ x. taking_word is_while x.rest >>= λ rest. condition rest >>= λ c. taking is_semicolon c.rest >>= λ more.
+  -- behind the statement of a `do`
+  unfoldable pub do_rest : Pos → Read Stmt → Option (Read Stmt)
+  do_rest p x = taking_word is_while x.rest >>= λ rest. condition rest >>= λ c. taking is_semicolon c.rest >>= λ more.
       made (stmt.Do x.it c.it p) (max x.height c.height) more
+
+  unfoldable pub a_do : Pos → Parse Stmt
+  a_do p ts = inner ts >>= λ x. do_rest p x
 
   unfoldable pub for_expr : Parse ForStart
   for_expr ts = expr_at types below Whole ts >>= λ a. taking is_semicolon a.rest >>= λ rest. Some (read (first.Expr a.it.tree) a.height rest)
@@ -243,10 +247,17 @@ module _ (types : List NameId) (below : ℕ) (inner : Parse Stmt) where
   unfoldable pub for_start : Parse ForStart
   for_start ts = if is_semicolon (front ts) then Some (read first.Nothing 0 (behind ts)) else (if begins_type types ts then for_local ts else for_expr ts)
 
-  unfoldable pub a_for : Pos → Parse Stmt
-  a_for p ts = taking is_left_paren ts >>= λ opened. for_start opened >>= λ f. at_most is_semicolon f.rest >>= λ c. taking is_semicolon c.rest >>= λ more.
-      at_most is_right_paren more >>= λ e. taking is_right_paren e.rest >>= λ closed. inner closed >>= λ x.
+  -- behind the second `;` of a `for`
+  unfoldable pub for_last : Pos → Read ForStart → Read (Option Expr) → Parse Stmt
+  for_last p f c ts = at_most is_right_paren ts >>= λ e. taking is_right_paren e.rest >>= λ closed. inner closed >>= λ x.
       made (stmt.For f.it c.it e.it x.it p) (max f.height (max c.height (max e.height x.height))) x.rest
+
+  -- behind what stands in the first place of a `for`
+  unfoldable pub for_rest : Pos → Read ForStart → Option (Read Stmt)
+  for_rest p f = at_most is_semicolon f.rest >>= λ c. taking is_semicolon c.rest >>= λ more. for_last p f c more
+
+  unfoldable pub a_for : Pos → Parse Stmt
+  a_for p ts = taking is_left_paren ts >>= λ opened. for_start opened >>= λ f. for_rest p f
 
   unfoldable pub a_goto : Pos → Parse Stmt
   a_goto p ts = front_word ts >>= λ w. taking is_semicolon (behind ts) >>= λ rest. made (stmt.Goto w p) 0 rest

@@ -4,7 +4,6 @@ ghost use Rattle.std.specs.Prelude.{◌≡◌, ◌-◌, []};
 ghost use Rattle.sc_parse_expr.specs.Gives.{Gives};
 ghost use Rattle.sc_parse_expr.specs.Read.{read};
 ghost use Rattle.sc_parse_unit.specs.Nests.{Nests, inner_stmt};
-ghost use Rattle.sc_parse_unit.specs.Steps.{do_rest};
 ghost use Rattle.sc_parse_unit.specs.Reading as spec;
 
 use crate::fronts;
@@ -90,6 +89,7 @@ impl<
     }
 
     /// Behind the statement of a `do`.
+    #[tactic(auto, unfolding(crate::specs::Reading::do_rest))]
     fn do_rest(
         &self,
         tokens: &mut Cursor<'_>,
@@ -97,7 +97,7 @@ impl<
         x: Found<Boxed<Stmt>>,
     ) -> Result<Found<Boxed<Stmt>>, Stop>
         requires { Nests spec.statement self.now.limit (F.pre self.now.inner) (F.post self.now.inner) }
-        ensures { Gives (do_rest self.now.types.now (self.now.limit - 1) (inner_stmt self.now.types.now self.now.limit) pos (read x.it x.height tokens.old)) result tokens.new }
+        ensures { Gives (spec.do_rest self.now.types.now (self.now.limit - 1) (inner_stmt self.now.types.now self.now.limit) pos (read x.it x.height tokens.old)) result tokens.new }
     {
         fronts::pass_while(tokens)?;
         let c = self.condition(tokens)?;

@@ -1,4 +1,4 @@
-// What is read of a segment before its body.
+// What is read of a segment before its body, and what a statement begins with.
 
 use sc_base::Boxed;
 use sc_tree::decl::Decl;
@@ -10,4 +10,20 @@ pub enum Outline {
     Decl(Boxed<Decl>),
     /// The head of a function. Its body is left to read.
     Function(Boxed<Head>),
+}
+
+/// What the reserved word that a statement begins with says that it is.
+#[derive(Clone, Copy, Debug)]
+pub enum Keyword {
+    If,
+    While,
+    Do,
+    For,
+    Switch,
+    Goto,
+    Break,
+    Continue,
+    Return,
+    /// No word of a statement.
+    Other,
 }

@@ -4,7 +4,9 @@ ghost use Rattle.std.specs.Prelude.{◌≡◌};
 ghost use Rattle.sc_parse_expr.specs.Front.{front, front_reserved, is_equals, is_left_brace, is_left_paren};
 ghost use Rattle.sc_parse_expr.specs.Gives.{Passes};
 ghost use Rattle.sc_parse_unit.specs.Reading as spec;
+ghost use Rattle.sc_parse_unit.specs.Steps.{keyword_of};
 
+use crate::found::Keyword;
 use sc_base::NameId;
 use sc_parse_expr::{Cursor, Stop};
 use sc_tree::{Punct, Reserved};
@@ -84,4 +86,28 @@ pub(crate) fn pass_while(tokens: &mut Cursor<'_>) -> Result<(), Stop>
 {
     let found = is_while(tokens);
     tokens.pass(found)
+}
+
+/// What the reserved word at the front begins.
+pub(crate) fn keyword(tokens: &Cursor<'_>) -> Keyword
+    ensures { keyword_of result ≡ spec.keyword (front_reserved tokens.now) }
+{
+    keyword_by(tokens.reserved())
+}
+
+fn keyword_by(word: Option<Reserved>) -> Keyword
+    ensures { keyword_of result ≡ spec.keyword word }
+{
+    match word {
+        Some(Reserved::If) => Keyword::If,
+        Some(Reserved::While) => Keyword::While,
+        Some(Reserved::Do) => Keyword::Do,
+        Some(Reserved::For) => Keyword::For,
+        Some(Reserved::Switch) => Keyword::Switch,
+        Some(Reserved::Goto) => Keyword::Goto,
+        Some(Reserved::Break) => Keyword::Break,
+        Some(Reserved::Continue) => Keyword::Continue,
+        Some(Reserved::Return) => Keyword::Return,
+        _ => Keyword::Other,
+    }
 }

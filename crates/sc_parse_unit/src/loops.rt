@@ -4,7 +4,6 @@ ghost use Rattle.std.specs.Prelude.{◌≡◌, ◌-◌, []};
 ghost use Rattle.sc_parse_expr.specs.Gives.{Gives};
 ghost use Rattle.sc_parse_expr.specs.Read.{read};
 ghost use Rattle.sc_parse_unit.specs.Nests.{Nests, inner_stmt};
-ghost use Rattle.sc_parse_unit.specs.Steps.{for_last, for_rest};
 ghost use Rattle.sc_parse_unit.specs.Reading as spec;
 
 use crate::declarations::read_declaration;
@@ -66,6 +65,7 @@ impl<
     }
 
     /// Behind the second `;` of a `for`.
+    #[tactic(auto, unfolding(crate::specs::Reading::for_last))]
     fn for_last(
         &self,
         tokens: &mut Cursor<'_>,
@@ -74,7 +74,7 @@ impl<
         test: Found<Option<Boxed<Expr>>>,
     ) -> Result<Found<Boxed<Stmt>>, Stop>
         requires { Nests spec.statement self.now.limit (F.pre self.now.inner) (F.post self.now.inner) }
-        ensures { Gives (for_last self.now.types.now (self.now.limit - 1) (inner_stmt self.now.types.now self.now.limit) pos (read start.it start.height []) (read test.it test.height []) tokens.old) result tokens.new }
+        ensures { Gives (spec.for_last self.now.types.now (self.now.limit - 1) (inner_stmt self.now.types.now self.now.limit) pos (read start.it start.height []) (read test.it test.height []) tokens.old) result tokens.new }
     {
         let step = self.before_right_paren(tokens)?;
         tokens.pass_right_paren()?;
@@ -91,6 +91,7 @@ impl<
     }
 
     /// Behind what stands in the first place of a `for`.
+    #[tactic(auto, unfolding(crate::specs::Reading::for_rest, crate::specs::Reading::for_last))]
     fn for_rest(
         &self,
         tokens: &mut Cursor<'_>,
@@ -98,7 +99,7 @@ impl<
         start: Found<Boxed<ForStart>>,
     ) -> Result<Found<Boxed<Stmt>>, Stop>
         requires { Nests spec.statement self.now.limit (F.pre self.now.inner) (F.post self.now.inner) }
-        ensures { Gives (for_rest self.now.types.now (self.now.limit - 1) (inner_stmt self.now.types.now self.now.limit) pos (read start.it start.height tokens.old)) result tokens.new }
+        ensures { Gives (spec.for_rest self.now.types.now (self.now.limit - 1) (inner_stmt self.now.types.now self.now.limit) pos (read start.it start.height tokens.old)) result tokens.new }
     {
         let test = self.before_semicolon(tokens)?;
         tokens.pass_semicolon()?;

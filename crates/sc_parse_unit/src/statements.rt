@@ -6,11 +6,11 @@ ghost use Rattle.sc_parse_expr.specs.Front.{front_reserved};
 ghost use Rattle.sc_parse_unit.specs.Nests.{Nests, inner_stmt};
 ghost use Rattle.sc_parse_unit.specs.Reading as spec;
 
+use crate::found::Keyword;
 use crate::fronts;
 use crate::parts::{Statements, unboxed};
 use sc_base::{Boxed, NameId, Pos};
 use sc_parse_expr::{Cursor, Found, Stop, TypeNames};
-use sc_tree::Reserved;
 use sc_tree::stmt::Stmt;
 use std::alloc::Global;
 
@@ -90,44 +90,44 @@ impl<
         ensures { Gives (spec.by_keyword self.now.types.now (self.now.limit - 1) (inner_stmt self.now.types.now self.now.limit) (spec.keyword (front_reserved tokens.old)) tokens.old) result tokens.new }
     {
         let pos = tokens.first_pos();
-        match tokens.reserved() {
-            Some(Reserved::If) => {
+        match fronts::keyword(tokens) {
+            Keyword::If => {
                 tokens.advance();
                 self.an_if(tokens, pos)
             }
-            Some(Reserved::While) => {
+            Keyword::While => {
                 tokens.advance();
                 self.a_while(tokens, pos)
             }
-            Some(Reserved::Do) => {
+            Keyword::Do => {
                 tokens.advance();
                 self.a_do(tokens, pos)
             }
-            Some(Reserved::For) => {
+            Keyword::For => {
                 tokens.advance();
                 self.a_for(tokens, pos)
             }
-            Some(Reserved::Switch) => {
+            Keyword::Switch => {
                 tokens.advance();
                 self.a_switch(tokens, pos)
             }
-            Some(Reserved::Goto) => {
+            Keyword::Goto => {
                 tokens.advance();
                 self.a_goto(tokens, pos)
             }
-            Some(Reserved::Break) => {
+            Keyword::Break => {
                 tokens.advance();
                 self.a_break(tokens, pos)
             }
-            Some(Reserved::Continue) => {
+            Keyword::Continue => {
                 tokens.advance();
                 self.a_continue(tokens, pos)
             }
-            Some(Reserved::Return) => {
+            Keyword::Return => {
                 tokens.advance();
                 self.a_return(tokens, pos)
             }
-            _ => self.expression(tokens),
+            Keyword::Other => self.expression(tokens),
         }
     }
 
