@@ -8,3 +8,4 @@ pub mod PlaceProofs
 pub mod ScanProofs
 pub mod RemovalProofs
 pub mod LawProofs
+pub mod CutProofs

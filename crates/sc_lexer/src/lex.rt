@@ -1,8 +1,9 @@
 // The tokens and segments of a file.
 #![tactic(auto)]
 
-ghost use Rattle.std.specs.Prelude.{◌≡◌, ◌+◌, ◌-◌, ◌^◌, ◌<◌, length};
+ghost use Rattle.std.specs.Prelude.{◌≡◌, ◌+◌, ◌-◌, ◌^◌, ◌<◌, IfOk, length};
 ghost use Rattle.sc_tree.specs.Lexed.{lexed};
+ghost use Rattle.sc_tree.specs.Segments.{Cuts};
 ghost use Rattle.sc_lexer.specs.Answers.{Answers, Grow};
 
 use crate::answer::LexAnswer;
@@ -17,7 +18,7 @@ use std::alloc::Global;
 /// The tokens of the file of that number and the ends of its segments, or the place where it has
 /// none: first a place where nothing begins, then a bracket without its other half. The names of
 /// words go behind those that are there, which stay, whatever the answer is. (C11 6.4.)
-#[tactic(auto, unfolding(sc_tree::specs::Lexed::lexed))]
+#[tactic(auto, using(crate::proofs::CutProofs::ends_cut), unfolding(sc_tree::specs::Lexed::lexed))]
 pub fn tokens(
     alloc: Global,
     names: &mut Names,
@@ -26,6 +27,7 @@ pub fn tokens(
 ) -> Result<Tokens, LexAnswer>
     requires { length names.old + length bytes.now < 2 ^ 32 - 1 }
     ensures answer { Answers file result (lexed names.new file bytes.now) }
+    ensures cut { IfOk result (λ t. Cuts 0 (length t.list) t.ends) }
     ensures names { Grow (length bytes.now) names.old names.new }
 {
     let all = scan(alloc, names, file, bytes)?;
