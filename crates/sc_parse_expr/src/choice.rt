@@ -80,7 +80,11 @@ impl<
         tokens.advance();
         let value = self.inner_expr(tokens, Level::Assignment)?;
         let height = a.height.max(value.height);
-        self.operand(Expr::Assign(op, a.it.tree, value.it.tree, place), false, height)
+        self.operand(
+            Expr::Assign(op, a.it.tree, value.it.tree, place),
+            false,
+            height,
+        )
     }
 
     #[tactic(auto, unfolding(crate::specs::Reading::assigning))]

@@ -252,7 +252,7 @@ module _ (types : List NameId) (known : (limit : ℕ) → below.IsComplete types
 
   state_read : {b : Bool} {h : ℕ} {t : Stmt} {s : List Token} → States types b h t s → h ≤ suc limit → (rest : List Token) → (b ≡ true → is_else (front_reserved rest) ≡ false)
       → statement_by types limit inner (s ++ rest) ≡ Some (read t h rest)
-  unfolding statement_by by_label by_keyword reading.a_block reading.an_if if_rest if_else reading.a_while reading.a_do reading.do_rest reading.a_for reading.for_rest reading.for_last reading.a_switch reading.a_goto reading.a_break reading.a_continue reading.a_return expression at_most reading.a_label
+  unfolding statement_by by_label by_keyword reading.a_block reading.an_if if_rest if_else reading.a_while reading.a_do reading.do_rest reading.do_test reading.a_for reading.for_begin reading.for_rest reading.for_last reading.a_switch reading.a_goto reading.a_break reading.a_continue reading.a_return expression at_most reading.a_label
   state_read (g.a_block {h = h} {xs = xs} {s = s} p q d) low rest closed =
       let ts = punct sign.LeftBrace p ∷ ((s ++ punct sign.RightBrace q ∷ []) ++ rest) in
       unlabelled ts (Some (read (stmt.Block xs p q) (suc h) rest)) (no_word_no_label ts refl)

@@ -12,3 +12,5 @@ pub mod SoundAll
 pub mod Completeness
 pub mod Fitting
 mod Turns
+mod Braces
+mod FileTurns

@@ -216,12 +216,12 @@ module _ (types : List NameId) (below : ℕ) (inner : Parse Stmt) (exprs : lower
       (g.a_do (first_pos ts) (first_pos y.rest) (first_pos us) d.end (first_pos c.rest) w.spelled d.spelled)
 
   do_took : (ts : List Token) (x : Read Stmt) → One ts (reserved key.Do (first_pos ts)) (behind ts) → u.a_do types below inner (first_pos ts) (behind ts) ≡ Some x → TakesStmt types (suc below) ts x
-  unfolding u.a_do u.do_rest
+  unfolding u.a_do u.do_rest u.do_test
   do_took ts x k is =
       let y = bind_some (inner (behind ts)) _ x is in
-      let l = bind_some (taking_word is_while y.value.rest) _ x y.gives in
-      let c = bind_some (u.condition types below inner l.value) _ x l.gives in
-      do_end_took ts l.value y.value c.value k (parts (behind ts) y.value y.is) (taken_while y.value.rest l.value l.is) (condition_took l.value c.value c.is) x c.gives
+      let c = bind_some (u.do_test types below inner y.value.rest) _ x y.gives in
+      let l = bind_some (taking_word is_while y.value.rest) _ c.value c.is in
+      do_end_took ts l.value y.value c.value k (parts (behind ts) y.value y.is) (taken_while y.value.rest l.value l.is) (condition_took l.value c.value l.gives) x c.gives
 
   for_expr_took : (ts : List Token) (f : Read ForStart) → u.for_expr types below inner ts ≡ Some f → TookStart types below ts f
   unfolding u.for_expr
@@ -271,16 +271,16 @@ module _ (types : List NameId) (below : ℕ) (inner : Parse Stmt) (exprs : lower
       (g.a_for (first_pos ts) (first_pos (behind ts)) (first_pos c.rest) (first_pos e.rest) s.spelled a.spelled b.spelled w.spelled) w.closed
 
   for_took : (ts : List Token) (x : Read Stmt) → One ts (reserved key.For (first_pos ts)) (behind ts) → u.a_for types below inner (first_pos ts) (behind ts) ≡ Some x → TakesStmt types (suc below) ts x
-  unfolding u.a_for u.for_rest u.for_last
+  unfolding u.a_for u.for_begin u.for_rest u.for_last
   for_took ts x k is =
-      let o = bind_some (taking is_left_paren (behind ts)) _ x is in
-      let f = bind_some (u.for_start types below inner o.value) _ x o.gives in
+      let f = bind_some (u.for_begin types below inner (behind ts)) _ x is in
+      let o = bind_some (taking is_left_paren (behind ts)) _ f.value f.is in
       let c = bind_some (u.at_most types below inner is_semicolon f.value.rest) _ x f.gives in
       let m = bind_some (taking is_semicolon c.value.rest) _ x c.gives in
       let e = bind_some (u.at_most types below inner is_right_paren m.value) _ x m.gives in
       let opens = taken is_left_paren sign.LeftParen left_paren (behind ts) o.value o.is in
       let middle = taken is_semicolon sign.Semicolon semicolon c.value.rest m.value m.is in
-      for_end_took ts o.value m.value f.value c.value e.value k opens (for_start_took o.value f.value f.is) (at_most_took is_semicolon f.value.rest c.value c.is) middle
+      for_end_took ts o.value m.value f.value c.value e.value k opens (for_start_took o.value f.value o.gives) (at_most_took is_semicolon f.value.rest c.value c.is) middle
       (at_most_took is_right_paren m.value e.value e.is) x e.gives
 
   -- ---- jumps and expressions

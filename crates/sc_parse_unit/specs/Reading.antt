@@ -230,9 +230,13 @@ module _ (types : List NameId) (below : ℕ) (inner : Parse Stmt) where
   unfoldable pub a_while : Pos → Parse Stmt
   a_while p ts = condition ts >>= λ c. inner c.rest >>= λ x. made (stmt.While c.it x.it p) (max c.height x.height) x.rest
 
+  -- `while` and its condition
+  unfoldable pub do_test : Parse Expr
+  do_test ts = taking_word is_while ts >>= λ rest. condition rest
+
   -- behind the statement of a `do`
   unfoldable pub do_rest : Pos → Read Stmt → Option (Read Stmt)
-  do_rest p x = taking_word is_while x.rest >>= λ rest. condition rest >>= λ c. taking is_semicolon c.rest >>= λ more.
+  do_rest p x = do_test x.rest >>= λ c. taking is_semicolon c.rest >>= λ more.
       made (stmt.Do x.it c.it p) (max x.height c.height) more
 
   unfoldable pub a_do : Pos → Parse Stmt
@@ -256,8 +260,11 @@ module _ (types : List NameId) (below : ℕ) (inner : Parse Stmt) where
   unfoldable pub for_rest : Pos → Read ForStart → Option (Read Stmt)
   for_rest p f = at_most is_semicolon f.rest >>= λ c. taking is_semicolon c.rest >>= λ more. for_last p f c more
 
+  unfoldable pub for_begin : Parse ForStart
+  for_begin ts = taking is_left_paren ts >>= λ opened. for_start opened
+
   unfoldable pub a_for : Pos → Parse Stmt
-  a_for p ts = taking is_left_paren ts >>= λ opened. for_start opened >>= λ f. for_rest p f
+  a_for p ts = for_begin ts >>= λ f. for_rest p f
 
   unfoldable pub a_goto : Pos → Parse Stmt
   a_goto p ts = front_word ts >>= λ w. taking is_semicolon (behind ts) >>= λ rest. made (stmt.Goto w p) 0 rest

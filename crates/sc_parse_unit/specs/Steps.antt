@@ -1,5 +1,5 @@
 -- What the calls that read a part of a segment give.
-use Rattle.std.specs.Prelude.{◌≡◌, ℕ, length, take, Bool, true, false, List, [], Option, Some, None, Result, Ok, Err}
+use Rattle.std.specs.Prelude.{◌≡◌, ℕ, length, ◌++◌, Bool, true, false, List, [], Option, Some, None, Result, Ok, Err}
 use Rattle.sc_base.specs.declared.pos.NameId.{NameId}
 use Rattle.sc_tree.specs.declared.token.Token.{Token}
 use Rattle.sc_tree.specs.declared.decl.InitItem.{InitItem}
@@ -33,9 +33,10 @@ abbrev pub is_closing : Turn → Bool
 is_closing Closes = true
 is_closing _ = false
 
--- the typedef names that were there stay at the front
-abbrev pub Keeps : List NameId → List NameId → Type 0
-Keeps old new = take (length old) new ≡ old
+-- the typedef names that were there stay, and others may stand behind them
+pub record Keeps (old new : List NameId) : Type 0 where
+  pub added : List NameId
+  pub grown : new ≡ old ++ added
 
 -- The call gives what the segment is before its body, with the typedef names and the tokens that are left
 -- then, or that it is nothing; where memory is refused it says nothing.

@@ -88,6 +88,16 @@ impl<
         self.made(Stmt::While(c.it.into_inner(), x.it, pos), height)
     }
 
+    /// `while` and its condition.
+    #[tactic(auto, unfolding(crate::specs::Reading::do_test))]
+    fn do_test(&self, tokens: &mut Cursor<'_>) -> Result<Found<Boxed<Expr>>, Stop>
+        requires { Nests spec.statement self.now.limit (F.pre self.now.inner) (F.post self.now.inner) }
+        ensures { Gives (spec.do_test self.now.types.now (self.now.limit - 1) (inner_stmt self.now.types.now self.now.limit) tokens.old) result tokens.new }
+    {
+        fronts::pass_while(tokens)?;
+        self.condition(tokens)
+    }
+
     /// Behind the statement of a `do`.
     #[tactic(auto, unfolding(crate::specs::Reading::do_rest))]
     fn do_rest(
@@ -99,8 +109,7 @@ impl<
         requires { Nests spec.statement self.now.limit (F.pre self.now.inner) (F.post self.now.inner) }
         ensures { Gives (spec.do_rest self.now.types.now (self.now.limit - 1) (inner_stmt self.now.types.now self.now.limit) pos (read x.it x.height tokens.old)) result tokens.new }
     {
-        fronts::pass_while(tokens)?;
-        let c = self.condition(tokens)?;
+        let c = self.do_test(tokens)?;
         tokens.pass_semicolon()?;
         let height = x.height.max(c.height);
         self.made(Stmt::Do(x.it, c.it.into_inner(), pos), height)

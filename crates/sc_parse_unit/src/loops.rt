@@ -106,6 +106,16 @@ impl<
         self.for_last(tokens, pos, start, test)
     }
 
+    /// The opening bracket, and what stands in the first place.
+    #[tactic(auto, unfolding(crate::specs::Reading::for_begin))]
+    fn for_begin(&self, tokens: &mut Cursor<'_>) -> Result<Found<Boxed<ForStart>>, Stop>
+        requires { Nests spec.statement self.now.limit (F.pre self.now.inner) (F.post self.now.inner) }
+        ensures { Gives (spec.for_begin self.now.types.now (self.now.limit - 1) (inner_stmt self.now.types.now self.now.limit) tokens.old) result tokens.new }
+    {
+        fronts::pass_left_paren(tokens)?;
+        self.for_start(tokens)
+    }
+
     /// Behind `for`.
     #[tactic(auto, unfolding(crate::specs::Reading::a_for))]
     pub(crate) fn a_for(
@@ -116,8 +126,7 @@ impl<
         requires { Nests spec.statement self.now.limit (F.pre self.now.inner) (F.post self.now.inner) }
         ensures { Gives (spec.a_for self.now.types.now (self.now.limit - 1) (inner_stmt self.now.types.now self.now.limit) pos tokens.old) result tokens.new }
     {
-        fronts::pass_left_paren(tokens)?;
-        let start = self.for_start(tokens)?;
+        let start = self.for_begin(tokens)?;
         self.for_rest(tokens, pos, start)
     }
 }
