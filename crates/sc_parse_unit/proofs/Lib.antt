@@ -14,3 +14,4 @@ pub mod Fitting
 mod Turns
 mod Braces
 mod FileTurns
+mod FileSegments

@@ -36,7 +36,7 @@ pub(crate) fn is_braced(tokens: &Cursor<'_>) -> bool
     }
     let count = tokens.len();
     let mut left = tokens.behind();
-    let mut open = 1;
+    let mut open: usize = 1;
     for _turn in 1..count {
         let Some(kind) = left.kind() else {
             return false;
@@ -44,12 +44,15 @@ pub(crate) fn is_braced(tokens: &Cursor<'_>) -> bool
         left.advance();
         if opens(kind) {
             open += 1;
-        } else if closes(kind) {
-            if open == 1 {
-                return left.is_empty();
-            }
-            open -= 1;
+            continue;
         }
+        if !closes(kind) {
+            continue;
+        }
+        if open == 1 {
+            return left.is_empty();
+        }
+        open -= 1;
     }
     false
 }

@@ -37,6 +37,7 @@ fn declare(types: &mut TypeNames, typedef: bool, core: Core) -> Result<(), OutOf
 }
 
 /// A declarator that was read, with the initialiser behind it, where its name is declared before.
+#[tactic(auto, using(crate::proofs::FileTurns::keeps_same, crate::proofs::FileTurns::declared_new_keeps))]
 fn file_declarator(
     alloc: Global,
     types: &mut TypeNames,
@@ -81,6 +82,7 @@ fn more_declarators(
 }
 
 /// The declarators of a declaration, of which the first was read.
+#[tactic(auto, using(crate::proofs::FileTurns::keeps_all), unfolding(crate::specs::Reading::file_declarator, crate::specs::Reading::file_rest))]
 fn declarators(
     alloc: Global,
     types: &mut TypeNames,
@@ -106,7 +108,7 @@ fn declarators(
 }
 
 /// The end of a declaration behind its declarators.
-#[tactic(auto, unfolding(crate::specs::Reading::ended))]
+#[tactic(auto, using(crate::proofs::FileTurns::no_token), unfolding(crate::specs::Reading::ended))]
 fn ended(
     alloc: Global,
     types: &TypeNames,
@@ -166,6 +168,7 @@ fn function_head(
 }
 
 /// Behind the first declarator.
+#[tactic(auto, using(crate::proofs::FileTurns::keeps_same), unfolding(crate::specs::Reading::first_declared))]
 fn first_declared(
     alloc: Global,
     types: &mut TypeNames,
@@ -186,6 +189,7 @@ fn first_declared(
 }
 
 /// Behind the specifiers.
+#[tactic(auto, using(crate::proofs::FileTurns::keeps_same, crate::proofs::FileTurns::no_token), unfolding(crate::specs::Reading::specified, crate::specs::Reading::first_declared, crate::specs::Reading::function_head, crate::specs::Reading::ended))]
 fn specified(
     alloc: Global,
     types: &mut TypeNames,
@@ -225,6 +229,7 @@ fn empty_declaration(alloc: Global, pos: Pos) -> Result<Boxed<Decl>, OutOfMemory
 /// What all the tokens are: a declaration, with its typedef names behind the others then, or the
 /// head of a function, whose body in braces is left. Where they are neither, further names may
 /// stand behind those that were there.
+#[tactic(auto, using(crate::proofs::FileTurns::keeps_same, crate::proofs::FileTurns::no_token), unfolding(crate::specs::Reading::outline_of))]
 pub(crate) fn read_outline(
     alloc: Global,
     types: &mut TypeNames,

@@ -35,6 +35,7 @@ fn body_of(alloc: Global, types: &TypeNames, tokens: &mut Cursor<'_>) -> Result<
 }
 
 /// What the tokens of a segment are, with the typedef names before it, and those behind it.
+#[tactic(auto, using(crate::proofs::FileTurns::keeps_front), unfolding(crate::specs::Reading::segment_of, crate::specs::Reading::segment_by))]
 fn segment_of(
     alloc: Global,
     types: &mut TypeNames,
@@ -71,7 +72,8 @@ pub fn unit(alloc: Global, tokens: &Tokens) -> Result<Unit, OutOfMemory>
     let mut types = TypeNames::new(alloc);
     let mut segments = List::new(alloc);
     let mut from = 0;
-    for &end in tokens.ends.as_slice() {
+    for end in tokens.ends.as_slice() {
+        let end = *end;
         let mut left = Cursor::new(&all[from..end]);
         segments.push(segment_of(alloc, &mut types, &mut left)?)?;
         from = end;
