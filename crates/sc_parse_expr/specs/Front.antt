@@ -14,8 +14,6 @@ use Rattle.sc_tree.specs.declared.op.UnaryOp.{UnaryOp}
 use Rattle.sc_tree.specs.declared.op.AssignOp.{AssignOp}
 use Rattle.sc_tree.specs.declared.op.Step.{Step}
 use Rattle.sc_tree.specs.declared.op.Step.TheVariants as steps
-use Rattle.sc_tree.specs.declared.expr.Storage.{Storage}
-use Rattle.sc_tree.specs.declared.grammar.TypeWord.{TypeWord}
 use Rattle.sc_tree.specs.Operators.{Binding, binary, unary, step, assign}
 use Rattle.sc_tree.specs.TypeWords.{storage_word, type_word}
 use Rattle.sc_tree.specs.Tokens.{is_type}

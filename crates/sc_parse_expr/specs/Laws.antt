@@ -1,12 +1,10 @@
 -- The laws that tie the reading to the grammar: what is read is spelled, and what is spelled is read,
 -- whatever follows it that does not go on with it.
-use Rattle.std.specs.Prelude.{◌≡◌, ◌≤◌, ℕ, zero, suc, nat_le, Bool, true, false, not, ◌&&◌, ◌||◌, List, [], ◌∷◌, ◌++◌, Option, Some, None, if◌then◌else◌}
+use Rattle.std.specs.Prelude.{◌≡◌, ◌≤◌, ℕ, suc, nat_le, Bool, true, false, not, ◌&&◌, ◌||◌, List, [], ◌∷◌, ◌++◌, Option, Some, None}
 use Rattle.sc_base.specs.declared.pos.NameId.{NameId}
 use Rattle.sc_tree.specs.declared.token.Token.{Token}
 use Rattle.sc_tree.specs.declared.token.Kind.{Kind}
 use Rattle.sc_tree.specs.declared.token.Kind.TheVariants as k
-use Rattle.sc_tree.specs.declared.token.Punct.{Punct}
-use Rattle.sc_tree.specs.declared.token.Reserved.{Reserved}
 use Rattle.sc_tree.specs.declared.expr.Expr.{Expr}
 use Rattle.sc_tree.specs.declared.expr.Declarator.{Declarator}
 use Rattle.sc_tree.specs.declared.grammar.Level.{Level}
@@ -20,7 +18,7 @@ use Rattle.sc_tree.specs.Tokens.{is_type}
 use Rattle.sc_tree.specs.Grammar.{Spells, Specifies, Declares}
 use Rattle.sc_parse_expr.specs.declared.found.Operand.{Operand}
 use Rattle.sc_parse_expr.specs.declared.found.Declared.{Declared}
-use Rattle.sc_parse_expr.specs.Front.{front, front_word, front_reserved, front_string, is_left_paren, is_left_brace, is_star, is_question, is_comma, is_some, begins_piece, begins_type, unary_at, step_at, assign_at, is_sizeof, Suffix, Indexing, Calling, Fielding, Stepping, NoSuffix, suffix}
+use Rattle.sc_parse_expr.specs.Front.{front, front_word, front_reserved, front_string, is_left_paren, is_left_brace, is_star, is_question, is_comma, is_some, begins_piece, begins_type, unary_at, step_at, assign_at, is_sizeof, Suffix, Indexing, Calling, NoSuffix, suffix}
 use Rattle.sc_parse_expr.specs.Read.{Read, read}
 use Rattle.sc_parse_expr.specs.Reading.{operand, declared, expr_at, specs_at, declarator_at}
 

@@ -1,5 +1,5 @@
 -- What reading at the front of tokens gives, and lists that are read item by item.
-use Rattle.std.specs.Prelude.{ℕ, zero, suc, max, nat_lt, Bool, true, false, List, [], ◌∷◌, ◌++◌, Option, Some, None, if◌then◌else◌}
+use Rattle.std.specs.Prelude.{ℕ, zero, suc, max, nat_lt, Bool, true, false, List, Option, Some, None, if◌then◌else◌}
 use Rattle.sc_tree.specs.declared.token.Token.{Token}
 use Rattle.sc_tree.specs.declared.token.Punct.{Punct}
 use Rattle.sc_tree.specs.Tables.{◌>>=◌}

@@ -1,14 +1,13 @@
 -- The reading of expressions, specifiers and declarators at the front of tokens, with a limit on the
 -- height of the tree. It goes by the tokens at the front alone and never back. What it reads, and that it
 -- reads all that is spelled, the laws say against `sc_tree/specs/Grammar.antt`.
-use Rattle.std.specs.Prelude.{◌≡◌, ℕ, zero, suc, max, length, Bool, true, false, not, ◌&&◌, ◌||◌, List, [], ◌∷◌, ◌++◌, Option, Some, None, if◌then◌else◌}
+use Rattle.std.specs.Prelude.{ℕ, zero, suc, max, length, Bool, true, false, not, ◌&&◌, ◌||◌, List, [], ◌∷◌, ◌++◌, Option, Some, None, if◌then◌else◌}
 use Rattle.sc_base.specs.declared.pos.Pos.{Pos}
 use Rattle.sc_base.specs.declared.pos.NameId.{NameId}
 use Rattle.sc_tree.specs.declared.token.Token.{Token}
 use Rattle.sc_tree.specs.declared.token.Kind.{Kind}
 use Rattle.sc_tree.specs.declared.token.Kind.TheVariants as k
 use Rattle.sc_tree.specs.declared.token.Punct.{Punct}
-use Rattle.sc_tree.specs.declared.token.Punct.TheVariants as sign
 use Rattle.sc_tree.specs.declared.token.Reserved.{Reserved}
 use Rattle.sc_tree.specs.declared.token.StrToken.{StrToken}
 use Rattle.sc_tree.specs.declared.op.BinaryOp.{BinaryOp}
@@ -22,10 +21,10 @@ use Rattle.sc_tree.specs.declared.expr.Storage.{Storage}
 use Rattle.sc_tree.specs.declared.expr.Head.{Head, roll-Head}
 use Rattle.sc_tree.specs.declared.expr.Specs.{Specs}
 use Rattle.sc_tree.specs.declared.expr.Base.TheVariants as base
-use Rattle.sc_tree.specs.declared.expr.Aggregate.{Aggregate, roll-Aggregate}
+use Rattle.sc_tree.specs.declared.expr.Aggregate.{roll-Aggregate}
 use Rattle.sc_tree.specs.declared.expr.Member.{Member, roll-Member}
 use Rattle.sc_tree.specs.declared.expr.Part.{Part, roll-Part}
-use Rattle.sc_tree.specs.declared.expr.EnumSpec.{EnumSpec, roll-EnumSpec}
+use Rattle.sc_tree.specs.declared.expr.EnumSpec.{roll-EnumSpec}
 use Rattle.sc_tree.specs.declared.expr.Enumerator.{Enumerator, roll-Enumerator}
 use Rattle.sc_tree.specs.declared.expr.Declarator.{Declarator}
 use Rattle.sc_tree.specs.declared.expr.Declarator.TheVariants as d
@@ -41,7 +40,7 @@ use Rattle.sc_tree.specs.declared.grammar.TypeWord.{TypeWord}
 use Rattle.sc_tree.specs.declared.grammar.Piece.{Piece}
 use Rattle.sc_tree.specs.declared.grammar.Piece.TheVariants as piece
 use Rattle.sc_tree.specs.declared.grammar.SoFar.{SoFar}
-use Rattle.sc_tree.specs.declared.grammar.SoFar.TheVariants.{Untyped, Words, Typed}
+use Rattle.sc_tree.specs.declared.grammar.SoFar.TheVariants.{Untyped}
 use Rattle.sc_tree.specs.declared.grammar.Gathered.{Gathered}
 use Rattle.sc_tree.specs.declared.grammar.Specified.{Specified}
 use Rattle.sc_tree.specs.Tables.{◌>>=◌}
@@ -56,7 +55,7 @@ use Rattle.sc_parse_expr.specs.declared.found.Phrase.TheVariants as phrase
 use Rattle.sc_parse_expr.specs.declared.found.Operand.{Operand}
 use Rattle.sc_parse_expr.specs.declared.found.Declared.{Declared}
 use Rattle.sc_parse_expr.specs.declared.found.Headed.{Headed}
-use Rattle.sc_parse_expr.specs.Front.{punct_of, word_of, string_of, front, front_word, front_reserved, front_string, behind, is_left_paren, is_right_paren, is_right_bracket, is_left_brace, is_right_brace, is_comma, is_colon, is_question, is_semicolon, is_star, is_equals, is_ellipsis, is_void_key, is_sizeof, is_enum, begins_type, binary_at, unary_at, step_at, assign_at, Suffix, Indexing, Calling, Fielding, Stepping, NoSuffix, suffix}
+use Rattle.sc_parse_expr.specs.Front.{string_of, front, front_word, front_reserved, behind, is_left_paren, is_right_paren, is_right_bracket, is_left_brace, is_right_brace, is_comma, is_colon, is_question, is_semicolon, is_star, is_equals, is_ellipsis, is_void_key, is_sizeof, is_enum, begins_type, binary_at, unary_at, step_at, assign_at, Suffix, Indexing, Calling, Fielding, Stepping, NoSuffix, suffix}
 use Rattle.sc_parse_expr.specs.Read.{Read, read, Parse, node, taking, Listed, commas, many}
 
 -- ---- what is kept of what was read

@@ -2,7 +2,6 @@
 use Rattle.std.specs.Prelude.{ℕ, length, Bool, true, false, List, [], Option, Some, None}
 use Rattle.sc_base.specs.declared.pos.Pos.{Pos}
 use Rattle.sc_base.specs.declared.pos.NameId.{NameId}
-use Rattle.sc_tree.specs.declared.token.Token.{Token}
 use Rattle.sc_tree.specs.declared.expr.Expr.{Expr}
 use Rattle.sc_tree.specs.declared.expr.Part.{Part}
 use Rattle.sc_tree.specs.declared.expr.Enumerator.{Enumerator}
