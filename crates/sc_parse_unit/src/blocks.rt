@@ -151,13 +151,13 @@ impl<
         requires { Nests spec.statement self.now.limit (F.pre self.now.inner) (F.post self.now.inner) }
         ensures { Gives (spec.a_switch self.now.types.now (self.now.limit - 1) (inner_stmt self.now.types.now self.now.limit) pos tokens.old) result tokens.new }
     {
-        let c = self.condition(tokens)?;
+        let test = self.condition(tokens)?;
         fronts::pass_left_brace(tokens)?;
         let items = self.items(tokens, true)?;
         let closed = tokens.first_pos();
         tokens.advance();
-        let height = c.height.max(items.height);
-        let stmt = Stmt::Switch(c.it.into_inner(), items.it, pos, closed);
+        let height = test.height.max(items.height);
+        let stmt = Stmt::Switch(test.it.into_inner(), items.it, pos, closed);
         self.made(stmt, height)
     }
 }

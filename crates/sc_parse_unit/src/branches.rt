@@ -24,16 +24,16 @@ impl<
         &self,
         tokens: &mut Cursor<'_>,
         pos: Pos,
-        c: Found<Boxed<Expr>>,
-        x: Found<Boxed<Stmt>>,
+        test: Found<Boxed<Expr>>,
+        then: Found<Boxed<Stmt>>,
     ) -> Result<Found<Boxed<Stmt>>, Stop>
         requires { Nests spec.statement self.now.limit (F.pre self.now.inner) (F.post self.now.inner) }
-        ensures { Gives (spec.if_else self.now.types.now (self.now.limit - 1) (inner_stmt self.now.types.now self.now.limit) pos (read c.it c.height []) (read x.it x.height tokens.old)) result tokens.new }
+        ensures { Gives (spec.if_else self.now.types.now (self.now.limit - 1) (inner_stmt self.now.types.now self.now.limit) pos (read test.it test.height []) (read then.it then.height tokens.old)) result tokens.new }
     {
         tokens.advance();
-        let y = self.inner(tokens)?;
-        let height = c.height.max(x.height.max(y.height));
-        let stmt = Stmt::If(c.it.into_inner(), x.it, Some(y.it), pos);
+        let otherwise = self.inner(tokens)?;
+        let height = test.height.max(then.height.max(otherwise.height));
+        let stmt = Stmt::If(test.it.into_inner(), then.it, Some(otherwise.it), pos);
         self.made(stmt, height)
     }
 
@@ -43,17 +43,17 @@ impl<
         &self,
         tokens: &mut Cursor<'_>,
         pos: Pos,
-        c: Found<Boxed<Expr>>,
-        x: Found<Boxed<Stmt>>,
+        test: Found<Boxed<Expr>>,
+        then: Found<Boxed<Stmt>>,
     ) -> Result<Found<Boxed<Stmt>>, Stop>
         requires { Nests spec.statement self.now.limit (F.pre self.now.inner) (F.post self.now.inner) }
-        ensures { Gives (spec.if_rest self.now.types.now (self.now.limit - 1) (inner_stmt self.now.types.now self.now.limit) pos (read c.it c.height []) (read x.it x.height tokens.old)) result tokens.new }
+        ensures { Gives (spec.if_rest self.now.types.now (self.now.limit - 1) (inner_stmt self.now.types.now self.now.limit) pos (read test.it test.height []) (read then.it then.height tokens.old)) result tokens.new }
     {
         if fronts::is_else(tokens) {
-            return self.with_else(tokens, pos, c, x);
+            return self.with_else(tokens, pos, test, then);
         }
-        let height = c.height.max(x.height);
-        let stmt = Stmt::If(c.it.into_inner(), x.it, None, pos);
+        let height = test.height.max(then.height);
+        let stmt = Stmt::If(test.it.into_inner(), then.it, None, pos);
         self.made(stmt, height)
     }
 
@@ -67,9 +67,9 @@ impl<
         requires { Nests spec.statement self.now.limit (F.pre self.now.inner) (F.post self.now.inner) }
         ensures { Gives (spec.an_if self.now.types.now (self.now.limit - 1) (inner_stmt self.now.types.now self.now.limit) pos tokens.old) result tokens.new }
     {
-        let c = self.condition(tokens)?;
-        let x = self.inner(tokens)?;
-        self.if_rest(tokens, pos, c, x)
+        let test = self.condition(tokens)?;
+        let then = self.inner(tokens)?;
+        self.if_rest(tokens, pos, test, then)
     }
 
     /// Behind `while`.
@@ -82,10 +82,10 @@ impl<
         requires { Nests spec.statement self.now.limit (F.pre self.now.inner) (F.post self.now.inner) }
         ensures { Gives (spec.a_while self.now.types.now (self.now.limit - 1) (inner_stmt self.now.types.now self.now.limit) pos tokens.old) result tokens.new }
     {
-        let c = self.condition(tokens)?;
-        let x = self.inner(tokens)?;
-        let height = c.height.max(x.height);
-        self.made(Stmt::While(c.it.into_inner(), x.it, pos), height)
+        let test = self.condition(tokens)?;
+        let body = self.inner(tokens)?;
+        let height = test.height.max(body.height);
+        self.made(Stmt::While(test.it.into_inner(), body.it, pos), height)
     }
 
     /// `while` and its condition.
@@ -104,15 +104,15 @@ impl<
         &self,
         tokens: &mut Cursor<'_>,
         pos: Pos,
-        x: Found<Boxed<Stmt>>,
+        body: Found<Boxed<Stmt>>,
     ) -> Result<Found<Boxed<Stmt>>, Stop>
         requires { Nests spec.statement self.now.limit (F.pre self.now.inner) (F.post self.now.inner) }
-        ensures { Gives (spec.do_rest self.now.types.now (self.now.limit - 1) (inner_stmt self.now.types.now self.now.limit) pos (read x.it x.height tokens.old)) result tokens.new }
+        ensures { Gives (spec.do_rest self.now.types.now (self.now.limit - 1) (inner_stmt self.now.types.now self.now.limit) pos (read body.it body.height tokens.old)) result tokens.new }
     {
-        let c = self.do_test(tokens)?;
+        let test = self.do_test(tokens)?;
         tokens.pass_semicolon()?;
-        let height = x.height.max(c.height);
-        self.made(Stmt::Do(x.it, c.it.into_inner(), pos), height)
+        let height = body.height.max(test.height);
+        self.made(Stmt::Do(body.it, test.it.into_inner(), pos), height)
     }
 
     /// Behind `do`.
@@ -121,7 +121,7 @@ impl<
         requires { Nests spec.statement self.now.limit (F.pre self.now.inner) (F.post self.now.inner) }
         ensures { Gives (spec.a_do self.now.types.now (self.now.limit - 1) (inner_stmt self.now.types.now self.now.limit) pos tokens.old) result tokens.new }
     {
-        let x = self.inner(tokens)?;
-        self.do_rest(tokens, pos, x)
+        let body = self.inner(tokens)?;
+        self.do_rest(tokens, pos, body)
     }
 }

@@ -27,3 +27,6 @@ pub use segments::unit;
 
 /// The greatest height of a tree.
 const MAX_HEIGHT: usize = 128;
+
+#[cfg(test)]
+mod tests;

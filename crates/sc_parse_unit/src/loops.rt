@@ -78,13 +78,15 @@ impl<
     {
         let step = self.before_right_paren(tokens)?;
         tokens.pass_right_paren()?;
-        let x = self.inner(tokens)?;
-        let height = start.height.max(test.height.max(step.height.max(x.height)));
+        let body = self.inner(tokens)?;
+        let height = start
+            .height
+            .max(test.height.max(step.height.max(body.height)));
         let stmt = Stmt::For(
             start.it.into_inner(),
             unboxed(test.it),
             unboxed(step.it),
-            x.it,
+            body.it,
             pos,
         );
         self.made(stmt, height)

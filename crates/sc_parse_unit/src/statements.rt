@@ -65,9 +65,9 @@ impl<
         ensures { Gives (spec.expression self.now.types.now (self.now.limit - 1) (inner_stmt self.now.types.now self.now.limit) tokens.old) result tokens.new }
     {
         let pos = tokens.first_pos();
-        let found = self.before_semicolon(tokens)?;
+        let value = self.before_semicolon(tokens)?;
         tokens.pass_semicolon()?;
-        self.made(Stmt::Expr(unboxed(found.it), pos), found.height)
+        self.made(Stmt::Expr(unboxed(value.it), pos), value.height)
     }
 
     /// A label with its colon, and the statement behind it.
@@ -79,8 +79,8 @@ impl<
         let pos = tokens.first_pos();
         tokens.advance();
         tokens.advance();
-        let x = self.inner(tokens)?;
-        self.made(Stmt::Label(label, x.it, pos), x.height)
+        let labelled = self.inner(tokens)?;
+        self.made(Stmt::Label(label, labelled.it, pos), labelled.height)
     }
 
     /// By the reserved word at the front.
