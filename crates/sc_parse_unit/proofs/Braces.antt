@@ -1,5 +1,5 @@
 -- Tokens in braces: one that closes a bracket which is not the last.
-use Rattle.std.proofs.Common.{◌≡◌, ℕ, zero, suc, ◌+◌, ◌-◌, ◌≤◌, length, Bool, true, false, List, [], ◌∷◌, Option, Some, None, sym, refl, ap, ◌∙◌, arith}
+use Rattle.std.proofs.Common.{◌≡◌, ℕ, zero, suc, ◌+◌, ◌-◌, ◌≤◌, length, Bool, true, List, [], ◌∷◌, Some, sym, refl, ap, ◌∙◌, arith}
 use Rattle.sc_tree.specs.declared.token.Token.{Token}
 use Rattle.sc_tree.specs.declared.token.Kind.{Kind}
 use Rattle.sc_tree.specs.Units.{Turn, Opens, Closes, Neither, turn_of, is_empty, closes_by, closes}

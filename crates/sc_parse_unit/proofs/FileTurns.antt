@@ -1,5 +1,5 @@
 -- Declarators at file scope, one after the other, and the typedef names that they leave.
-use Rattle.std.proofs.Common.{◌≡◌, ℕ, zero, suc, ◌+◌, ◌-◌, ◌<◌, ◌≤◌, max, length, take, Bool, true, false, List, [], ◌∷◌, ◌++◌, Option, Some, None, if◌then◌else◌, refl, sym, ap, ◌∙◌, append_assoc, arith}
+use Rattle.std.proofs.Common.{◌≡◌, ℕ, suc, ◌+◌, ◌-◌, ◌<◌, ◌≤◌, max, length, take, Bool, true, false, List, [], ◌∷◌, ◌++◌, Option, Some, None, if◌then◌else◌, refl, sym, ap, ◌∙◌, append_assoc, arith}
 use Rattle.std.proofs.lemmas.List.{append-nil}
 use Rattle.std.proofs.Math.Seq.{take-append_seam}
 use Rattle.sc_base.specs.declared.pos.NameId.{NameId}
@@ -11,7 +11,7 @@ use Rattle.sc_tree.specs.declared.grammar.Naming.TheVariants as naming
 use Rattle.sc_tree.specs.Tables.{◌>>=◌}
 use Rattle.sc_tree.specs.Tokens.{is_type}
 use Rattle.sc_tree.specs.Trees.{max_height}
-use Rattle.sc_tree.specs.Units.{with_type, with_core, with_declared, is_empty}
+use Rattle.sc_tree.specs.Units.{with_declared, is_empty}
 use Rattle.sc_parse_expr.specs.declared.found.Declared.{Declared}
 use Rattle.sc_parse_expr.specs.Front.{front, behind, is_comma}
 use Rattle.sc_parse_expr.specs.Read.{Read, read}

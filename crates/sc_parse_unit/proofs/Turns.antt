@@ -1,5 +1,5 @@
 -- The code's loops and recursions beside the functions of the reading.
-use Rattle.std.proofs.Common.{◌≡◌, ℕ, zero, suc, ◌+◌, ◌-◌, ◌<◌, ◌≤◌, max, Bool, true, false, not, List, [], ◌∷◌, ◌++◌, length, take, Option, Some, None, if◌then◌else◌, refl, sym, ap, ◌∙◌, arith}
+use Rattle.std.proofs.Common.{◌≡◌, ℕ, zero, suc, ◌-◌, ◌<◌, max, Bool, not, List, [], length, Option, Some, None, if◌then◌else◌, refl, sym, ap, ◌∙◌, arith}
 use Rattle.sc_base.specs.declared.pos.NameId.{NameId}
 use Rattle.sc_tree.specs.declared.token.Token.{Token}
 use Rattle.sc_tree.specs.declared.token.Punct.{Punct}
@@ -7,7 +7,7 @@ use Rattle.sc_tree.specs.declared.decl.Designator.{Designator}
 use Rattle.sc_tree.specs.declared.stmt.Stmt.{Stmt}
 use Rattle.sc_tree.specs.Tables.{◌>>=◌}
 use Rattle.sc_parse_expr.specs.Front.{is_right_brace}
-use Rattle.sc_parse_expr.specs.Read.{Read, read, Parse, many}
+use Rattle.sc_parse_expr.specs.Read.{read, Parse, many}
 use Rattle.sc_parse_expr.specs.Reading.{with_item}
 use Rattle.sc_parse_unit.specs.Nests.{inner_init, inner_stmt}
 use Rattle.sc_parse_unit.specs.Reading.{begins_designator, is_no_designator, a_designator, designators, initialiser, initialiser_by, statement, statement_by, items, an_item}

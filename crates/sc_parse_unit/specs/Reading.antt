@@ -1,6 +1,6 @@
 -- The reading of initialisers, declarations and statements at the front of tokens, with a limit on the
 -- height of the tree, and of whole segments. It goes by the tokens at the front alone and never back.
-use Rattle.std.specs.Prelude.{◌≡◌, ℕ, zero, suc, max, length, ◌-◌, Bool, true, false, not, ◌&&◌, ◌||◌, List, [], ◌∷◌, ◌++◌, take, drop, Option, Some, None, if◌then◌else◌}
+use Rattle.std.specs.Prelude.{ℕ, zero, suc, max, length, ◌-◌, Bool, true, false, not, ◌&&◌, ◌||◌, List, [], ◌∷◌, take, drop, Option, Some, None, if◌then◌else◌}
 use Rattle.sc_base.specs.declared.pos.Pos.{Pos}
 use Rattle.sc_base.specs.declared.pos.NameId.{NameId}
 use Rattle.sc_base.specs.declared.skip.Skip.TheVariants.{Grammar}
@@ -39,10 +39,9 @@ use Rattle.sc_tree.specs.Tokens.{first_pos}
 use Rattle.sc_tree.specs.Statements.{declaration}
 use Rattle.sc_tree.specs.Trees.{max_height}
 use Rattle.sc_tree.specs.Units.{with_declared, empty_declaration, is_braced, is_empty}
-use Rattle.sc_parse_expr.specs.declared.found.Operand.{Operand}
 use Rattle.sc_parse_expr.specs.declared.found.Declared.{Declared}
 use Rattle.sc_parse_expr.specs.Front.{front, front_word, front_reserved, behind, is_left_paren, is_right_paren, is_left_bracket, is_right_bracket, is_left_brace, is_right_brace, is_comma, is_colon, is_semicolon, is_equals, begins_type}
-use Rattle.sc_parse_expr.specs.Read.{Read, read, Parse, node, taking, Listed, commas, many}
+use Rattle.sc_parse_expr.specs.Read.{Read, read, Parse, node, taking, commas, many}
 use Rattle.sc_parse_expr.specs.Reading.{expr_at, specs_at, declarator_at, with_item, never}
 use Rattle.sc_parse_unit.specs.declared.found.Outline.{Outline}
 use Rattle.sc_parse_unit.specs.declared.found.Outline.TheVariants as outline

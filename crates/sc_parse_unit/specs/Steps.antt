@@ -6,7 +6,7 @@ use Rattle.sc_tree.specs.declared.decl.InitItem.{InitItem}
 use Rattle.sc_tree.specs.declared.decl.Init.{Init}
 use Rattle.sc_tree.specs.declared.decl.InitDeclarator.{InitDeclarator}
 use Rattle.sc_tree.specs.Tables.{◌>>=◌}
-use Rattle.sc_tree.specs.Units.{Turn, Opens, Closes, Neither}
+use Rattle.sc_tree.specs.Units.{Turn, Opens, Closes}
 use Rattle.sc_parse_expr.specs.declared.stop.Stop.{Stop}
 use Rattle.sc_parse_expr.specs.declared.stop.Stop.TheVariants.{Memory, Not}
 use Rattle.sc_parse_expr.specs.Front.{is_right_brace}

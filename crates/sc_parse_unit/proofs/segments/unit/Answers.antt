@@ -1,4 +1,4 @@
-use Rattle.std.proofs.Common.{◌≡◌, ◌-◌, ◌<◌, ◌≤◌, ℕ, List, length, take, drop, get_or, subst, sym, ap, ◌∙◌}
+use Rattle.std.proofs.Common.{◌-◌, ◌<◌, ◌≤◌, ℕ, List, length, take, drop, get_or, subst, ap, ◌∙◌}
 use Rattle.sc_tree.specs.declared.token.Token.{Token}
 use Rattle.sc_parse_unit.proofs.FileSegments.{next_segment, next_cuts, all_read}
 use Rattle.sc_parse_unit.proofs.segments.unit.Goals as goal
