@@ -5,6 +5,9 @@ ghost use Rattle.sat_base.specs.Logic.{LitsBelow};
 
 use crate::{least, occurring};
 use sat_base::{Lit, Plain, Solver};
+use sat_cdcl::Cdcl;
+use std::alloc::Global;
+use std::process::Abort;
 use std::test::Fail;
 
 /// Whether the variables of these literals are below this number.
@@ -14,18 +17,19 @@ fn all_below(lits: &[Lit], vars: usize) -> bool
     lits.iter().all(|lit| lit.var < vars)
 }
 
-#[test]
-fn either_of_two_holds(rt: HostRuntime) -> Result<(), Fail> {
-    let mut solver = Plain::new(rt.alloc());
+/// One of two variables holds, and then the first does not.
+fn either_of_two<R: Abort, S: Solver>(rt: &R, alloc: Global, solver: &mut S) -> Result<(), Fail>
+    requires { S.vars solver.old ≡ 0 }
+{
     let x = solver.fresh()?;
     let y = solver.fresh()?;
     let either = [Lit { var: x, neg: false }, Lit { var: y, neg: false }];
     assert!(rt; all_below(&either, 2));
     solver.add(&either)?;
-    let values = occurring(rt.alloc(), &mut solver, &either)?;
+    let values = occurring(alloc, solver, &either)?;
     assert_eq!(rt; values.as_slice(), [1, 2, 3].as_slice());
     let goal = Lit { var: y, neg: false };
-    let first = least(rt.alloc(), &mut solver, &either, goal)?;
+    let first = least(alloc, solver, &either, goal)?;
     assert_eq!(rt;
         first.ok_or("no model")?.as_slice(),
         [false, true].as_slice()
@@ -34,6 +38,18 @@ fn either_of_two_holds(rt: HostRuntime) -> Result<(), Fail> {
     assert!(rt; all_below(&neither, 2));
     solver.add(&neither)?;
     let other = Lit { var: x, neg: false };
-    assert!(rt; least(rt.alloc(), &mut solver, &either, other)?.is_none());
+    assert!(rt; least(alloc, solver, &either, other)?.is_none());
     Ok(())
+}
+
+#[test]
+fn the_solver_that_splits(rt: HostRuntime) -> Result<(), Fail> {
+    let alloc = rt.alloc();
+    either_of_two(&rt, alloc, &mut Plain::new(alloc))
+}
+
+#[test]
+fn the_solver_that_learns(rt: HostRuntime) -> Result<(), Fail> {
+    let alloc = rt.alloc();
+    either_of_two(&rt, alloc, &mut Cdcl::new(alloc))
 }
