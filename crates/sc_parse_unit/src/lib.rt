@@ -13,7 +13,7 @@ mod braced;
 mod branches;
 pub mod complete;
 mod declarations;
-pub mod found;
+mod found;
 mod fronts;
 mod initialisers;
 mod loops;

@@ -51,27 +51,28 @@ fn all_seen(alloc: Global, text: &str) -> Result<Vec<Shape>, Fail> {
     Ok(all)
 }
 
-const D: Shape = Shape::Decl;
+const DECL: Shape = Shape::Decl;
 
-const F: Shape = Shape::Function;
+const FUNCTION: Shape = Shape::Function;
 
-const X: Shape = Shape::NoSegment(1, 1);
+/// The first segment spells nothing.
+const NOTHING: Shape = Shape::NoSegment(1, 1);
 
 #[test]
 fn declarations(rt: HostRuntime) -> Result<(), Fail> {
     let alloc = rt.alloc();
     for (text, want) in [
         ("", [].as_slice()),
-        (";", [D].as_slice()),
-        ("int x", [X].as_slice()),
-        ("foo bar;", [X].as_slice()),
-        ("static x;", [X].as_slice()),
-        ("long static unsigned static long x;", [D].as_slice()),
-        ("int ***p;", [D].as_slice()),
-        ("int x __attribute__[3];", [D].as_slice()),
-        ("int x __attribute__ const((a));", [X].as_slice()),
-        ("int a[1$];", [X].as_slice()),
-        ("double d=1.5;int x=y;", [D, D].as_slice()),
+        (";", [DECL].as_slice()),
+        ("int x", [NOTHING].as_slice()),
+        ("foo bar;", [NOTHING].as_slice()),
+        ("static x;", [NOTHING].as_slice()),
+        ("long static unsigned static long x;", [DECL].as_slice()),
+        ("int ***p;", [DECL].as_slice()),
+        ("int x __attribute__[3];", [DECL].as_slice()),
+        ("int x __attribute__ const((a));", [NOTHING].as_slice()),
+        ("int a[1$];", [NOTHING].as_slice()),
+        ("double d=1.5;int x=y;", [DECL, DECL].as_slice()),
         ("#define x \\\n foo;", [Shape::NoSegment(2, 2)].as_slice()),
     ] {
         assert_eq!(rt; all_seen(alloc, text)?.as_slice(), want);
@@ -83,20 +84,23 @@ fn declarations(rt: HostRuntime) -> Result<(), Fail> {
 fn initialisers_and_bodies_of_types(rt: HostRuntime) -> Result<(), Fail> {
     let alloc = rt.alloc();
     for (text, want) in [
-        ("int a[2]={1,2,};", [D].as_slice()),
-        ("int a[2]={,};", [X].as_slice()),
-        ("int a[2]={[1]=2};", [D].as_slice()),
-        ("int a[2]={[1]2};", [X].as_slice()),
-        ("int f(void){int x[2]={};return x[1];}", [F].as_slice()),
+        ("int a[2]={1,2,};", [DECL].as_slice()),
+        ("int a[2]={,};", [NOTHING].as_slice()),
+        ("int a[2]={[1]=2};", [DECL].as_slice()),
+        ("int a[2]={[1]2};", [NOTHING].as_slice()),
+        (
+            "int f(void){int x[2]={};return x[1];}",
+            [FUNCTION].as_slice(),
+        ),
         (
             "struct s{};int a[sizeof(struct s)==0?1:-1];",
-            [D, D].as_slice(),
+            [DECL, DECL].as_slice(),
         ),
-        ("enum e{};", [X].as_slice()),
-        ("typedef int T;enum{T};", [D, D].as_slice()),
+        ("enum e{};", [NOTHING].as_slice()),
+        ("typedef int T;enum{T};", [DECL, DECL].as_slice()),
         (
             "void f(void){int x=sizeof(struct{int a;});}",
-            [F].as_slice(),
+            [FUNCTION].as_slice(),
         ),
         (
             "void f(void){struct t{int a;}*x;}",
@@ -112,24 +116,27 @@ fn initialisers_and_bodies_of_types(rt: HostRuntime) -> Result<(), Fail> {
 fn typedef_names(rt: HostRuntime) -> Result<(), Fail> {
     let alloc = rt.alloc();
     for (text, want) in [
-        ("typedef void V;int f(V);", [D, D].as_slice()),
-        ("typedef int T=;int T;", [X, D].as_slice()),
+        ("typedef void V;int f(V);", [DECL, DECL].as_slice()),
+        ("typedef int T=;int T;", [NOTHING, DECL].as_slice()),
         (
             "typedef int T,U[sizeof(T)];U T;",
-            [D, Shape::NoSegment(1, 28)].as_slice(),
+            [DECL, Shape::NoSegment(1, 28)].as_slice(),
         ),
         (
             "typedef int T;int g(int x);int f(int(T));int h(void){return f(g);}",
-            [D, D, D, F].as_slice(),
+            [DECL, DECL, DECL, FUNCTION].as_slice(),
         ),
-        ("typedef int T;void f(void){T:;}", [D, F].as_slice()),
+        (
+            "typedef int T;void f(void){T:;}",
+            [DECL, FUNCTION].as_slice(),
+        ),
         (
             "typedef int T;void f(void){typedef int U;}",
-            [D, Shape::NoBody(1, 27)].as_slice(),
+            [DECL, Shape::NoBody(1, 27)].as_slice(),
         ),
         (
             "struct s{static int a;};int f(extern int x){return(inline int)x;}",
-            [D, F].as_slice(),
+            [DECL, FUNCTION].as_slice(),
         ),
     ] {
         assert_eq!(rt; all_seen(alloc, text)?.as_slice(), want);
@@ -142,9 +149,9 @@ fn functions(rt: HostRuntime) -> Result<(), Fail> {
     let alloc = rt.alloc();
     for (text, want) in [
         ("void f(void){int x;x=1}", [Shape::NoBody(1, 13)].as_slice()),
-        ("int f(int p){return p.x;}", [F].as_slice()),
+        ("int f(int p){return p.x;}", [FUNCTION].as_slice()),
         ("void f(double x){y}", [Shape::NoBody(1, 17)].as_slice()),
-        ("int(*f(void))[3]{return 0;}int x;", [X].as_slice()),
+        ("int(*f(void))[3]{return 0;}int x;", [NOTHING].as_slice()),
         (
             "void f(int a){if(a)int x;}",
             [Shape::NoBody(1, 14)].as_slice(),
@@ -152,16 +159,19 @@ fn functions(rt: HostRuntime) -> Result<(), Fail> {
         ("void f(int a){case 1:;}", [Shape::NoBody(1, 14)].as_slice()),
         (
             "void f(int a){switch(a){case 1:;default:;}}",
-            [F].as_slice(),
+            [FUNCTION].as_slice(),
         ),
         (
             "void f(int a){switch(a){{case 1:;}}}",
             [Shape::NoBody(1, 14)].as_slice(),
         ),
-        ("void f(int n){for(int i=0;i<n;i++);}", [F].as_slice()),
+        (
+            "void f(int n){for(int i=0;i<n;i++);}",
+            [FUNCTION].as_slice(),
+        ),
         (
             "void f(int n){do n--;while(n);for(;;)break;}",
-            [F].as_slice(),
+            [FUNCTION].as_slice(),
         ),
     ] {
         assert_eq!(rt; all_seen(alloc, text)?.as_slice(), want);
@@ -198,7 +208,10 @@ fn a_typedef_and_a_function(rt: HostRuntime) -> Result<(), Fail> {
     let alloc = rt.alloc();
     let text =
         "typedef struct{int v;}spinlock_t;\nvoid f(_Bool c,spinlock_t*l){spin_lock(l);if(c)spin_lock(l);}";
-    assert_eq!(rt; all_seen(alloc, text)?.as_slice(), [D, F].as_slice());
+    assert_eq!(rt;
+        all_seen(alloc, text)?.as_slice(),
+        [DECL, FUNCTION].as_slice()
+    );
     let found = units(alloc, text)?;
     let is_read = match items(&found) {
         [
@@ -251,7 +264,7 @@ fn body_of(
 fn trees_of_height_128(rt: HostRuntime) -> Result<(), Fail> {
     let alloc = rt.alloc();
     for (count, want) in [
-        (125, F),
+        (125, FUNCTION),
         (126, Shape::NoBody(1, 13)),
         (100000, Shape::NoBody(1, 13)),
     ] {
@@ -330,7 +343,7 @@ out:
 #[test]
 fn a_driver(rt: HostRuntime) -> Result<(), Fail> {
     let alloc = rt.alloc();
-    let want = [D, D, D, D, D, D, D, F];
+    let want = [DECL, DECL, DECL, DECL, DECL, DECL, DECL, FUNCTION];
     assert_eq!(rt; all_seen(alloc, DRIVER)?.as_slice(), want.as_slice());
     assert_eq!(rt; items(&units(alloc, DRIVER)?).len(), 24);
     Ok(())
