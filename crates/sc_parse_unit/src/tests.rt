@@ -348,3 +348,20 @@ fn a_driver(rt: HostRuntime) -> Result<(), Fail> {
     assert_eq!(rt; items(&units(alloc, DRIVER)?).len(), 24);
     Ok(())
 }
+
+#[test]
+fn many_declarations(rt: HostRuntime) -> Result<(), Fail> {
+    let alloc = rt.alloc();
+    for count in [256, 257] {
+        let mut text = String::new(alloc);
+        text.push_str("void f(void){")?;
+        for number in 0..count {
+            let line = format!(in alloc; "int a{number};")?;
+            text.push_str(&line)?;
+        }
+        text.push_str("}")?;
+        let found = units(alloc, &text)?;
+        assert_eq!(rt; items(&found).len(), count);
+    }
+    Ok(())
+}
