@@ -1,0 +1,6 @@
+//! Scopes of names (C11 6.2.1), with look-up by hash: what a name means at a point of a file.
+#![tactic(auto)]
+
+mod scopes;
+
+pub use scopes::{Block, Scopes};
