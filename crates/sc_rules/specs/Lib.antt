@@ -1,0 +1,10 @@
+pub mod Faults
+pub mod Walks
+pub mod Conversions
+pub mod Operators
+pub mod Builtins
+pub mod Here
+pub mod Members
+pub mod Calls
+pub mod Shapes
+pub mod Typing
