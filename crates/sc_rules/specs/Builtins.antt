@@ -12,35 +12,35 @@ use Rattle.sc_rules.specs.declared.walk.Given.TheVariants as takes
 abbrev pub lock_rows : List (List ℕ × Builtin)
 lock_rows =
     (codes "spin_lock", b.Nothing takes.Pointer)
-      ∷ (codes "mutex_lock", b.Nothing takes.Pointer)
-      ∷ (codes "pthread_mutex_lock", b.Int takes.Pointer)
-      ∷ (codes "spin_unlock", b.Nothing takes.Pointer)
-      ∷ (codes "mutex_unlock", b.Nothing takes.Pointer)
-      ∷ (codes "pthread_mutex_unlock", b.Int takes.Pointer)
-      ∷ (codes "spin_trylock", b.Int takes.Pointer)
-      ∷ (codes "mutex_trylock", b.Int takes.Pointer)
-      ∷ (codes "pthread_mutex_trylock", b.Int takes.Pointer)
-      ∷ []
+    ∷ (codes "mutex_lock", b.Nothing takes.Pointer)
+    ∷ (codes "pthread_mutex_lock", b.Int takes.Pointer)
+    ∷ (codes "spin_unlock", b.Nothing takes.Pointer)
+    ∷ (codes "mutex_unlock", b.Nothing takes.Pointer)
+    ∷ (codes "pthread_mutex_unlock", b.Int takes.Pointer)
+    ∷ (codes "spin_trylock", b.Int takes.Pointer)
+    ∷ (codes "mutex_trylock", b.Int takes.Pointer)
+    ∷ (codes "pthread_mutex_trylock", b.Int takes.Pointer)
+    ∷ []
 
 -- allocation, release, ends of the program, and what is not taken
 abbrev pub other_rows : List (List ℕ × Builtin)
 other_rows =
     (codes "malloc", b.Object takes.Any)
-      ∷ (codes "kmalloc", b.Object takes.Any)
-      ∷ (codes "calloc", b.Object takes.Any)
-      ∷ (codes "kzalloc", b.Object takes.Any)
-      ∷ (codes "free", b.Nothing takes.Pointer)
-      ∷ (codes "kfree", b.Nothing takes.Pointer)
-      ∷ (codes "exit", b.Nothing takes.Any)
-      ∷ (codes "_exit", b.Nothing takes.Any)
-      ∷ (codes "abort", b.Nothing takes.Any)
-      ∷ (codes "panic", b.Nothing takes.Any)
-      ∷ (codes "__assert_fail", b.Nothing takes.Any)
-      ∷ (codes "__builtin_expect", b.Long takes.Two)
-      ∷ (codes "realloc", b.Refused)
-      ∷ (codes "setjmp", b.Refused)
-      ∷ (codes "sigsetjmp", b.Refused)
-      ∷ []
+    ∷ (codes "kmalloc", b.Object takes.Any)
+    ∷ (codes "calloc", b.Object takes.Any)
+    ∷ (codes "kzalloc", b.Object takes.Any)
+    ∷ (codes "free", b.Nothing takes.Pointer)
+    ∷ (codes "kfree", b.Nothing takes.Pointer)
+    ∷ (codes "exit", b.Nothing takes.Any)
+    ∷ (codes "_exit", b.Nothing takes.Any)
+    ∷ (codes "abort", b.Nothing takes.Any)
+    ∷ (codes "panic", b.Nothing takes.Any)
+    ∷ (codes "__assert_fail", b.Nothing takes.Any)
+    ∷ (codes "__builtin_expect", b.Long takes.Two)
+    ∷ (codes "realloc", b.Refused)
+    ∷ (codes "setjmp", b.Refused)
+    ∷ (codes "sigsetjmp", b.Refused)
+    ∷ []
 
 abbrev pub same_text : List ℕ → List ℕ → Bool
 same_text = pointwise nat_eq

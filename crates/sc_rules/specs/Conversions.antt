@@ -91,8 +91,8 @@ converts w e t =
     if same (type_of e) t
     then not (is_void t)
     else (if is_integer (type_of e)
-      then is_integer t || (is_pointer t && is_null_integer w e)
-      else is_pointer (type_of e) && (is_pointer t || is_bool t))
+    then is_integer t || (is_pointer t && is_null_integer w e)
+    else is_pointer (type_of e) && (is_pointer t || is_bool t))
 
 abbrev pub converted_or : Bool → IllTyped → Pos → CType → TExpr → Check (Option TExpr)
 converted_or true kind at t e = done (Some (to t e))

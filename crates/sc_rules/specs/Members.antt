@@ -94,7 +94,7 @@ unfoldable pub member : (deep : ℕ) → List StructDef → NameId → CType →
 member zero structs name t = Missing
 member (suc deep) structs name t =
     or_next (among (body_of structs t).union name 0 (body_of structs t).fields)
-      (among_unnamed (member deep structs name) (body_of structs t).union (body_of structs t).fields)
+    (among_unnamed (member deep structs name) (body_of structs t).union (body_of structs t).fields)
 
 abbrev pub meant : List StructDef → NameId → CType → Meant
 meant = member 128

@@ -302,12 +302,12 @@ arms_type w b c =
     if both_integers b c
     then Some (common_of w b c)
     else (if is_void (type_of b) && is_void (type_of c)
-      then Some ty.Void
-      else (if not (some_pointer b c)
-        then None
-        else (if follows_pointer w b c
-          then Some (type_of c)
-          else (if follows_pointer w c b then Some (type_of b) else pointer_arms w b c))))
+    then Some ty.Void
+    else (if not (some_pointer b c)
+    then None
+    else (if follows_pointer w b c
+    then Some (type_of c)
+    else (if follows_pointer w c b then Some (type_of b) else pointer_arms w b c))))
 
 abbrev pub conditional_to : Option CType → Place → TExpr → TExpr → TExpr → Check (Option TExpr)
 conditional_to None p a b c = ill_typed i.Operand p.token

@@ -3,13 +3,14 @@ use Rattle.std.specs.Prelude.{ℕ, Bool, Option, List}
 use Rattle.sc_base.specs.declared.pos.Pos.{Pos}
 use Rattle.sc_base.specs.declared.pos.NameId.{NameId}
 use Rattle.sc_tree.specs.declared.ctype.CType.{CType}
+use Rattle.sc_tree.specs.declared.expr.Place.{Place}
 use Rattle.sc_typed.specs.declared.expr.TExpr.{TExpr}
 use Rattle.sc_typed.specs.declared.program.FieldDef.{FieldDef}
 use Rattle.sc_rules.specs.Walks.{Check, Scope}
 
--- an expression: the name that it is, where it is a bare one, and the step
+-- an expression: the name that it is with its place, where it is a bare one, and the step
 pub record Typing : Type 0 where
-  pub name : Option NameId
+  pub name : Option (NameId × Place)
   pub run : Check (Option TExpr)
 
 -- a parameter: its name, where faults in it stand, and its type as a parameter has it

@@ -81,15 +81,17 @@ new_struct union w =
     (w.met, record w { structs = put_at w.structs w.met (record no_struct { union = union }); met = w.met + 1 })
 
 abbrev pub complete : Widths → ℕ → List FieldDef → Check (Unit {0})
-complete ws n fields w =
-    (tt, record w {
-        structs = slice_set w.structs n (record {
-            union = (struct_at w.structs n).union;
-            fields = Some fields;
-            extent = struct_extent ws w.structs (struct_at w.structs n).union fields;
-          });
-        completed = w.completed ++ n ∷ [];
-      })
+complete ws n fields w = (
+  tt,
+  record w {
+    structs = slice_set w.structs n (record {
+      union = (struct_at w.structs n).union;
+      fields = Some fields;
+      extent = struct_extent ws w.structs (struct_at w.structs n).union fields;
+    });
+    completed = w.completed ++ n ∷ [];
+  },
+)
 
 abbrev pub complete_if : Widths → ℕ → Option (List FieldDef) → Check (Unit {0})
 complete_if ws n None = done tt
@@ -231,8 +233,7 @@ module _ (here : Here) where
     as' ← values es
     call here.widths p x as'
 
-  -- the place of a bare name that is called: where the call begins it begins with the name, or with a bracket
-  -- before it
+  -- a call of a bare name
   abbrev pub call_by_name : Option Builtin → NameId → (name_place call_place : Place) → Typing → List Typing → Check (Option TExpr)
   call_by_name None name q p e es = call_of p (name_means name >>= λ m. plain_callee m name q e) es
   call_by_name (Some b) name q p e es = do
@@ -368,12 +369,12 @@ module _ (here : Here) where
 
   abbrev pub head_step : Head-F Naming Declaring Typing Naming Naming Counting Heading Adding AddingOne Naming → Heading
   head_step h = record {
-      name = h.declarator.name;
-      first = h.pos;
-      run = λ at. do
-        t ← h.specs false
-        h.declarator.run at t;
-    }
+    name = h.declarator.name;
+    first = h.pos;
+    run = λ at. do
+      t ← h.specs false
+      h.declarator.run at t;
+  }
 
   -- a type in an expression
   abbrev pub type_named : Heading → Check (Option CType)
@@ -553,9 +554,9 @@ module _ (here : Here) where
   accessed true e = value e
   accessed false e = if is_aggregate (type_of e) then done (Some e) else value e
 
-  abbrev pub called : Option NameId → Place → Typing → List Typing → (name_place : Place) → Check (Option TExpr)
-  called None p f es q = call_of p (callee_value f) es
-  called (Some name) p f es q = call_by_name (here.builtin name.at) name q p f es
+  abbrev pub called : Option (NameId × Place) → Place → Typing → List Typing → Check (Option TExpr)
+  called None p f es = call_of p (callee_value f) es
+  called (Some (name, q)) p f es = call_by_name (here.builtin name.at) name q p f es
 
   abbrev pub expr_step : Expr-F Naming Declaring Typing Naming Naming Counting Heading Adding AddingOne Naming → Typing
   expr_step (Expr-F.Comma a b p) = plain (do
@@ -596,7 +597,7 @@ module _ (here : Here) where
     y ← given x indexed
     z ← valued b
     both y z (index p))
-  expr_step (Expr-F.Call f es p) = plain (called f.name p f es p)
+  expr_step (Expr-F.Call f es p) = plain (called f.name p f es)
   expr_step (Expr-F.Field a name arrow p) = plain (do
     x ← a.run
     y ← given x (accessed arrow)
@@ -604,8 +605,26 @@ module _ (here : Here) where
   expr_step (Expr-F.PostInc s a p) = plain (do
     x ← a.run
     given x (post_increment s p))
-  expr_step (Expr-F.«Expr::Name» name p) = record { name = Some name; run = a_name name p }
+  expr_step (Expr-F.«Expr::Name» name p) = record { name = Some (name, p); run = a_name name p }
   expr_step (Expr-F.Int t p) = plain (int_constant here.widths t p)
   expr_step (Expr-F.Char c p) = plain (made (what.Char c) int p)
   expr_step (Expr-F.Odd p) = plain (unsupported u.Odd p.token)
   expr_step (Expr-F.Str ss p) = plain (string ss p)
+
+  -- The fold.
+
+  abbrev pub typing : Expr → Typing
+  typing = fold-Expr Naming Declaring Typing Naming Naming Counting Heading Adding AddingOne Naming
+      base_step declarator_step expr_step aggregate_step enum_step enumerator_step head_step member_step part_step specs_step
+
+  abbrev pub heading : Head → Heading
+  heading = fold-Head Naming Declaring Typing Naming Naming Counting Heading Adding AddingOne Naming
+      base_step declarator_step expr_step aggregate_step enum_step enumerator_step head_step member_step part_step specs_step
+
+  abbrev pub naming : Specs → Naming
+  naming = fold-Specs Naming Declaring Typing Naming Naming Counting Heading Adding AddingOne Naming
+      base_step declarator_step expr_step aggregate_step enum_step enumerator_step head_step member_step part_step specs_step
+
+  abbrev pub declaring : Declarator → Declaring
+  declaring = fold-Declarator Naming Declaring Typing Naming Naming Counting Heading Adding AddingOne Naming
+      base_step declarator_step expr_step aggregate_step enum_step enumerator_step head_step member_step part_step specs_step

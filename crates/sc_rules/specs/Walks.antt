@@ -85,8 +85,10 @@ open_scope s w = (tt, record w { names = opened s.names w.names; tags = opened s
 
 -- closes the innermost scope, and gives it
 abbrev pub close_scope : Check Scope
-close_scope w = (record { names = innermost w.names.blocks; tags = innermost w.tags.blocks },
-    record w { names = closed w.names; tags = closed w.tags })
+close_scope w = (
+  record { names = innermost w.names.blocks; tags = innermost w.tags.blocks },
+  record w { names = closed w.names; tags = closed w.tags },
+)
 
 -- a step in a scope of its own (C11 6.2.1, 6.8)
 abbrev pub scoped : {A : Type 0} → Check A → Check A

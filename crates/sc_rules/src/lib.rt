@@ -7,4 +7,4 @@
 
 mod walk;
 
-pub use walk::{Builtin, Entity, Fault, GlobalKey, Given, Record, Tag, TagKind, Walk};
+pub use walk::{Builtin, Entity, Fault, Given, GlobalKey, Record, Tag, TagKind, Walk};
