@@ -387,7 +387,6 @@ module _ (here : Here) where
   typedef_of at _ = ill_typed i.Name at
 
   abbrev pub base_step : Base-F Naming Declaring Typing Naming Naming Counting Heading Adding AddingOne Naming → Naming
-  base_step Base-F.Nothing alone = done None
   base_step (Base-F.Words t) alone = done (Some t)
   base_step (Base-F.Struct a) alone = a alone
   base_step (Base-F.Enum e) alone = e alone
