@@ -1,20 +1,19 @@
 -- Integer constant expressions (C11 6.6), null pointer constants (C11 6.3.2.3), lvalues (C11 6.3.2.1) and the
 -- types of constants (C11 6.4.4.1).
-use Rattle.std.specs.Prelude.{ℕ, ◌*◌, ◌-◌, ◌^◌, nat_eq, nat_lt, nat_le, Bool, true, false, not, ◌&&◌, ◌||◌, Option, Some, None, List, [], ◌∷◌, ℤ, pos, negsuc, find, if◌then◌else◌}
+use Rattle.std.specs.Prelude.{ℕ, ◌-◌, ◌^◌, nat_eq, nat_lt, Bool, true, false, not, ◌&&◌, ◌||◌, Option, Some, None, List, [], ◌∷◌, ℤ, find, if◌then◌else◌}
 use Rattle.sc_tree.specs.declared.op.BinaryOp.{BinaryOp}
 use Rattle.sc_tree.specs.declared.op.BinaryOp.TheVariants as op
 use Rattle.sc_tree.specs.declared.op.UnaryOp.{UnaryOp}
 use Rattle.sc_tree.specs.declared.op.UnaryOp.TheVariants as sign
 use Rattle.sc_tree.specs.declared.ctype.CType.{CType}
-use Rattle.sc_tree.specs.declared.ctype.CType.TheVariants as ty
 use Rattle.sc_tree.specs.declared.ctype.IntKind.{IntKind}
 use Rattle.sc_tree.specs.declared.ctype.IntKind.TheVariants as kind
 use Rattle.sc_tree.specs.declared.ctype.Widths.{Widths}
-use Rattle.sc_typed.specs.declared.expr.TExpr.{TExpr, TExpr-F, out-TExpr}
+use Rattle.sc_typed.specs.declared.expr.TExpr.{TExpr, out-TExpr}
 use Rattle.sc_typed.specs.declared.expr.What.{What, What-F, out-What}
 use Rattle.sc_typed.specs.declared.expr.What.TheFolds.{fold-TExpr}
 use Rattle.sc_typed.specs.Kinds.{rank, is_signed, kind_bits}
-use Rattle.sc_typed.specs.Types.{is_integer, is_pointer, is_void_pointer, is_function, has_sign, value_bits}
+use Rattle.sc_typed.specs.Types.{is_integer, is_void_pointer, is_function, has_sign, value_bits}
 use Rattle.sc_typed.specs.Arith.{wrapped, truth, computed, takes, of_one, converted, number}
 
 -- What folding makes of an expression: its type; whether all of it is built as a constant is; and then its

@@ -30,6 +30,6 @@ with_nothing (c ∷ cs) = refl
 -- behind the end of one list there is nothing
 pub with_each_end : (f : CType → Composing) (xs ts : List CType) (i : ℕ) → min (length xs) (length ts) ≤ i → with_each (map f (drop i xs)) (drop i ts) ≡ []
 with_each_end f xs ts i h = elim (cases_lt i (length xs)) [
-    inl below ↦ (let e : drop i ts ≡ [] = drop_all i ts (omega arith) in rw e (with_nothing (map f (drop i xs))))
+  | inl below ↦ (let e : drop i ts ≡ [] = drop_all i ts (omega arith) in rw e (with_nothing (map f (drop i xs))))
   | inr above ↦ (let e : drop i xs ≡ [] = drop_all i xs above in rw e)
-  ]
+]

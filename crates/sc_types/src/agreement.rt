@@ -83,7 +83,7 @@ pub fn compatible(a: &CType, b: &CType) -> bool
             compatible(t.get(), u.get()) && lengths_agree(*m, *n)
         }
         (CType::Struct(m), CType::Struct(n)) | (CType::Union(m), CType::Union(n)) => m == n,
-        (CType::Func(s), CType::Func(t)) => compatible_signatures(s.get(), t.get()),
+        (CType::Func(s), CType::Func(t)) => compatible_signature(s.get(), t.get()),
         (CType::Opaque(k), CType::Opaque(l)) => same_opaque(*k, *l),
         _ => false,
     }
@@ -91,7 +91,7 @@ pub fn compatible(a: &CType, b: &CType) -> bool
 
 /// Whether two function types are compatible (C11 6.7.6.3).
 #[cycle(agree)]
-pub fn compatible_signatures(a: &Signature, b: &Signature) -> bool
+pub fn compatible_signature(a: &Signature, b: &Signature) -> bool
     ensures { result ≡ spec.compatible_signature a.now b.now }
 {
     compatible(&a.result, &b.result)

@@ -3,9 +3,10 @@
 
 ghost use Rattle.std.specs.Prelude.{◌≡◌, ◌≢◌, ◌<◌, ◌≤◌, ◌≤ℤ◌, ◌^◌, ◌%◌, pos, neg_ℤ, int_div, int_rem, nat_lt, IsTrue, true};
 ghost use Rattle.sc_tree.specs.declared.op.BinaryOp.TheVariants as op;
+ghost use Rattle.sc_typed.specs.Types.{value_bits};
 ghost use Rattle.sc_typed.specs.Arith as spec;
 
-use crate::types::{has_sign, is_bool, value_bits};
+use crate::types::{has_sign, value_bits};
 use sc_tree::ctype::{CType, Widths};
 use sc_tree::op::{BinaryOp, UnaryOp};
 
@@ -167,8 +168,7 @@ fn divides(bits: u32, sign: bool, a: u64, b: u64) -> bool
 {
     if sign {
         b != 0
-            && !(u128::from(a) == power(bits.saturating_sub(1))
-                && u128::from(b) == power(bits) - 1)
+            && !(u128::from(a) == power(bits.saturating_sub(1)) && u128::from(b) == power(bits) - 1)
     } else {
         b != 0
     }
@@ -268,12 +268,12 @@ fn resized(sign: bool, from: u32, bits: u32, n: u64) -> u64
 
 /// A number of an integer type, converted to an integer type (C11 6.3.1.2, 6.3.1.3).
 pub fn converted(w: Widths, from: &CType, to: &CType, n: u64) -> u64
-    ensures { result ≡ spec.converted w from.now to.now n }
+    ensures value { result ≡ spec.converted w from.now to.now n }
+    ensures bound { result < 2 ^ value_bits w to.now }
 {
-    if is_bool(to) {
-        truth(n != 0)
-    } else {
-        resized(has_sign(from), value_bits(w, from), value_bits(w, to), n)
+    match to {
+        CType::Bool => truth(n != 0),
+        _ => resized(has_sign(from), value_bits(w, from), value_bits(w, to), n),
     }
 }
 

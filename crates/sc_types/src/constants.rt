@@ -9,9 +9,7 @@ ghost use Rattle.sc_typed.specs.Types as types;
 
 use crate::arith::{computed, converted, fits, number, of_one, takes, truth, wrapped};
 use crate::kinds::{is_signed, kind_bits, rank};
-use crate::types::{
-    has_sign, is_function, is_integer, is_void_pointer, value_bits,
-};
+use crate::types::{has_sign, is_function, is_integer, is_void_pointer, value_bits};
 use sc_tree::ctype::{CType, IntKind, Widths};
 use sc_tree::op::{BinaryOp, UnaryOp};
 use sc_typed::{Program, TExpr, What};
@@ -32,13 +30,7 @@ fn at_width(bits: u32, value: Option<u64>) -> Option<u64>
 {
     match value {
         None => None,
-        Some(n) => {
-            if fits(bits, n) {
-                Some(n)
-            } else {
-                None
-            }
-        }
+        Some(n) => { if fits(bits, n) { Some(n) } else { None } }
     }
 }
 
@@ -224,7 +216,12 @@ fn folded_binary(w: Widths, op: BinaryOp, a: Side, b: Side, t: &CType) -> Outcom
     ensures bound { IfSome result.value (λ n. n < 2 ^ types.value_bits w t.now) }
 {
     if is_operand(a.ctype, a.outcome) && is_operand(b.ctype, b.outcome) {
-        if_form(w, true, t, binary_value(w, op, a.ctype, a.outcome.value, b.outcome.value))
+        if_form(
+            w,
+            true,
+            t,
+            binary_value(w, op, a.ctype, a.outcome.value, b.outcome.value),
+        )
     } else {
         if_form(w, false, t, None)
     }
@@ -259,9 +256,18 @@ fn folded(w: Widths, e: &TExpr) -> Outcome
             let x = folded(w, a);
             let y = folded(w, b);
             let z = folded(w, c);
-            let first = Side { ctype: &a.ctype, outcome: x };
-            let second = Side { ctype: &b.ctype, outcome: y };
-            let third = Side { ctype: &c.ctype, outcome: z };
+            let first = Side {
+                ctype: &a.ctype,
+                outcome: x,
+            };
+            let second = Side {
+                ctype: &b.ctype,
+                outcome: y,
+            };
+            let third = Side {
+                ctype: &c.ctype,
+                outcome: z,
+            };
             folded_choice(w, first, second, third, t)
         }
         What::Binary(op, a, b) => {
@@ -269,8 +275,14 @@ fn folded(w: Widths, e: &TExpr) -> Outcome
             let b = b.get();
             let x = folded(w, a);
             let y = folded(w, b);
-            let left = Side { ctype: &a.ctype, outcome: x };
-            let right = Side { ctype: &b.ctype, outcome: y };
+            let left = Side {
+                ctype: &a.ctype,
+                outcome: x,
+            };
+            let right = Side {
+                ctype: &b.ctype,
+                outcome: y,
+            };
             folded_binary(w, *op, left, right, t)
         }
         What::Unary(op, a) => {
@@ -423,8 +435,6 @@ pub fn constant_kind(
         IntKind::LongLong,
         IntKind::ULongLong,
     ];
-    kinds
-        .iter()
-        .copied()
-        .find(|kind| is_listed(decimal, unsigned, longs, *kind) && holds(w, value, *kind))
+    kinds.iter().copied().find(|kind| is_listed(decimal, unsigned, longs, *kind)
+        && holds(w, value, *kind))
 }

@@ -19,7 +19,10 @@ pub fn copy_type(alloc: Global, t: &CType) -> Result<CType, OutOfMemory>
         CType::Int(kind) => CType::Int(*kind),
         CType::Ptr(target) => CType::Ptr(Boxed::new(alloc, copy_type(alloc, target.get())?)?),
         CType::Array(element, length) => {
-            CType::Array(Boxed::new(alloc, copy_type(alloc, element.get())?)?, *length)
+            CType::Array(
+                Boxed::new(alloc, copy_type(alloc, element.get())?)?,
+                *length,
+            )
         }
         CType::Struct(number) => CType::Struct(*number),
         CType::Union(number) => CType::Union(*number),

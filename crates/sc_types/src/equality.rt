@@ -6,8 +6,8 @@ ghost use Rattle.sc_typed.specs.Types as spec;
 use sc_base::List;
 use sc_tree::ctype::{CType, OpaqueKind, Signature};
 
-// Whether two lengths are one.
-fn same_length(a: Option<u32>, b: Option<u32>) -> bool
+/// Whether two lengths of arrays are one; one that is not written is equal to no other.
+pub fn same_length(a: Option<u32>, b: Option<u32>) -> bool
     ensures { result ≡ spec.same_length a b }
 {
     match (a, b) {

@@ -61,12 +61,9 @@ pub fn promoted(kind: IntKind) -> IntKind
     ensures { result ≡ spec.promoted kind }
 {
     match kind {
-        IntKind::Char
-        | IntKind::SChar
-        | IntKind::UChar
-        | IntKind::Short
-        | IntKind::UShort
-        | IntKind::Int => IntKind::Int,
+        IntKind::Char | IntKind::SChar | IntKind::UChar => IntKind::Int,
+        IntKind::Short | IntKind::UShort => IntKind::Int,
+        IntKind::Int => IntKind::Int,
         IntKind::UInt => IntKind::UInt,
         IntKind::Long => IntKind::Long,
         IntKind::ULong => IntKind::ULong,
