@@ -1,6 +1,6 @@
 -- Numbers of a fixed width.
-use Rattle.std.proofs.Common.{ℕ, ◌+◌, ◌-◌, ◌*◌, ◌<◌, ◌≤◌, ◌^◌, arith, bit_and}
-use Rattle.std.proofs.lemmas.Nat.{and_le_l, pow_pos, pow_below}
+use Rattle.std.proofs.Common.{ℕ, ◌<◌, ◌≤◌, ◌^◌, arith, bit_and}
+use Rattle.std.proofs.lemmas.Nat.{and_le_l, pow_below}
 
 -- a truth is a number of any width but 0
 pub truth_fits : (n bits : ℕ) → n ≤ 1 → 1 ≤ bits → n < 2 ^ bits

@@ -271,31 +271,23 @@ fn expression(what: What, kind: IntKind) -> TExpr {
     }
 }
 
-/// `a op b` on two constants of one kind, as an expression of a kind.
-fn operation(
+/// The number of `a op b` on two constants of one kind, with a result of another.
+fn number_of(
     alloc: Global,
     op: BinaryOp,
     operands: IntKind,
     a: u64,
     b: u64,
     kind: IntKind,
-) -> Result<TExpr, OutOfMemory> {
+) -> Result<Option<i128>, OutOfMemory> {
     let left = Boxed::new(alloc, expression(What::Int(a), operands))?;
     let right = Boxed::new(alloc, expression(What::Int(b), operands))?;
-    Ok(expression(What::Binary(op, left, right), kind))
+    let e = expression(What::Binary(op, left, right), kind);
+    Ok(constant_bits(Widths::Ilp32, &e).map(|n| number(Widths::Ilp32, &e.ctype, n)))
 }
 
 #[test]
-fn constants_have_their_values(rt: HostRuntime) -> Result<(), Fail> {
-    let program = Program {
-        names: Names::new(rt.alloc()),
-        files: List::new(rt.alloc()),
-        widths: Widths::Ilp32,
-        structs: List::new(rt.alloc()),
-        globals: List::new(rt.alloc()),
-        functions: List::new(rt.alloc()),
-        notes: List::new(rt.alloc()),
-    };
+fn operators_have_their_values(rt: HostRuntime) -> Result<(), Fail> {
     // The operator, the kind of its operands, their bits, the kind of the result, and its number.
     let rows = [
         (
@@ -365,54 +357,109 @@ fn constants_have_their_values(rt: HostRuntime) -> Result<(), Fail> {
             Some(0),
         ),
     ];
-    for (op, operands, a, b, kind, number) in rows {
-        let e = operation(rt.alloc(), op, operands, a, b, kind)?;
-        assert_eq!(rt; constant(&program, &e), number, "{op:?} {a} {b}");
-        assert!(rt; !is_lvalue(&e));
+    for (op, operands, a, b, kind, expected) in rows {
+        let found = number_of(rt.alloc(), op, operands, a, b, kind)?;
+        assert_eq!(rt; found, expected, "{op:?} {a} {b}");
     }
-    // `1 || 1 / 0` is a constant, `1 || x` is none; `x` is an lvalue.
-    let bad = operation(rt.alloc(), BinaryOp::Div, IntKind::Int, 1, 0, IntKind::Int)?;
-    let left = Boxed::new(rt.alloc(), expression(What::Int(1), IntKind::Int))?;
-    let lazy = What::Binary(BinaryOp::Or, left, Boxed::new(rt.alloc(), bad)?);
-    assert_eq!(rt;
-        constant_bits(Widths::Lp64, &expression(lazy, IntKind::Int)),
-        Some(1)
-    );
-    let left = Boxed::new(rt.alloc(), expression(What::Int(1), IntKind::Int))?;
+    Ok(())
+}
+
+/// The bits of `1 || e`, where that is a constant.
+fn one_or(alloc: Global, e: TExpr) -> Result<Option<u64>, OutOfMemory> {
+    let right = Boxed::new(alloc, e)?;
+    let left = Boxed::new(alloc, expression(What::Int(1), IntKind::Int))?;
+    let whole = expression(What::Binary(BinaryOp::Or, left, right), IntKind::Int);
+    Ok(constant_bits(Widths::Lp64, &whole))
+}
+
+/// `1 / 0`
+fn no_quotient(alloc: Global) -> Result<TExpr, OutOfMemory> {
+    let left = Boxed::new(alloc, expression(What::Int(1), IntKind::Int))?;
+    let right = Boxed::new(alloc, expression(What::Int(0), IntKind::Int))?;
+    Ok(expression(What::Binary(BinaryOp::Div, left, right), IntKind::Int))
+}
+
+#[test]
+fn what_is_not_needed_is_not_evaluated(rt: HostRuntime) -> Result<(), Fail> {
+    // `1 || 1 / 0` is a constant, `1 || x` is none.
+    let quotient = no_quotient(rt.alloc())?;
+    assert_eq!(rt; constant_bits(Widths::Lp64, &quotient), None);
+    assert_eq!(rt; one_or(rt.alloc(), quotient)?, Some(1));
     let x = expression(What::Param(0), IntKind::Int);
     assert!(rt; is_lvalue(&x));
-    let form = What::Binary(BinaryOp::Or, left, Boxed::new(rt.alloc(), x)?);
-    assert_eq!(rt;
-        constant_bits(Widths::Lp64, &expression(form, IntKind::Int)),
-        None
-    );
-    // `(unsigned char)300` is 44, and `'\0'` is a null pointer constant.
-    let wide = Boxed::new(rt.alloc(), expression(What::Int(300), IntKind::Int))?;
-    let cast = expression(What::Cast(wide), IntKind::UChar);
-    assert_eq!(rt; constant(&program, &cast), Some(44));
-    assert!(rt; is_null_constant(Widths::Lp64, &expression(What::Char(0), IntKind::Int)));
-    assert!(rt; !is_null_constant(Widths::Lp64, &cast));
+    assert_eq!(rt; one_or(rt.alloc(), x)?, None);
     Ok(())
 }
 
 #[test]
-fn declarations_agree(rt: HostRuntime) -> Result<(), Fail> {
+fn casts_are_constants(rt: HostRuntime) -> Result<(), Fail> {
+    // `(unsigned char)300` is 44, and `(unsigned char)256` is a null pointer constant.
+    let wide = Boxed::new(rt.alloc(), expression(What::Int(300), IntKind::Int))?;
+    let cast = expression(What::Cast(wide), IntKind::UChar);
+    assert_eq!(rt; constant_bits(Widths::Lp64, &cast), Some(44));
+    assert!(rt; !is_null_constant(Widths::Lp64, &cast));
+    let wide = Boxed::new(rt.alloc(), expression(What::Int(256), IntKind::Int))?;
+    let zero = expression(What::Cast(wide), IntKind::UChar);
+    assert!(rt; is_null_constant(Widths::Lp64, &zero) && is_null_integer(Widths::Lp64, &zero));
+    Ok(())
+}
+
+#[test]
+fn a_program_has_its_widths(rt: HostRuntime) {
+    let program = Program {
+        names: Names::new(rt.alloc()),
+        files: List::new(rt.alloc()),
+        widths: Widths::Lp64,
+        structs: List::new(rt.alloc()),
+        globals: List::new(rt.alloc()),
+        functions: List::new(rt.alloc()),
+        notes: List::new(rt.alloc()),
+    };
+    assert_eq!(rt; size(&program, &CType::Int(IntKind::Long)), Some(8));
+    // `'\377'` is -1.
+    let e = expression(What::Char(-1), IntKind::Int);
+    assert_eq!(rt; constant(&program, &e), Some(-1));
+}
+
+#[test]
+fn arrays_agree(rt: HostRuntime) -> Result<(), Fail> {
     let open = array(rt.alloc(), CType::Int(IntKind::Char), None)?;
     let whole = array(rt.alloc(), CType::Int(IntKind::Char), Some(4))?;
     assert!(rt; compatible(&open, &whole) && !same(&open, &whole));
-    assert!(rt; same(&composite(rt.alloc(), &open, &whole)?, &whole));
-    assert!(rt; same(&copy_type(rt.alloc(), &open)?, &open));
-    // `int f()` agrees with `int f(int)`, and not with `int f(char)`.
-    let mut ints = List::new(rt.alloc());
-    ints.push(CType::Int(IntKind::Int))?;
-    let mut chars = List::new(rt.alloc());
-    chars.push(CType::Int(IntKind::Char))?;
-    let [nothing, one, small] = [None, Some(ints), Some(chars)].map(|params| Signature {
+    let both = composite(rt.alloc(), &open, &whole)?;
+    assert!(rt; same(&both, &whole));
+    let copy = copy_type(rt.alloc(), &open)?;
+    assert!(rt; same(&copy, &open));
+    Ok(())
+}
+
+/// `int ( )`, or `int ( kind )`.
+fn taking(alloc: Global, kind: Option<IntKind>) -> Result<Signature, OutOfMemory> {
+    let params = match kind {
+        None => None,
+        Some(kind) => {
+            let mut types = List::new(alloc);
+            types.push(CType::Int(kind))?;
+            Some(types)
+        }
+    };
+    Ok(Signature {
         result: CType::Int(IntKind::Int),
         params,
         variadic: false,
-    });
+    })
+}
+
+#[test]
+fn functions_agree(rt: HostRuntime) -> Result<(), Fail> {
+    // `int f()` agrees with `int f(int)`, and not with `int f(char)`.
+    let nothing = taking(rt.alloc(), None)?;
+    let one = taking(rt.alloc(), Some(IntKind::Int))?;
+    let small = taking(rt.alloc(), Some(IntKind::Char))?;
     assert!(rt; compatible_signature(&nothing, &one) && !compatible_signature(&small, &nothing));
-    assert!(rt; same_signature(&composite_signature(rt.alloc(), &nothing, &one)?, &one));
+    let both = composite_signature(rt.alloc(), &nothing, &one)?;
+    assert!(rt; same_signature(&both, &one));
+    let copy = copy_signature(rt.alloc(), &small)?;
+    assert!(rt; same_signature(&copy, &small));
     Ok(())
 }

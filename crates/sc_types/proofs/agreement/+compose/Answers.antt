@@ -1,4 +1,4 @@
-use Rattle.std.proofs.Common.{◌≡◌, [], ◌++◌, map, drop, arith, rules}
+use Rattle.std.proofs.Common.{◌≡◌, [], map, drop, arith}
 use Rattle.std.proofs.lemmas.Grind.{common_steps}
 use Rattle.sc_typed.specs.Types.{composition, with_each}
 use Rattle.sc_types.proofs.Lists.{with_each_end}
