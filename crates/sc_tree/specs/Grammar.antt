@@ -192,7 +192,7 @@ mutual
     -- C11 6.7.2
     a_type_word : (w : Reserved) (x : TypeWord) (p : Pos) → type_word w ≡ Some x → APiece types 0 (piece.Word x) (reserved w p ∷ [])
     -- C11 6.7.8
-    a_typedef_name : (w : NameId) (p : Pos) → is_type types w ≡ true → APiece types 0 (piece.Whole (base.Named w) form.NoBody) (word w p ∷ [])
+    a_typedef_name : (w : NameId) (p : Pos) → is_type types w ≡ true → APiece types 0 (piece.Whole (base.Named w p) form.NoBody) (word w p ∷ [])
     -- C11 6.7.2.1
     a_record : (w : Reserved) (u : Bool) (tag : NameId) (p q : Pos) → record_word w ≡ Some u
         → APiece types 0 (piece.Whole (base.Struct (roll-Aggregate (record { pos = q; union = u; tag = Some tag; body = None }))) form.NoBody)

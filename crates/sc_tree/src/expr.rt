@@ -93,8 +93,8 @@ pub enum Base {
     Words(CType),
     Struct(Aggregate),
     Enum(EnumSpec),
-    /// A typedef name.
-    Named(NameId),
+    /// A typedef name, with its place.
+    Named(NameId, Pos),
 }
 
 /// A `struct` or `union` with its tag, its body or both (C11 6.7.2.1).

@@ -42,6 +42,8 @@ impl<T> Scopes<T> {
     pub fn new(alloc: Global) -> Scopes<T>
         ensures { result ≡ no_frames }
     {
-        Scopes { file: Vec::new(alloc) }
+        Scopes {
+            file: Vec::new(alloc),
+        }
     }
 }

@@ -1,0 +1,3 @@
+pub mod FormProofs
+pub mod ReadingProofs
+pub mod WordProofs

@@ -1,0 +1,13 @@
+pub mod Machine
+pub mod Tree
+pub mod Build
+pub mod Source
+pub mod Gather
+pub mod Layout
+pub mod Objects
+pub mod Occurrences
+pub mod Places
+pub mod World
+pub mod Eval
+pub mod Known
+pub mod Exec
