@@ -10,7 +10,7 @@ use sc_base::{Boxed, List, NameId, Pos};
 pub enum Stmt {
     /// `{ items }`, with the places of both braces.
     Block(List<Stmt>, Pos, Pos),
-    /// A declaration among the items of a block.
+    /// A declaration among the items of a block or a `switch`, with the place of its first token.
     Decl(Boxed<Decl>, Pos),
     /// `e ;` or `;`
     Expr(Option<Boxed<Expr>>, Pos),

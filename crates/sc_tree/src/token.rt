@@ -1,8 +1,9 @@
 //! The tokens of preprocessed C (C11 6.4), as the lexer gives them and every parser reads them.
 //!
-//! What a token is, where it stands, and which tokens a file has, is defined in `specs/`: `Bytes` and
-//! `Forms` say how far each form reaches, `Words`, `Puncts`, `Numbers` and `Literals` what a form means,
-//! `Pieces` how the bytes are cut, `Brackets`, `Removal` and `Segments` what is made of the pieces, and
+//! What a token is, where it stands, and which tokens a file has, is defined in `specs/`: `Bytes` has the
+//! classes of bytes, `Words`, `Puncts`, `Numbers` and `Literals` what each form means and where literals
+//! end, `Pieces` how far each form reaches and how the bytes are cut, `Cut` and `Places` the tokens with
+//! their places, `Roles`, `Brackets`, `Removal` and `Segments` what is done with the list of tokens, and
 //! `Lexed` puts these together.
 
 use sc_base::{List, NameId, Pos};
@@ -71,7 +72,8 @@ pub struct Tokens {
 }
 
 /// The reserved words: the keywords of C11 6.4.1, `asm` and `typeof` in their three spellings,
-/// `__builtin_va_list`, and two that never stand in a list of `Tokens`, since they leave nothing.
+/// `__builtin_va_list`, and two more. Those that `specs/Roles.antt` says leave nothing never stand in the
+/// `Tokens` of a file.
 #[derive(Clone, Copy, Debug, PartialEq, Eq)]
 pub enum Reserved {
     /// `auto`
