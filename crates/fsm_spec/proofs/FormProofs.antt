@@ -1,6 +1,6 @@
 -- The words of a line that were read so far, and what follows where one breaks the form.
 use Rattle.std.proofs.Common.{◌≡◌, ℕ, zero, suc, ◌+◌, ◌<◌, ◌≤◌, Bool, true, false, cond, List, [], ◌∷◌, ◌++◌, length, drop, refl, sym, ap, ◌∙◌, arith, Option, Some, None, inl, inr}
-use Rattle.std.specs.Prelude.{not, ◌&&◌, ◌||◌, nat_le, bytes_eq, option_map}
+use Rattle.std.specs.Prelude.{not, ◌&&◌, ◌||◌, nat_le, bytes_eq, option_map, if◌then◌else◌}
 use Rattle.std.specs.List.{list_all, list_any}
 use Rattle.std.proofs.lemmas.Bool.{and_parts, and_left, and_right, and_from, or_parts, or_left, or_right, or_from, cases_Bool, not-true, not_from_false, not_from_true, le-leb, lt-leb}
 use Rattle.std.proofs.lemmas.List.{append-nil, append_assoc, length-append}
@@ -95,3 +95,9 @@ unfolding are_states
 states_done all left states r e enough =
     rw (states_end all left states r e)
     (and_from _ _ (le-leb 2 (length states) enough) (and_from _ _ (le-leb (length states) 8 r.few) (and_from _ _ r.words r.different)))
+
+pub none_of : (all : List (List ℕ)) → are_states all ≡ false → None ≡ (if are_states all then Some all else None)
+none_of all e = rw e refl
+
+pub some_of : (all states : List (List ℕ)) → all ≡ states → are_states all ≡ true → Some states ≡ (if are_states all then Some all else None)
+some_of all states w e = rw e (ap Some (sym w))
