@@ -27,12 +27,13 @@ bytes_eq_turned xs ys = same_from_decides (bytes_eq xs ys) (bytes_eq ys xs) (byt
 pub repeated : (xs : List (List ℕ)) (w : List ℕ) (more : List (List ℕ)) → is_among w xs ≡ true → are_different (xs ++ w ∷ more) ≡ false
 repeated [] w more h = absurd (cc)
 repeated (x ∷ xs) w more h = elim (cases_Bool (bytes_eq x w)) [
-    | inl e ↦ (
-        let a : is_among x (xs ++ w ∷ more) ≡ true = rw (among_append x xs (w ∷ more)) (or_right (is_among x xs) (bytes_eq w x || is_among x more) (or_left (bytes_eq w x) (is_among x more) (bytes_eq_turned w x ∙ e))) in
-        and_left (not (is_among x (xs ++ w ∷ more))) (are_different (xs ++ w ∷ more)) (not_from_true _ a))
-    | inr e ↦ (
-        let k : is_among w xs ≡ true = rw e at h in
-        and_right (not (is_among x (xs ++ w ∷ more))) (are_different (xs ++ w ∷ more)) (repeated xs w more k)) ]
+  | inl e ↦ (
+      let a : is_among x (xs ++ w ∷ more) ≡ true = rw (among_append x xs (w ∷ more)) (or_right (is_among x xs) (bytes_eq w x || is_among x more) (or_left (bytes_eq w x) (is_among x more) (bytes_eq_turned w x ∙ e))) in
+      and_left (not (is_among x (xs ++ w ∷ more))) (are_different (xs ++ w ∷ more)) (not_from_true _ a))
+  | inr e ↦ (
+      let k : is_among w xs ≡ true = rw e at h in
+      and_right (not (is_among x (xs ++ w ∷ more))) (are_different (xs ++ w ∷ more)) (repeated xs w more k))
+]
 
 -- another word may follow
 pub still_different : (xs : List (List ℕ)) (w : List ℕ) → are_different xs ≡ true → is_among w xs ≡ false → are_different (xs ++ w ∷ []) ≡ true

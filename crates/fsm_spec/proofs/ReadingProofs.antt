@@ -19,8 +19,9 @@ use Rattle.fsm_spec.proofs.FormProofs.{all_append, repeated, still_different}
 filter_append : {X Y : Type 0} (f : X → Option Y) (xs ys : List X) → filter_map f (xs ++ ys) ≡ filter_map f xs ++ filter_map f ys
 filter_append f [] ys = refl
 filter_append f (x ∷ xs) ys = elim (f x) as (λ o. cons_option o (filter_map f (xs ++ ys)) ≡ cons_option o (filter_map f xs) ++ filter_map f ys) [
-    | None ↦ filter_append f xs ys
-    | Some y ↦ ap (λ l. y ∷ l) (filter_append f xs ys) ]
+  | None ↦ filter_append f xs ys
+  | Some y ↦ ap (λ l. y ∷ l) (filter_append f xs ys)
+]
 
 pub among_functions : (f : List ℕ) (operations : List Operation) → list_any (λ o. bytes_eq o.function f) operations ≡ is_among f (functions operations)
 among_functions f [] = refl
@@ -36,22 +37,25 @@ pub record Follows (states : List (List ℕ)) (before : List Operation) (line : 
 follows_new : (states : List (List ℕ)) (before : List Operation) (line : List ℕ) (o : Operation) → length before < 64 → (at : Option Operation) → operation_at states line ≡ at → new_in before at ≡ Some o → Follows states before line o
 follows_new states before line o room None e n = absurd (cc)
 follows_new states before line o room (Some p) e n = elim (cases_Bool (is_among p.function (functions before))) [
-    | inl there ↦ (let f : None ≡ Some o = rw there at n in absurd (cc))
-    | inr new ↦ (let f : Some p ≡ Some o = rw new at n in
-        let g : p ≡ o = cc in
-        record { room = room; form = e ∙ f; other = subst (λ (q : Operation). is_among q.function (functions before) ≡ false) g new }) ]
+  | inl there ↦ (let f : None ≡ Some o = rw there at n in absurd (cc))
+  | inr new ↦ (let f : Some p ≡ Some o = rw new at n in
+      let g : p ≡ o = cc in
+      record { room = room; form = e ∙ f; other = subst (λ (q : Operation). is_among q.function (functions before) ≡ false) g new })
+]
 
 follows : (states : List (List ℕ)) (before : List Operation) (line : List ℕ) (o : Operation) → next_in states before line ≡ Some o → Follows states before line o
 unfolding next_in
 follows states before line o e = elim (cases_Bool (nat_lt (length before) 64)) [
-    | inl room ↦ (let f : new_in before (operation_at states line) ≡ Some o = rw room at e in follows_new states before line o (ltb-true _ _ room) (operation_at states line) refl f)
-    | inr full ↦ (let f : None ≡ Some o = rw full at e in absurd (cc)) ]
+  | inl room ↦ (let f : new_in before (operation_at states line) ≡ Some o = rw room at e in follows_new states before line o (ltb-true _ _ room) (operation_at states line) refl f)
+  | inr full ↦ (let f : None ≡ Some o = rw full at e in absurd (cc))
+]
 
 breaks_by : (states : List (List ℕ)) (before : List Operation) (at : Option Operation) → new_in before at ≡ None → (at ≡ None) ⊎ ((o : Operation) × (at ≡ Some o) × (is_among o.function (functions before) ≡ true))
 breaks_by states before None n = inl refl
 breaks_by states before (Some o) n = elim (cases_Bool (is_among o.function (functions before))) [
-    | inl there ↦ inr (o, refl, there)
-    | inr new ↦ (let f : Some o ≡ None = rw new at n in absurd (cc)) ]
+  | inl there ↦ inr (o, refl, there)
+  | inr new ↦ (let f : Some o ≡ None = rw new at n in absurd (cc))
+]
 
 stepped : (p : ℕ → Bool) (n more less : ℕ) → more ≡ suc less → p n ≡ true → first_fault p n more ≡ first_fault p (suc n) less
 stepped p n more less e t = rw (e, t) refl
@@ -66,16 +70,18 @@ next_full states before line many = rw (le-ltb (length before) 64 many) refl
 pub next_none : (states : List (List ℕ)) (before : List Operation) (line : List ℕ) → operation_at states line ≡ None → None ≡ next_in states before line
 unfolding next_in
 next_none states before line none = elim (cases_Bool (nat_lt (length before) 64)) [
-    | inl room ↦ rw room (rw none refl)
-    | inr full ↦ rw full refl ]
+  | inl room ↦ rw room (rw none refl)
+  | inr full ↦ rw full refl
+]
 
 pub next_twice : (states : List (List ℕ)) (before : List Operation) (line : List ℕ) (o : Operation) → operation_at states line ≡ Some o → list_any (λ p. bytes_eq p.function o.function) before ≡ true → None ≡ next_in states before line
 unfolding next_in
 next_twice states before line o some there =
     let among : is_among o.function (functions before) ≡ true = sym (among_functions o.function before) ∙ there in
     elim (cases_Bool (nat_lt (length before) 64)) [
-    | inl room ↦ rw room (rw some (rw among refl))
-    | inr full ↦ rw full refl ]
+      | inl room ↦ rw room (rw some (rw among refl))
+      | inr full ↦ rw full refl
+    ]
 
 pub next_new : (states : List (List ℕ)) (before : List Operation) (line : List ℕ) (o : Operation) → length before < 64 → operation_at states line ≡ Some o → list_any (λ p. bytes_eq p.function o.function) before ≡ false → Some o ≡ next_in states before line
 unfolding next_in
@@ -127,22 +133,24 @@ reads_more states all left ops line rest o r e n = grown states all left ops lin
 broken : (states all left : List (List ℕ)) (ops : List Operation) (line : List ℕ) (more : List (List ℕ)) → (r : Reads states all left ops) → next_in states ops line ≡ None → are_operations states (r.done ++ line ∷ more) ≡ false
 unfolding are_operations next_in
 broken states all left ops line more r n = elim (cases_Bool (nat_lt (length ops) 64)) [
-    | inl room ↦ (
-        let m : new_in ops (operation_at states line) ≡ None = rw room at n in
-        elim (breaks_by states ops (operation_at states line) m) [
-          | inl none ↦ (
-              let here : is_some (operation_at states line) ≡ false = ap is_some none in
-              and_right _ _ (and_left _ _ (all_append (λ l. is_some (operation_at states l)) r.done (line ∷ more) ∙ and_right _ _ (and_left _ _ here))))
-          | inr twice ↦ (
-              let o = twice.0 in
-              let first : operations_in states (line ∷ more) ≡ o ∷ operations_in states more = ap (λ x. cons_option x (operations_in states more)) twice.1 in
-              let made : operations_in states (r.done ++ line ∷ more) ≡ ops ++ o ∷ operations_in states more = filter_append (operation_at states) r.done (line ∷ more) ∙ ap (λ l. l ++ operations_in states (line ∷ more)) (sym r.made) ∙ ap (λ l. ops ++ l) first in
-              let names : functions (operations_in states (r.done ++ line ∷ more)) ≡ functions ops ++ o.function ∷ functions (operations_in states more) = ap functions made ∙ map-append (λ (x : Operation). x.function) ops (o ∷ operations_in states more) in
-              and_right _ _ (and_right _ _ (ap are_different names ∙ repeated (functions ops) o.function (functions (operations_in states more)) twice.2))) ])
-    | inr full ↦ (
-        let count : length ops ≡ length r.done = r.count in
-        let many : 64 ≤ length ops = ltb-false _ _ full in
-        and_left _ _ (lt-leb (length (r.done ++ line ∷ more)) 64 (omega (arith, length-append r.done (line ∷ more))))) ]
+  | inl room ↦ (
+      let m : new_in ops (operation_at states line) ≡ None = rw room at n in
+      elim (breaks_by states ops (operation_at states line) m) [
+        | inl none ↦ (
+            let here : is_some (operation_at states line) ≡ false = ap is_some none in
+            and_right _ _ (and_left _ _ (all_append (λ l. is_some (operation_at states l)) r.done (line ∷ more) ∙ and_right _ _ (and_left _ _ here))))
+        | inr twice ↦ (
+            let o = twice.0 in
+            let first : operations_in states (line ∷ more) ≡ o ∷ operations_in states more = ap (λ x. cons_option x (operations_in states more)) twice.1 in
+            let made : operations_in states (r.done ++ line ∷ more) ≡ ops ++ o ∷ operations_in states more = filter_append (operation_at states) r.done (line ∷ more) ∙ ap (λ l. l ++ operations_in states (line ∷ more)) (sym r.made) ∙ ap (λ l. ops ++ l) first in
+            let names : functions (operations_in states (r.done ++ line ∷ more)) ≡ functions ops ++ o.function ∷ functions (operations_in states more) = ap functions made ∙ map-append (λ (x : Operation). x.function) ops (o ∷ operations_in states more) in
+            and_right _ _ (and_right _ _ (ap are_different names ∙ repeated (functions ops) o.function (functions (operations_in states more)) twice.2)))
+      ])
+  | inr full ↦ (
+      let count : length ops ≡ length r.done = r.count in
+      let many : 64 ≤ length ops = ltb-false _ _ full in
+      and_left _ _ (lt-leb (length (r.done ++ line ∷ more)) 64 (omega (arith, length-append r.done (line ∷ more)))))
+]
 
 pub reads_broken : (states all left : List (List ℕ)) (ops : List Operation) (line : List ℕ) (rest : List (List ℕ)) → Reads states all left ops → left ≡ line ∷ rest → next_in states ops line ≡ None → operations_answer states all ≡ Err (length ops + 3)
 unfolding operations_answer
@@ -194,8 +202,9 @@ Takes o old new = MatchOption o ((old ≡ []) × (new ≡ [])) (λ line. old ≡
 shifted : (p q : ℕ → Bool) → ((m : ℕ) → p (suc (suc m)) ≡ q m) → (m more : ℕ) → first_fault p (suc (suc m)) more ≡ suc (suc (first_fault q m more))
 shifted p q e m zero = refl
 shifted p q e m (suc more) = elim (cases_Bool (q m)) [
-    | inl t ↦ rw (e m, t) (shifted p q e (suc m) more)
-    | inr f ↦ rw (e m, f) refl ]
+  | inl t ↦ rw (e m, t) (shifted p q e (suc m) more)
+  | inr f ↦ rw (e m, f) refl
+]
 
 -- behind a name and states the lines are operations
 begun : (first second : List ℕ) (name : List ℕ) (states ls : List (List ℕ)) → name_in (words first) ≡ Some name → states_in (words second) ≡ Some states → begins (first ∷ second ∷ ls) ≡ are_operations states ls
@@ -221,12 +230,13 @@ spelled_after name states (Err number) = Breaks number
 both_there : (first second : List ℕ) (name : List ℕ) (states ls : List (List ℕ)) → name_in (words first) ≡ Some name → states_in (words second) ≡ Some states → spelled_by (first ∷ second ∷ ls) ≡ spelled_after name states (operations_answer states ls)
 unfolding operations_answer
 both_there first second name states ls n s = elim (cases_Bool (nat_le 1 (length ls) && are_operations states ls)) [
-    | inl t ↦ (
-        let whole : (nat_le 3 (suc (suc (length ls))) && begins (first ∷ second ∷ ls)) ≡ true = rw (three ls, begun first second name states ls n s) t in
-        rw (whole, t) (rw (n, s) refl))
-    | inr f ↦ (
-        let part : (nat_le 3 (suc (suc (length ls))) && begins (first ∷ second ∷ ls)) ≡ false = rw (three ls, begun first second name states ls n s) f in
-        rw (part, f) (ap Breaks (broken_there first second name states ls n s))) ]
+  | inl t ↦ (
+      let whole : (nat_le 3 (suc (suc (length ls))) && begins (first ∷ second ∷ ls)) ≡ true = rw (three ls, begun first second name states ls n s) t in
+      rw (whole, t) (rw (n, s) refl))
+  | inr f ↦ (
+      let part : (nat_le 3 (suc (suc (length ls))) && begins (first ∷ second ∷ ls)) ≡ false = rw (three ls, begun first second name states ls n s) f in
+      rw (part, f) (ap Breaks (broken_there first second name states ls n s)))
+]
 
 pub spelled_gives : (ls ls1 ls2 : List (List ℕ)) (first second : Option (Bor (List ℕ))) (name : List ℕ) (states : List (List ℕ)) → Takes first ls ls1 → Takes second ls1 ls2 → at_line name_in 1 (option_map (λ l. l.now) first) ≡ Ok name → at_line states_in 2 (option_map (λ l. l.now) second) ≡ Ok states → spelled_by ls ≡ spelled_after name states (operations_answer states ls2)
 spelled_gives ls ls1 ls2 None second name states t1 t2 n s = absurd (cc)

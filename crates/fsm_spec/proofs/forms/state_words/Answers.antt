@@ -8,15 +8,16 @@ use Rattle.fsm_spec.proofs.forms.state_words.Goals.{then-len-eq-MAX_STATES-via-t
 
 pub returns-then-len-eq-MAX_STATES : goal.returns-then-len-eq-MAX_STATES
 returns-then-len-eq-MAX_STATES c = elim c.then-len-eq-MAX_STATES.branch [
-    | then-len-eq-MAX_STATES-via-then-len-eq-MAX_STATES w ↦ (
-        let full : length c.loop-word.states ≡ 8 = omega arith in
-        none_of _ (states_full _ _ _ _ _ c.loop-word.invariant c.in-Some.ensures full))
-    | then-len-eq-MAX_STATES-via-else-len-eq-MAX_STATES+then-not-is_word w ↦ (
-        let other : is_word c.in-Some.word.now ≡ false = first_of (cc, grind (arith, nat_tests)) in
-        none_of _ (states_other _ _ _ _ _ c.loop-word.invariant c.in-Some.ensures other))
-    | then-len-eq-MAX_STATES-via-else-len-eq-MAX_STATES+else-not-is_word+then-is_among w ↦ (
-        let twice : is_among c.in-Some.word.now c.loop-word.states ≡ true = first_of (cc, grind (arith, nat_tests)) in
-        none_of _ (states_twice _ _ _ _ _ c.loop-word.invariant c.in-Some.ensures twice)) ]
+  | then-len-eq-MAX_STATES-via-then-len-eq-MAX_STATES w ↦ (
+      let full : length c.loop-word.states ≡ 8 = omega arith in
+      none_of _ (states_full _ _ _ _ _ c.loop-word.invariant c.in-Some.ensures full))
+  | then-len-eq-MAX_STATES-via-else-len-eq-MAX_STATES+then-not-is_word w ↦ (
+      let other : is_word c.in-Some.word.now ≡ false = first_of (cc, grind (arith, nat_tests)) in
+      none_of _ (states_other _ _ _ _ _ c.loop-word.invariant c.in-Some.ensures other))
+  | then-len-eq-MAX_STATES-via-else-len-eq-MAX_STATES+else-not-is_word+then-is_among w ↦ (
+      let twice : is_among c.in-Some.word.now c.loop-word.states ≡ true = first_of (cc, grind (arith, nat_tests)) in
+      none_of _ (states_twice _ _ _ _ _ c.loop-word.invariant c.in-Some.ensures twice))
+]
 
 pub loop-word-preserved : goal.loop-word-preserved
 loop-word-preserved c =
