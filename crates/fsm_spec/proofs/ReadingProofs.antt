@@ -1,9 +1,9 @@
 -- The lines of operations that were read so far, and what follows where one breaks the form; and what the first
 -- lines add to that.
-use Rattle.std.proofs.Common.{◌≡◌, ℕ, zero, suc, ◌+◌, ◌<◌, ◌≤◌, Bool, true, false, cond, List, [], ◌∷◌, ◌++◌, length, take, map, refl, sym, ap, subst, ◌∙◌, arith, Option, Some, None, inl, inr, ◌⊎◌, Bor}
-use Rattle.std.specs.Prelude.{not, ◌&&◌, ◌||◌, nat_le, nat_lt, is_some, Result, Ok, Err, bytes_eq, MatchOption, option_map, IsErrAnd}
+use Rattle.std.proofs.Common.{◌≡◌, ℕ, zero, suc, ◌+◌, ◌<◌, ◌≤◌, Bool, true, false, List, [], ◌∷◌, ◌++◌, length, take, refl, sym, ap, subst, ◌∙◌, arith, Option, Some, None, inl, inr, ◌⊎◌, Bor}
+use Rattle.std.specs.Prelude.{◌&&◌, ◌||◌, nat_le, nat_lt, is_some, Result, Ok, Err, bytes_eq, MatchOption, option_map, IsErrAnd}
 use Rattle.std.specs.List.{list_all, list_any, filter_map, cons_option}
-use Rattle.std.proofs.lemmas.Bool.{and_parts, and_left, and_right, and_from, cases_Bool, le-leb, lt-leb, lt-ltb, le-ltb, ltb-true, ltb-false}
+use Rattle.std.proofs.lemmas.Bool.{and_left, and_right, and_from, cases_Bool, le-leb, lt-leb, lt-ltb, le-ltb, ltb-true, ltb-false}
 use Rattle.std.proofs.lemmas.List.{append-nil, append_assoc, length-append, map-append, take_at, nil_from_length}
 use Rattle.std.proofs.lemmas.Bool.Decides.{nat_tests}
 use Rattle.fsm_spec.specs.declared.fault.MachineAnswer.{MachineAnswer}
@@ -11,8 +11,8 @@ use Rattle.fsm_spec.specs.declared.fault.MachineAnswer.TheVariants as answer
 use Rattle.fsm_spec.specs.declared.table.Operation.{Operation}
 use Rattle.fsm_spec.specs.declared.table.MachineSpec.{MachineSpec}
 use Rattle.fsm_spec.specs.Words.{is_among, are_different, words}
-use Rattle.fsm_spec.specs.Forms.{name_in, states_in, operation_in}
-use Rattle.fsm_spec.specs.Reading.{operation_at, operations_in, functions, are_operations, first_fault, begins, begins_with, broken_line, machine_of, Spelled, Machine, Breaks, spelled_by, Answers}
+use Rattle.fsm_spec.specs.Forms.{name_in, states_in}
+use Rattle.fsm_spec.specs.Reading.{operation_at, operations_in, functions, are_operations, first_fault, begins, broken_line, Spelled, Machine, Breaks, spelled_by, Answers}
 use Rattle.fsm_spec.specs.Steps.{Gives, at_line, or_number, next_in, new_in, operations_answer}
 use Rattle.fsm_spec.proofs.FormProofs.{all_append, repeated, still_different}
 

@@ -1,27 +1,28 @@
 -- Each machine that a file spells has two to eight states, and targets in range.
-use Rattle.std.proofs.Common.{◌≡◌, ℕ, zero, suc, ◌+◌, ◌<◌, ◌≤◌, Bool, true, false, cond, List, [], ◌∷◌, length, take, refl, sym, ap, subst, ◌∙◌, arith, Option, Some, None, inl, inr, Ok, Err, Result}
-use Rattle.std.specs.Prelude.{not, ◌&&◌, ◌==◌, nat_le, nat_lt, is_some, bytes_eq, option_map, option_and_then, slice_get, position, unwrap_or, codes}
-use Rattle.std.specs.List.{list_all, filter_map, cons_option, position_or_len}
+use Rattle.std.proofs.Common.{◌≡◌, ℕ, zero, suc, ◌<◌, ◌≤◌, Bool, true, List, [], ◌∷◌, length, refl, ap, subst, arith, Option, Some, None, inl, inr}
+use Rattle.std.specs.Prelude.{◌&&◌, ◌==◌, nat_le, nat_lt, is_some, bytes_eq, option_map, option_and_then, slice_get, position, unwrap_or, codes}
+use Rattle.std.specs.List.{list_all, cons_option, position_or_len}
 use Rattle.std.proofs.lemmas.Bool.{and_parts, and_from, cases_Bool, leb-true, ltb-true, lt-ltb, eq-eqb}
 use Rattle.fsm_spec.specs.declared.table.MachineSpec.{MachineSpec}
 use Rattle.fsm_spec.specs.declared.table.Operation.{Operation}
 use Rattle.fsm_spec.specs.declared.table.Returns.{Returns}
-use Rattle.fsm_spec.specs.Words.{is_word, is_word_byte, are_different, lines, number_of, words}
+use Rattle.fsm_spec.specs.Words.{is_word, is_word_byte, lines, number_of, words}
 use Rattle.fsm_spec.specs.Forms.{after, are_states, both, goal_in, head_in, is_function, name_in, operation_in, operation_of, returns_in, states_in, target_in, targets_in, with_targets}
-use Rattle.fsm_spec.specs.Reading.{operation_at, operations_in, functions, are_operations, begins, begins_with, broken_line, machine_of, Machine, Breaks, spelled, spelled_by}
-use Rattle.fsm_spec.specs.Table.{IsWhole, first_target, has_targets, is_target, joined, on_any, target_of, targets_at, targets_of}
+use Rattle.fsm_spec.specs.Reading.{operation_at, operations_in, are_operations, begins, begins_with, broken_line, machine_of, Machine, Breaks, spelled, spelled_by}
+use Rattle.fsm_spec.specs.Table.{IsWhole, first_target, has_targets, is_target, joined, targets_at, targets_of}
 use Rattle.fsm_spec.specs.Lock.{lock_file, locks}
 
 -- ---- targets
 
 position_below : {X : Type 0} (p : X → Bool) (xs : List X) (i : ℕ) → position p xs ≡ Some i → i < length xs
 position_below p xs i e = elim (cases_Bool (nat_lt (position_or_len p xs) (length xs))) [
-    | inl t ↦ (
-        let f : Some (position_or_len p xs) ≡ Some i = rw t at e in
-        let g : position_or_len p xs ≡ i = cc in
-        let h : position_or_len p xs < length xs = ltb-true _ _ t in
-        omega arith)
-    | inr f ↦ (let g : None ≡ Some i = rw f at e in absurd (cc)) ]
+  | inl t ↦ (
+      let f : Some (position_or_len p xs) ≡ Some i = rw t at e in
+      let g : position_or_len p xs ≡ i = cc in
+      let h : position_or_len p xs < length xs = ltb-true _ _ t in
+      omega arith)
+  | inr f ↦ (let g : None ≡ Some i = rw f at e in absurd (cc))
+]
 
 numbered : (k : ℕ) (o : Option ℕ) (t : Option ℕ) → ((i : ℕ) → o ≡ Some i → i < k) → option_map Some o ≡ Some t → is_target k t ≡ true
 numbered k None t below e = absurd (cc)
@@ -32,13 +33,14 @@ numbered k (Some i) t below e =
 goal_below : (states : List (List ℕ)) (goal : List ℕ) (t : Option ℕ) → goal_in states goal ≡ Some t → is_target (length states) t ≡ true
 unfolding goal_in
 goal_below states goal t e = elim (cases_Bool (bytes_eq goal (codes "!"))) [
-    | inl y ↦ (
-        let f : Some None ≡ Some t = rw y at e in
-        let g : None ≡ t = cc in
-        subst (λ (x : Option ℕ). is_target (length states) x ≡ true) g refl)
-    | inr n ↦ (
-        let f : option_map Some (number_of goal states) ≡ Some t = rw n at e in
-        numbered (length states) (number_of goal states) t (position_below _ states) f) ]
+  | inl y ↦ (
+      let f : Some None ≡ Some t = rw y at e in
+      let g : None ≡ t = cc in
+      subst (λ (x : Option ℕ). is_target (length states) x ≡ true) g refl)
+  | inr n ↦ (
+      let f : option_map Some (number_of goal states) ≡ Some t = rw n at e in
+      numbered (length states) (number_of goal states) t (position_below _ states) f)
+]
 
 then_some : {X Y : Type 0} (f : X → Option Y) (o : Option X) (y : Y) → option_and_then f o ≡ Some y → (x : X) × (f x ≡ Some y)
 then_some f None y e = absurd (cc)
@@ -126,9 +128,13 @@ first_below k (Some x ∷ ts) t a e =
 
 whole_by : (machine : MachineSpec) → 2 ≤ length machine.states → length machine.states ≤ 8 → 1 ≤ length machine.operations → length machine.operations ≤ 64 → list_all (has_targets (length machine.states)) machine.operations ≡ true → IsWhole machine
 whole_by machine a b c d e = record {
-  least_states = a; most_states = b; least_operations = c; most_operations = d; targets = e;
+  least_states = a;
+  most_states = b;
+  least_operations = c;
+  most_operations = d;
+  targets = e;
   in_range = λ op state t f. joined_below (length machine.states) (slice_get (targets_at machine op) state) t (λ x g. get_whole (is_target (length machine.states)) (targets_at machine op) state x (at_whole (length machine.states) (slice_get machine.operations op) (λ o h. get_whole (has_targets (length machine.states)) machine.operations op o e h)) g) f;
-  any_in_range = λ op t f. first_below (length machine.states) (targets_at machine op) t (at_whole (length machine.states) (slice_get machine.operations op) (λ o h. get_whole (has_targets (length machine.states)) machine.operations op o e h)) f
+  any_in_range = λ op t f. first_below (length machine.states) (targets_at machine op) t (at_whole (length machine.states) (slice_get machine.operations op) (λ o h. get_whole (has_targets (length machine.states)) machine.operations op o e h)) f;
 }
 
 -- ---- files
@@ -137,11 +143,12 @@ key_states : (ws ss : List (List ℕ)) → states_in ws ≡ Some ss → are_stat
 unfolding states_in
 key_states [] ss e = absurd (cc)
 key_states (key ∷ names) ss e = elim (cases_Bool (bytes_eq key (codes "states") && are_states names)) [
-    | inl t ↦ (
-        let f : Some names ≡ Some ss = rw t at e in
-        let g : names ≡ ss = cc in
-        subst (λ (x : List (List ℕ)). are_states x ≡ true) g (and_parts (bytes_eq key (codes "states")) (are_states names) t).1)
-    | inr n ↦ (let f : None ≡ Some ss = rw n at e in absurd (cc)) ]
+  | inl t ↦ (
+      let f : Some names ≡ Some ss = rw t at e in
+      let g : names ≡ ss = cc in
+      subst (λ (x : List (List ℕ)). are_states x ≡ true) g (and_parts (bytes_eq key (codes "states")) (are_states names) t).1)
+  | inr n ↦ (let f : None ≡ Some ss = rw n at e in absurd (cc))
+]
 
 behind : (name : List ℕ) (o : Option (List (List ℕ))) (ls : List (List ℕ)) → ((ss : List (List ℕ)) → o ≡ Some ss → are_states ss ≡ true) → begins_with o ls ≡ true → 1 ≤ length ls → IsWhole (record { name = name; states = unwrap_or o []; operations = operations_in (unwrap_or o []) ls })
 unfolding are_operations are_states
@@ -166,12 +173,13 @@ lines_whole (first ∷ second ∷ ls) n e =
 
 by_whole : (ls : List (List ℕ)) (machine : MachineSpec) → spelled_by ls ≡ Machine machine → IsWhole machine
 by_whole ls machine e = elim (cases_Bool (nat_le 3 (length ls) && begins ls)) [
-    | inl t ↦ (
-        let f : Machine (machine_of ls) ≡ Machine machine = rw t at e in
-        let g : machine_of ls ≡ machine = cc in
-        let p = and_parts (nat_le 3 (length ls)) (begins ls) t in
-        subst IsWhole g (lines_whole ls p.0 p.1))
-    | inr n ↦ (let f : Breaks (broken_line ls) ≡ Machine machine = rw n at e in absurd (cc)) ]
+  | inl t ↦ (
+      let f : Machine (machine_of ls) ≡ Machine machine = rw t at e in
+      let g : machine_of ls ≡ machine = cc in
+      let p = and_parts (nat_le 3 (length ls)) (begins ls) t in
+      subst IsWhole g (lines_whole ls p.0 p.1))
+  | inr n ↦ (let f : Breaks (broken_line ls) ≡ Machine machine = rw n at e in absurd (cc))
+]
 
 pub whole : (bytes : List ℕ) (machine : MachineSpec) → spelled bytes ≡ Machine machine → IsWhole machine
 unfolding spelled

@@ -1,6 +1,6 @@
 -- The machine of locks as a table: a lock is unlocked (U) or locked (L); locking a locked lock and unlocking an
 -- unlocked one are errors. The functions that only try to lock are no operations: they have a rule of their own.
-use Rattle.std.specs.Prelude.{ℕ, List, [], ◌∷◌, ◌++◌, Option, Some, None, codes}
+use Rattle.std.specs.Prelude.{ℕ, List, [], ◌∷◌, ◌++◌, Some, None, codes}
 use Rattle.fsm_spec.specs.declared.table.MachineSpec.{MachineSpec}
 use Rattle.fsm_spec.specs.declared.table.Operation.{Operation}
 use Rattle.fsm_spec.specs.declared.table.Returns.{Returns}

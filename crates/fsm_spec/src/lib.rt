@@ -16,7 +16,7 @@ mod table;
 mod words;
 
 pub use fault::{MachineAnswer, OutOfMemory};
-pub use laws::{lock_file, whole_machines};
+pub use laws::{lock_file, state_numbers, whole_machines};
 pub use list::List;
 pub use lock::locks;
 pub use reading::machine;

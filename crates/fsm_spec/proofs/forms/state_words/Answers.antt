@@ -1,8 +1,8 @@
 -- A word that breaks the form ends the reading; else it goes behind the state words so far.
-use Rattle.std.proofs.Common.{◌≡◌, ◌<◌, ◌≤◌, ◌++◌, ◌∷◌, [], length, true, false, arith, rules}
+use Rattle.std.proofs.Common.{◌≡◌, ◌<◌, ◌≤◌, length, true, false, arith, rules}
 use Rattle.fsm_spec.specs.Words.{is_word, is_among}
 use Rattle.std.proofs.lemmas.Bool.Decides.{nat_tests}
-use Rattle.fsm_spec.proofs.FormProofs.{ReadsStates, none_of, some_of, states_begin, states_grow, states_full, states_other, states_twice, states_few, states_done, states_end}
+use Rattle.fsm_spec.proofs.FormProofs.{none_of, some_of, states_grow, states_full, states_other, states_twice, states_few, states_done, states_end}
 use Rattle.fsm_spec.proofs.forms.state_words.Goals as goal
 use Rattle.fsm_spec.proofs.forms.state_words.Goals.{then-len-eq-MAX_STATES-via-then-len-eq-MAX_STATES, then-len-eq-MAX_STATES-via-else-len-eq-MAX_STATES+then-not-is_word, then-len-eq-MAX_STATES-via-else-len-eq-MAX_STATES+else-not-is_word+then-is_among}
 

@@ -1,6 +1,4 @@
 -- Each machine of a file is whole, and the machine of locks is that of a file.
-use Rattle.std.proofs.Common.{refl}
-use Rattle.fsm_spec.specs.Lock.{lock_file, locks}
 use Rattle.fsm_spec.proofs.WholeProofs.{whole, lock_whole}
 use Rattle.fsm_spec.proofs.laws.whole_machines.Goals as goal
 

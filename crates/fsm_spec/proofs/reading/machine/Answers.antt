@@ -1,6 +1,6 @@
 -- The first two lines, and then the operations, make up what the bytes spell.
-use Rattle.std.proofs.Common.{◌≡◌, ◌∙◌, ap, sym, subst, Ok, List, Option, ℕ, Err, Result}
-use Rattle.fsm_spec.specs.Reading.{spelled, spelled_by, Answers, Machine, Spelled}
+use Rattle.std.proofs.Common.{◌≡◌, ◌∙◌, ap, sym, subst, Ok, List, Err}
+use Rattle.fsm_spec.specs.Reading.{spelled, spelled_by, Answers, Spelled}
 use Rattle.fsm_spec.specs.declared.table.Operation.{Operation}
 use Rattle.fsm_spec.specs.Steps.{Gives, operations_answer}
 use Rattle.fsm_spec.specs.Words.{lines}

@@ -1,11 +1,10 @@
 -- The four cases of the operation of a line.
-use Rattle.std.proofs.Common.{◌≡◌, ◌<◌, ◌≤◌, length, true, false, arith, Some, None, ◌∙◌, sym}
+use Rattle.std.proofs.Common.{◌≡◌, true, false, arith, Some, None}
 use Rattle.std.specs.Prelude.{bytes_eq}
 use Rattle.std.proofs.lemmas.Bool.Decides.{nat_tests}
 use Rattle.std.specs.List.{list_any}
-use Rattle.fsm_spec.specs.Words.{is_among}
-use Rattle.fsm_spec.specs.Reading.{operation_at, functions}
-use Rattle.fsm_spec.proofs.ReadingProofs.{among_functions, next_full, next_none, next_twice, next_new}
+use Rattle.fsm_spec.specs.Reading.{operation_at}
+use Rattle.fsm_spec.proofs.ReadingProofs.{next_full, next_none, next_twice, next_new}
 use Rattle.fsm_spec.proofs.reading.next_operation.Goals as goal
 
 pub returns-then-operations-ge-MAX_OPERATIONS : goal.returns-then-operations-ge-MAX_OPERATIONS

@@ -1,7 +1,7 @@
 -- A line goes behind those so far, or breaks the form.
-use Rattle.std.proofs.Common.{◌≡◌, ◌<◌, ◌+◌, length, Some, None, arith, ap, sym, ◌∙◌, Err}
+use Rattle.std.proofs.Common.{◌≡◌, ◌<◌, length, Some, None, arith, sym, ◌∙◌}
 use Rattle.fsm_spec.specs.Steps.{next_in}
-use Rattle.fsm_spec.proofs.ReadingProofs.{Reads, reads_more, reads_broken, reads_end, reads_none}
+use Rattle.fsm_spec.proofs.ReadingProofs.{reads_more, reads_broken, reads_end, reads_none}
 use Rattle.fsm_spec.proofs.reading.operations.Goals as goal
 
 pub returns-in_default-2 : goal.returns-in_default-2
