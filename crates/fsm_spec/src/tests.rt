@@ -1,7 +1,7 @@
 //! Machine files whose answers are known, each limit at its edge, and the files of `examples/machines`.
 #![tactic(auto)]
 
-use crate::{MachineAnswer, OutOfMemory, machine};
+use crate::{MachineAnswer, OutOfMemory, locks, machine};
 use std::alloc::{AllocError, Global};
 use std::test::Fail;
 
@@ -176,5 +176,12 @@ fn the_example_files(rt: HostRuntime) -> Result<(), Fail> {
             .ok_or("the machine has the function")?;
         assert_eq!(rt; machine.target(op, state), None);
     }
+    Ok(())
+}
+
+#[test]
+fn the_machine_of_locks(rt: HostRuntime) -> Result<(), Fail> {
+    let locks = locks(rt.alloc())?;
+    assert_eq!(rt; locks.find("mutex_unlock"), Some(4));
     Ok(())
 }
