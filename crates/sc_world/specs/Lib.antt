@@ -11,3 +11,7 @@ pub mod World
 pub mod Eval
 pub mod Known
 pub mod Exec
+pub mod Paths
+pub mod Shows
+pub mod Choices
+pub mod Verdict
