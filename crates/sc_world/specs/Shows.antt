@@ -256,7 +256,8 @@ pub data Query : Type 0 where
   Outs : (param : ℕ) → Row → Query
   -- it exits and has written the cell
   Writes : (at : ℕ) → Query
-  -- it ends in an error at a location of that text, which the caller does not know
+  -- it ends in an error at the location, which the caller does not know; at a location of that text
+  EndsAt : (at : ℕ) → Query
   Errs : (text : List ℕ) → Query
   -- it exits, and an object of a call at the place is lost
   Leaks : Pos → Query
@@ -317,5 +318,6 @@ says x o (Params n r) = exits o && has_param_row o n r
 says x o (Sets n) = exits o && has o flag.Written (param_object o n)
 says x o (Outs n r) = exits o && has_out_row o n r
 says x o (Writes at) = exits o && has o flag.Written at
+says x o (EndsAt at) = is_it at (ends_inner o.ended)
 says x o (Errs t) = text_is x t (ends_inner o.ended)
 says x o (Leaks p) = exits o && loses o p
