@@ -12,7 +12,7 @@ use Rattle.sc_tree.specs.declared.op.Step.{Step}
 use Rattle.sc_tree.specs.declared.op.Step.TheVariants as by
 use Rattle.sc_tree.specs.declared.expr.Place.{Place}
 use Rattle.sc_typed.specs.Arith.{computed, takes, of_one, resized, truth}
-use Rattle.sc_world.specs.Machine.{target_of as state_from, on_any}
+use Rattle.fsm_spec.specs.Table.{target_of as state_from, on_any}
 use Rattle.run_store.specs.declared.Flag.TheVariants as flag
 use Rattle.run_store.specs.Concrete.{Cell, Number as Num, Pointer, Nothing}
 use Rattle.sum_rows.specs.declared.path.Step.TheVariants as step

@@ -1,7 +1,7 @@
 -- Calls that act by a summary.
 use Rattle.std.specs.Prelude.{ℕ, zero, suc, ◌+◌, ◌-◌, ◌*◌, nat_eq, nat_lt, Bool, true, false, not, ◌&&◌, ◌||◌, Option, Some, None, List, [], ◌∷◌, ◌++◌, length, map, slice_index_or, Ok, if◌then◌else◌}
 use Rattle.std.specs.List.{list_any, list_all, range_with_len}
-use Rattle.sc_world.specs.Machine.{state_of_number, bits_of_states}
+use Rattle.fsm_spec.specs.Table.{state_of_number, bits_of_states}
 use Rattle.run_store.specs.declared.Flag.TheVariants as flag
 use Rattle.run_store.specs.Concrete.{Cell, Number, Pointer, Nothing, Kind, Numbers, Pointers, NoCell, kind_of}
 use Rattle.sum_rows.specs.declared.path.Path.{Path}

@@ -1,4 +1,3 @@
-pub mod Machine
 pub mod Tree
 pub mod Build
 pub mod Source

@@ -3,7 +3,7 @@ use Rattle.std.specs.Prelude.{ℕ, zero, suc, ◌+◌, ◌-◌, ◌*◌, min, na
 use Rattle.std.specs.List.{list_any}
 use Rattle.sc_base.specs.declared.pos.NameId.{NameId}
 use Rattle.sc_base.specs.declared.skip.LimitKind.TheVariants as limit
-use Rattle.sc_world.specs.Machine.{bits_of_states}
+use Rattle.fsm_spec.specs.Table.{bits_of_states}
 use Rattle.sum_rows.specs.declared.path.Step.{Step}
 use Rattle.sum_rows.specs.declared.path.Step.TheVariants as step
 use Rattle.sc_world.specs.declared.run.Origin.{Origin}

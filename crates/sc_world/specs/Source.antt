@@ -2,8 +2,8 @@
 use Rattle.std.specs.Prelude.{ℕ, ◌+◌, nat_eq, Bool, true, false, not, ◌&&◌, ◌||◌, Option, Some, None, List, [], ◌∷◌, length, slice_index_or, codes, bytes_eq, if◌then◌else◌}
 use Rattle.sc_base.specs.declared.pos.NameId.{NameId}
 use Rattle.sc_tree.specs.declared.ctype.Widths.{Widths}
-use Rattle.sc_world.specs.Machine.{MachineSpec}
-use Rattle.sc_world.specs.Machine.{find_in}
+use Rattle.fsm_spec.specs.declared.table.MachineSpec.{MachineSpec}
+use Rattle.fsm_spec.specs.Table.{find_in}
 use Rattle.sum_rows.specs.declared.row.Summary.{Summary}
 use Rattle.sc_world.specs.Tree.{Ty, Void, Stm, Exp, Exps, NoExps, Exps', Function, type_of, is_integer, is_pointer, is_void}
 

@@ -5,7 +5,7 @@
 use Rattle.std.specs.Prelude.{ℕ, zero, suc, ◌+◌, ◌-◌, ◌*◌, nat_eq, nat_lt, Bool, true, false, not, ◌&&◌, ◌||◌, Option, Some, None, List, [], ◌∷◌, ◌++◌, length, map, slice_index_or, Result, Ok, Err, if◌then◌else◌}
 use Rattle.sc_base.specs.declared.pos.Pos.{Pos}
 use Rattle.sc_base.specs.declared.pos.NameId.{NameId}
-use Rattle.sc_world.specs.Machine.{state_of_number, bits_of_states}
+use Rattle.fsm_spec.specs.Table.{state_of_number, bits_of_states}
 use Rattle.run_store.specs.declared.Flag.{Flag}
 use Rattle.run_store.specs.declared.Flag.TheVariants as flag
 use Rattle.run_store.specs.Concrete.{Cell, Number, Pointer, Nothing, Kind, Numbers, Pointers, NoCell, Place, Marks, blank, nth_cell, change, flag_at, marked}
