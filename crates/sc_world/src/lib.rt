@@ -2,6 +2,8 @@
 //! and which bytes are written.
 #![tactic(auto)]
 
+mod laws;
 mod run;
 
+pub use laws::the_first_choice;
 pub use run::{Origin, Reason};
