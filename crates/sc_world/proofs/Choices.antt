@@ -10,7 +10,7 @@ Is : (n : ℕ) → List Bool → (List Bool → Bool) → Option (List Bool) →
 Is n front test None = (d : List Bool) → length d ≡ n → test (front ++ d) ≡ false
 Is n front test (Some c) =
     (d : List Bool) × (length d ≡ n) × (c ≡ front ++ d) × (test c ≡ true)
-      × ((e : List Bool) → length e ≡ n → Before e d → test (front ++ e) ≡ false)
+    × ((e : List Bool) → length e ≡ n → Before e d → test (front ++ e) ≡ false)
 
 no_bits : (d : List Bool) → length d ≡ 0 → d ≡ []
 no_bits [] l = refl
@@ -70,7 +70,7 @@ found : (n : ℕ) (test : List Bool → Bool) (c : List Bool) → Is n [] test (
 unfolding Is
 found n test c (d, l, is, p, least) =
     subst (λ (x : List Bool). IsLeast n test x) (sym is)
-      (record { long = l; passes = ap test (sym is) ∙ p; least = least })
+    (record { long = l; passes = ap test (sym is) ∙ p; least = least })
 
 pub least_of : (n : ℕ) (test : List Bool → Bool) (c : List Bool) → first_choice n test ≡ Some c → IsLeast n test c
 least_of n test c e = found n test c (subst (λ (r : Option (List Bool)). Is n [] test r) e (search_is n [] test))

@@ -56,8 +56,8 @@ number_to env from to n =
     if is_bool to
     then Num 1 (truth (not (nat_eq n 0)))
     else (if is_integer to
-      then Num (int_bits env.source.widths to) (resized (has_sign from) (int_bits env.source.widths from) (int_bits env.source.widths to) n)
-      else (if is_pointer to then null else Nothing))
+    then Num (int_bits env.source.widths to) (resized (has_sign from) (int_bits env.source.widths from) (int_bits env.source.widths to) n)
+    else (if is_pointer to then null else Nothing))
 
 abbrev pub pointer_as : Env → Ty → ℕ → Cell
 pointer_as env to p =
@@ -118,8 +118,8 @@ one_step by.Down = op.Sub
 abbrev pub counted : Env → Step → Ty → Cell → Run Cell
 counted env s t old =
     operated env (one_step s) (promoted_type t) (promoted_type t) (convert env t (promoted_type t) old)
-        (Num (int_bits env.source.widths (promoted_type t)) 1)
-      >>= λ v. done (convert env (promoted_type t) t v)
+    (Num (int_bits env.source.widths (promoted_type t)) 1)
+    >>= λ v. done (convert env (promoted_type t) t v)
 
 -- Structs: the cells of an object, in order.
 
@@ -253,8 +253,8 @@ abbrev pub unknown : Env → Occurrence → Ty → List Cell → Run Cell
 unknown env o t vs = do
   _ ← escape_all env vs
   if is_integer t
-    then done (Num (int_bits env.source.widths t) (number_at env.choice o.bit (int_bits env.source.widths t)))
-    else (if is_pointer t
+      then done (Num (int_bits env.source.widths t) (number_at env.choice o.bit (int_bits env.source.widths t)))
+      else (if is_pointer t
       then (if bit_at env.choice o.bit then escaped_object env (target_or_null o.object) else done null)
       else done Nothing)
 
@@ -352,10 +352,10 @@ abbrev mutual
   eval (Binary o a b t) want env = do
     x ← eval a Value env
     if is_logical o
-      then (if needs_right o (is_true x)
+        then (if needs_right o (is_true x)
         then (eval b Value env >>= λ y. done (truth_cell env t (is_true y)))
         else done (truth_cell env t (is_true x)))
-      else (eval b Value env >>= λ y. operated env o (type_of a) t x y)
+        else (eval b Value env >>= λ y. operated env o (type_of a) t x y)
   eval (Cast a t) want env = convert_of (type_of a) (eval a) t env
   eval (Unary sign.Address a t) want env = eval a Place' env
   eval (Unary sign.Deref a t) want env = do

@@ -227,14 +227,14 @@ switch_event env t _ = what.Switch (pos 0)
 abbrev pub while_by : Pos → Exp → Env → (Env → Run Flow) → Run Flow
 while_by p e env body =
     turns env.source.depth 0
-        (λ t. condition p what.Loop e (in_turn env (env.source.depth + 1) t))
-        (λ t. body (in_turn env env.source.depth t))
+    (λ t. condition p what.Loop e (in_turn env (env.source.depth + 1) t))
+    (λ t. body (in_turn env env.source.depth t))
 
 abbrev pub do_by : Pos → Exp → Env → (Env → Run Flow) → Run Flow
 do_by p e env body =
     do_turns env.source.depth 0
-        (λ t. condition p what.Loop e (in_turn env env.source.depth t))
-        (λ t. body (in_turn env env.source.depth t))
+    (λ t. condition p what.Loop e (in_turn env env.source.depth t))
+    (λ t. body (in_turn env env.source.depth t))
 
 -- the step of a `for` runs behind its body, also behind `continue`
 abbrev pub with_step : Option Exp → Env → Flow → Run Flow
@@ -245,8 +245,8 @@ with_step n env f = done f
 abbrev pub for_by : Pos → Option Exp → Option Exp → Env → (Env → Run Flow) → Run Flow
 for_by p c n env body =
     turns env.source.depth 0
-        (λ t. condition_if p c (in_turn env (env.source.depth + 1) t))
-        (λ t. body (in_turn env env.source.depth t) >>= λ f. with_step n (in_turn env env.source.depth t) f)
+    (λ t. condition_if p c (in_turn env (env.source.depth + 1) t))
+    (λ t. body (in_turn env env.source.depth t) >>= λ f. with_step n (in_turn env env.source.depth t) f)
 
 abbrev pub return_value : Pos → Option Exp → Env → Run Flow
 return_value p None env = event p what.Return >>= λ _. done (Returns Nothing)

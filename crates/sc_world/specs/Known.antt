@@ -200,7 +200,7 @@ writes env vs items k (x ∷ xs) =
     if is_out_path items x.path
     then writes env vs items k xs
     else (follow_path env vs x.path >>= λ at. writes env vs items (k + 1) xs >>= λ ws.
-        done (with_written x.width (spot_at env.layout k) at ws))
+    done (with_written x.width (spot_at env.layout k) at ws))
 
 -- whether two of some numbers are one
 abbrev pub meet_twice : List ℕ → Bool
@@ -285,7 +285,7 @@ stands_if given result (Some s) rows = stands (row given state.Nil result s) row
 abbrev pub for_param : Env → List Cell → ℕ → Gives → (spot : ℕ) → List Row → Item → Bool
 for_param env vs given result k rows (item.Param n) =
     not (is_true (slice_index_or vs n null))
-      || stands_if given result (param_state (number_at env.choice (spot_at env.layout k).bit 2)) rows
+    || stands_if given result (param_state (number_at env.choice (spot_at env.layout k).bit 2)) rows
 for_param env vs given result k rows _ = true
 
 -- a parameter's item needs its row where the argument is not null
@@ -447,7 +447,7 @@ rows_stand env a g = do
   b ← locks_stand env a.given g.result a.locks
   done (stands (row a.given state.Nil g.result g.kind) (exit_rows a.summary.items)
       && (b && (params_stand env a.args a.given g.result (param_spot a) a.summary.items
-        && list_all (out_stands env a.given g.result) a.outs)))
+      && list_all (out_stands env a.given g.result) a.outs)))
 
 abbrev pub acts_as : Env → Acting → Option Given → Run Cell
 acts_as env a None = aside reason.NoRow

@@ -202,8 +202,8 @@ kind_of_result o c =
     if not (is_true c)
     then state.Null
     else (if is_own o c && not (is_among_if (reached o (objects_held o (λ k. true) (numbers o))) (object_of o c))
-      then state.Fresh
-      else state.Other)
+    then state.Fresh
+    else state.Other)
 
 abbrev pub result_kind : Over → State
 result_kind o = if is_pointer o.source.result then kind_of_result o (result_cell o.ended) else state.Nil
@@ -272,8 +272,8 @@ is_error r at = errs_at r at
 abbrev pub has_lock_row : Over → ℕ → Row → Bool
 has_lock_row o at r =
     is_met o at
-      && ((exits o && same_row r (row (given o) (state_before o at) (result o) (state_now o at)))
-        || (errs_at o.ended at && same_row r (row (given o) (state_before o at) gives.Nothing state.Bad)))
+    && ((exits o && same_row r (row (given o) (state_before o at) (result o) (state_now o at)))
+    || (errs_at o.ended at && same_row r (row (given o) (state_before o at) gives.Nothing state.Bad)))
 
 abbrev pub is_fate : State → Bool
 is_fate state.Freed = true

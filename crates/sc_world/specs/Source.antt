@@ -74,12 +74,12 @@ built_in text =
     if is_one_of (codes "malloc" ∷ codes "kmalloc" ∷ []) text
     then Some (Allocate false)
     else (if is_one_of (codes "calloc" ∷ codes "kzalloc" ∷ []) text
-      then Some (Allocate true)
-      else (if is_one_of (codes "free" ∷ codes "kfree" ∷ []) text
-        then Some Release
-        else (if is_one_of ends_names text
-          then Some Ends
-          else (if bytes_eq (codes "__builtin_expect") text then Some Expect else None))))
+    then Some (Allocate true)
+    else (if is_one_of (codes "free" ∷ codes "kfree" ∷ []) text
+    then Some Release
+    else (if is_one_of ends_names text
+    then Some Ends
+    else (if bytes_eq (codes "__builtin_expect") text then Some Expect else None))))
 
 -- functions that try to lock
 abbrev pub trying : List ℕ → Option Effect

@@ -236,8 +236,8 @@ module _ (s : Source) (x : Texts) (q : Answers) where
   abbrev pub reports : List Report
   reports =
       flat_map double touched
-        ++ (flat_map ambiguous touched
-          ++ (flat_map inner (texts_from [] numbers) ++ flat_map leak (places_of_calls [] layout.sites)))
+      ++ (flat_map ambiguous touched
+      ++ (flat_map inner (texts_from [] numbers) ++ flat_map leak (places_of_calls [] layout.sites)))
 
   abbrev pub done_with : Verdict
   done_with = verdict.Done summary reports
