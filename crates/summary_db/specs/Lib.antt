@@ -1,0 +1,5 @@
+pub mod Views
+pub mod Places
+pub mod Rule
+pub mod Passes
+pub mod Lays

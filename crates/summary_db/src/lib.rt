@@ -1,0 +1,15 @@
+// The write-once database.
+#![tactic(auto)]
+
+pub mod knows;
+mod lay;
+pub mod laws;
+pub mod pass;
+pub mod place;
+pub mod rule;
+pub mod work;
+
+pub use knows::Knows;
+pub use pass::{Claim, Job, Pass, Seen};
+pub use place::Place;
+pub use work::Work;
