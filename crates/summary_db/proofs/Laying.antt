@@ -1,14 +1,15 @@
 -- The lists of numbers, as places are numbered one after another.
-use Rattle.std.proofs.Common.{◌≡◌, ◌≢◌, ℕ, zero, suc, ◌+◌, ◌<◌, ◌≤◌, true, false, cond, eqb, ◌||◌, List, [], ◌∷◌, ◌++◌, length, map, take, get_or, set, refl, sym, ap, ◌∙◌, subst, ⊎_elim, arith, eq-eqb, ne_eqb, append-nil, append_assoc, get_or-set_same, get_or-set_other, length-append}
+use Rattle.std.proofs.Common.{◌≡◌, ◌≢◌, ℕ, zero, suc, ◌+◌, ◌<◌, ◌≤◌, true, false, cond, eqb, ◌||◌, List, [], ◌∷◌, ◌++◌, length, map, take, get_or, set, refl, sym, ap, ◌∙◌, subst, ⊎_elim, arith, eq-eqb, ne_eqb, append-nil, append_assoc, get_or-set_same, get_or-set_other, length-append, replicate}
 use Rattle.std.proofs.lemmas.Bool.{cases_eq, cond-true, cond-false, or_left, or_right}
-use Rattle.std.proofs.lemmas.List.{length-map}
+use Rattle.std.proofs.lemmas.List.{length-map, length-replicate, get_or-replicate}
 use Rattle.std.proofs.lemmas.List.FromFn.{map-range_with_len_more}
 use Rattle.std.specs.List.{range_with_len}
 use mathlib.Core.List.{map-append}
 use Rattle.summary_db.specs.declared.place.Place.{Place}
 use Rattle.summary_db.specs.declared.lay.Lay.{Lay}
 use Rattle.summary_db.specs.Views.{member}
-use Rattle.summary_db.specs.Places.{edge, numbers_where}
+use Rattle.summary_db.specs.Places.{edge, edges_before, places_of, numbers_where}
+use Rattle.plan_core.specs.Graph.{callees}
 use Rattle.summary_db.specs.Lays.{lists, list_of, IsLay}
 use Rattle.summary_db.proofs.Numbers.{numbers_snoc}
 
@@ -59,13 +60,40 @@ take_next [] i d low = absurd (omega arith)
 take_next (x ∷ xs) zero d low = refl
 take_next (x ∷ xs) (suc i) d low = let e : suc i + 1 ≡ suc (i + 1) = omega arith in ap (λ (n : ℕ). take n (x ∷ xs)) e ∙ ap (λ l. x ∷ l) (take_next xs i d (omega arith))
 
-pub row_more : (places : List Place) (h : ℕ → Place) (xs : List ℕ) (i x : ℕ) → i < length xs → x ≡ get_or xs i x
-    → (places ++ map h (take i xs)) ++ h x ∷ [] ≡ places ++ map h (take (i + 1) xs)
-row_more places h xs i x low is =
-    append_assoc places (map h (take i xs)) (h x ∷ [])
-    ∙ ap (λ l. places ++ l) (sym (ap (map h) (take_next xs i x low) ∙ (map-append h (take i xs) (get_or xs i x ∷ []) ∙ ap (λ (y : ℕ). map h (take i xs) ++ h y ∷ []) (sym is))))
+pub row_more : (places : List Place) (h : ℕ → Place) (xs : List ℕ) (i d : ℕ) → i < length xs
+    → (places ++ map h (take i xs)) ++ h (get_or xs i d) ∷ [] ≡ places ++ map h (take (i + 1) xs)
+row_more places h xs i d low =
+    append_assoc places (map h (take i xs)) (h (get_or xs i d) ∷ [])
+    ∙ ap (λ l. places ++ l) (sym (ap (map h) (take_next xs i d low) ∙ map-append h (take i xs) (get_or xs i d ∷ [])))
 
-pub member_get : (xs : List ℕ) (i x : ℕ) → i < length xs → x ≡ get_or xs i x → member x xs ≡ true
-member_get [] i x low is = absurd (omega arith)
-member_get (y ∷ ys) zero x low is = or_left (eqb x y) (member x ys) (eq-eqb x y is)
-member_get (y ∷ ys) (suc i) x low is = or_right (eqb x y) (member x ys) (member_get ys i x (omega arith) is)
+pub member_get : (xs : List ℕ) (i d : ℕ) → i < length xs → member (get_or xs i d) xs ≡ true
+member_get [] i d low = absurd (omega arith)
+member_get (y ∷ ys) zero d low = or_left (eqb y y) (member y ys) (eq-eqb y y refl)
+member_get (y ∷ ys) (suc i) d low = or_right (eqb (get_or ys i d) y) (member (get_or ys i d) ys) (member_get ys i d (omega arith))
+
+pub laid_none : (rows : List (List ℕ)) (n : ℕ) (lay : Lay) → lists lay.takes ≡ replicate (n + 1) [] → lists lay.gives ≡ replicate (n + 1) [] → lay.count ≡ 0
+    → IsLay n (edges_before rows 0) lay
+unfolding edges_before numbers_where
+laid_none rows n lay takes gives count =
+    let a = ap length takes in let b = ap length gives in
+    let lt = length-map lay.takes.items (λ row. row.items) in let lt' = lay.takes.ok.0 in
+    let lg = length-map lay.gives.items (λ row. row.items) in let lg' = lay.gives.ok.0 in
+    let r = length-replicate {A = List ℕ} (n + 1) [] in
+    record {
+      takes = λ f low. ap (λ ls. get_or ls f []) takes ∙ get_or-replicate (n + 1) f [] [] low;
+      gives = λ f low. ap (λ ls. get_or ls f []) gives ∙ get_or-replicate (n + 1) f [] [] low;
+      takers = omega arith;
+      givers = omega arith;
+      count = count;
+    }
+
+pub rows_more : (rows : List (List ℕ)) (k : ℕ) → edges_before rows k ++ map (edge k) (callees rows k) ≡ edges_before rows (k + 1)
+unfolding edges_before
+rows_more rows k = let e : suc k ≡ k + 1 = omega arith in ap (edges_before rows) e
+
+pub results_more : (ps : List Place) (n k : ℕ) → (ps ++ map (edge n) (range_with_len 0 k)) ++ edge n k ∷ [] ≡ ps ++ map (edge n) (range_with_len 0 (k + 1))
+results_more ps n k = append_assoc ps (map (edge n) (range_with_len 0 k)) (edge n k ∷ []) ∙ ap (λ l. ps ++ l) (sym (map-range_with_len_more (edge n) 0 k k (omega arith)))
+
+pub all_places : (rows : List (List ℕ)) → edges_before rows (length rows) ++ map (edge (length rows)) (range_with_len 0 (length rows)) ≡ places_of rows
+unfolding places_of
+all_places rows = refl

@@ -4,4 +4,4 @@ pub mod Edges
 pub mod Acts
 pub mod Laying
 pub mod Rolls
-pub mod Steps
+pub mod Moves_kept

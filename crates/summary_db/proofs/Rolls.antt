@@ -65,7 +65,7 @@ module _ {S : Type 0} where
   rolled_end P Q ks l r =
       let gone : r.front ≡ [] = holds_none P r.front (subst (λ js. Holds P js r.front) (drop_all (length ks) ks (omega arith)) r.ahead) in
       let same : l ≡ r.back = r.whole ∙ ap (λ xs. xs ++ r.back) gone in
-      subst (Holds Q ks) (sym same) (subst (λ js. Holds Q js r.back) (take_all ks) r.behind)
+      subst (Holds Q ks) (sym same) (subst (λ js. Holds Q js r.back) (take_all (length ks) ks (omega arith)) r.behind)
 
   pub rolled_map : (P Q P' Q' : ℕ → S → Type 0) (ks : List ℕ) (k : ℕ) (l : List (ℕ × S)) → ((i : ℕ) (y : S) → P i y → P' i y) → ((i : ℕ) (y : S) → Q i y → Q' i y)
       → Rolled P Q ks k l → Rolled P' Q' ks k l

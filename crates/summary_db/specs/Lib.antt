@@ -1,5 +1,6 @@
 pub mod Views
 pub mod Places
 pub mod Rule
+pub mod Told
 pub mod Passes
 pub mod Lays

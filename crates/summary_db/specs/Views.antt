@@ -1,5 +1,5 @@
 -- What each step does to what a pass stands for. A set of functions is a list; the newest stands first.
-use Rattle.std.specs.Prelude.{ℕ, ◌+◌, ◌==◌, Bool, true, false, ◌||◌, if◌then◌else◌, List, [], ◌∷◌, ◌++◌}
+use Rattle.std.specs.Prelude.{◌≡◌, ℕ, ◌+◌, ◌≤◌, ◌==◌, Bool, true, false, ◌||◌, if◌then◌else◌, List, [], ◌∷◌, ◌++◌}
 use Rattle.summary_db.specs.declared.knows.Knows.{Knows}
 
 -- whether f is one of these
@@ -11,6 +11,11 @@ member f (g ∷ gs) = (f == g) || member f gs
 abbrev pub without : ℕ → List ℕ → List ℕ
 without f [] = []
 without f (g ∷ gs) = if f == g then without f gs else g ∷ without f gs
+
+-- these without the first f
+abbrev pub less : ℕ → List ℕ → List ℕ
+less f [] = []
+less f (g ∷ gs) = if f == g then gs else g ∷ less f gs
 
 module _ {T : Type 0} where
   -- a load of f's word, or an exchange that did not apply, found the word x
@@ -75,7 +80,7 @@ module _ {T : Type 0} where
   abbrev pub ends : Knows T → Knows T → Knows T
   ends v w =
       record v {
-        jobs = without w.place v.jobs;
+        jobs = less w.place v.jobs;
         claims = v.claims ++ w.claims;
         gone = v.gone ++ w.gone;
         done = v.done ++ w.done;
@@ -85,3 +90,15 @@ module _ {T : Type 0} where
         word = w.word;
         finds = v.finds + w.finds;
       }
+
+-- v with some words found since: it stands for the same, and may have seen more
+pub record Looks {T : Type 0} (v w : Knows T) : Type 0 where
+  pub rows : w.rows ≡ v.rows
+  pub work : w.work ≡ v.work
+  pub jobs : w.jobs ≡ v.jobs
+  pub claims : w.claims ≡ v.claims
+  pub gone : w.gone ≡ v.gone
+  pub done : w.done ≡ v.done
+  pub stopped : w.stopped ≡ v.stopped
+  pub seen : (g : ℕ) → member g v.seen ≡ true → member g w.seen ≡ true
+  pub finds : v.finds ≤ w.finds

@@ -2,13 +2,17 @@
 #![tactic(auto)]
 
 pub mod knows;
+mod calls;
+mod db;
 mod lay;
 pub mod laws;
 pub mod pass;
 pub mod place;
 pub mod rule;
+mod steps;
 pub mod work;
 
+pub use db::Db;
 pub use knows::Knows;
 pub use pass::{Claim, Job, Pass, Seen};
 pub use place::Place;

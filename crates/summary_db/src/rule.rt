@@ -23,7 +23,7 @@ impl<W: Work> TableRule<Option<Arc<W::Out>>, Knows<Option<W>>, About<W>> for DbR
     ghost use Rattle.std.specs.Prelude.{Some, None};
     ghost use Rattle.summary_db.specs.Rule.{IsRuled};
     ghost use Rattle.summary_db.specs.Views.{fresh};
-    ghost use Rattle.summary_db.specs.Passes.{IsOutput};
+    ghost use Rattle.summary_db.specs.Told.{IsOutput};
 
     ghost holds = { λ key. IsRuled key.plan.value.callees None (IsOutput W.defined (Some key.work.value)) };
 
@@ -54,7 +54,7 @@ pub struct Take<W> {
 }
 
 impl<W: Work> Play<Option<Arc<W::Out>>, Knows<Option<W>>> for Take<W> {
-    ghost use Rattle.summary_db.specs.Passes.{Claims};
+    ghost use Rattle.summary_db.specs.Told.{Claims};
 
     ghost then = { λ step me found after. Claims W.defined step.word found me after };
 }

@@ -1,5 +1,5 @@
 use Rattle.std.proofs.Common.{refl}
-use Rattle.summary_db.proofs.Steps.{seen_home}
+use Rattle.summary_db.proofs.Moves_kept.{seen_home}
 use Rattle.summary_db.proofs.Rolls.{roll}
 use Rattle.summary_db.proofs.laws.rule.Goals as goal
 

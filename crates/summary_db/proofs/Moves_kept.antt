@@ -2,6 +2,10 @@
 use Rattle.std.proofs.Common.{◌≡◌, ◌≢◌, ℕ, zero, suc, ◌+◌, ◌<◌, ◌≤◌, ◌^◌, Bool, true, false, cond, ◌&&◌, ◌||◌, eqb, List, [], ◌∷◌, ◌++◌, length, map, get_or, set, refl, sym, ap, ◌∙◌, subst, ⊎_elim, ◌⊎◌, inl, inr, arith, eq-eqb, ne_eqb, length-set, length-append, replicate, get_or-set_same, get_or-set_other}
 use mathlib.Core.Option.{Option, some, none, some-injective, some-ne-none}
 use lib.ListN.{get_elem?}
+use Rattle.std.proofs.Common.{Option as Option', Some, None, Global}
+use Rattle.std.specs.declared.sync.Arc.{Arc}
+use Rattle.summary_db.specs.Told.{IsOutput}
+use Rattle.summary_db.specs.Told as Told
 use lib.Seq.{set-get_or}
 use prog.Atomic.{either}
 use Rattle.std.proofs.lemmas.Bool.{cases_eq, cases_lt, cases_Bool, cond_both, or_left, or_right, or_cases, and_left, and_right, and_parts, eqb-true, false≢true, true≢false}
@@ -280,6 +284,11 @@ module _ {S : Type 0} (T : Type 0) (rows : List (List ℕ)) (empty : S) (good : 
     (refl, r.stop_low),
   )
 
+  pub hear_allowed_at : (slots id : ℕ) (me : M) (k : ℕ) → length rows ≡ k
+      → Allows {S = S} {V = Knows T} Rule slots id me k (λ n. n) (λ x after. (after ≡ (heard k x me.0, me.1)) × (x < 2))
+  hear_allowed_at slots id me k is =
+      subst (λ (j : ℕ). Allows {S = S} {V = Knows T} Rule slots id me j (λ n. n) (λ x after. (after ≡ (heard j x me.0, me.1)) × (x < 2))) is (hear_allowed slots id me)
+
   shown_set : (s : St) (r : Rule s) (f : ℕ) (st : Stage) (x : ℕ) → f < length rows → x ≡ word_of st → (g : ℕ) → g < length rows
       → get_or (set s.words f x) g 0 ≡ word_of (upd r.stage f st g)
   shown_set s r f st x inside is g low =
@@ -525,6 +534,12 @@ module _ {S : Type 0} (T : Type 0) (rows : List (List ℕ)) (empty : S) (good : 
         ap (λ l. (left f me.0, l)) given.carried,
       )
 
+  pub leave_allowed_at : IsLaidOut rows → (slots id : ℕ) (me : M) (f k : ℕ) → length rows ≡ k → member f me.0.claims ≡ true
+      → Holds (λ i y. y ≡ empty) (slots_of rows f) me.1
+      → Allows {S = S} {V = Knows T} Rule slots id me k (λ _. 1) (λ _ after. after ≡ (left f me.0, []))
+  leave_allowed_at laid slots id me f k is has full =
+      subst (λ (j : ℕ). Allows {S = S} {V = Knows T} Rule slots id me j (λ _. 1) (λ _ after. after ≡ (left f me.0, []))) is (leave_allowed laid slots id me f has full)
+
   -- a seat that owns nothing
   none_owned : (test : Stage → Bool) → test Free ≡ false → (stage : ℕ → Stage) (owner : ℕ → ℕ) (seat g : ℕ) → (stage g ≢ Free → owner g ≢ seat)
       → is_with test stage owner seat g ≡ false
@@ -752,3 +767,16 @@ module _ {S : Type 0} (T : Type 0) (rows : List (List ℕ)) (empty : S) (good : 
 
 
 
+
+-- the claim, in the words of the view
+pub claim_told : {W O : Type 0} (defined : W → ℕ → O) (rows : List (List ℕ)) (w : W) → IsLaidOut rows
+    → (slots id : ℕ) (me : Me (Option' (Arc O Global)) (Knows (Option' W))) (f : ℕ) → f < length rows
+    → ((g : ℕ) → member g (callees rows f) ≡ true → member g me.0.seen ≡ true)
+    → me.0.rows ≡ rows → me.0.work ≡ Some w
+    → Allows {S = Option' (Arc O Global)} {V = Knows (Option' W)} (IsRuled rows None (IsOutput defined (Some w))) slots id me f (λ n. either (eqb n 0) 1 n) (λ x after. Told.Claims defined f x me after)
+claim_told {W} {O} defined rows w laid slots id me f inside saw er ew =
+    subst (λ (z : List (List ℕ) × Option' W).
+    Allows {S = Option' (Arc O Global)} {V = Knows (Option' W)} (IsRuled rows None (IsOutput defined (Some w))) slots id me f (λ n. either (eqb n 0) 1 n)
+    (λ x after. Claims (Option' W) z.0 None (IsOutput defined z.1) f x me after))
+    (λ i. (sym er i, sym ew i))
+    (claim_allowed (Option' W) rows None (IsOutput defined (Some w)) laid slots id me f inside saw)
