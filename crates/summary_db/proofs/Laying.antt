@@ -8,7 +8,7 @@ use mathlib.Core.List.{map-append}
 use Rattle.summary_db.specs.declared.place.Place.{Place}
 use Rattle.summary_db.specs.declared.lay.Lay.{Lay}
 use Rattle.summary_db.specs.Views.{member}
-use Rattle.summary_db.specs.Places.{edge, edges_before, places_of, numbers_where}
+use Rattle.summary_db.specs.Places.{edge, edges_before, places_of, numbers_where, takes_of, gives_of}
 use Rattle.plan_core.specs.Graph.{callees}
 use Rattle.summary_db.specs.Lays.{lists, list_of, IsLay}
 use Rattle.summary_db.proofs.Numbers.{numbers_snoc}
@@ -97,3 +97,16 @@ results_more ps n k = append_assoc ps (map (edge n) (range_with_len 0 k)) (edge 
 pub all_places : (rows : List (List ℕ)) → edges_before rows (length rows) ++ map (edge (length rows)) (range_with_len 0 (length rows)) ≡ places_of rows
 unfolding places_of
 all_places rows = refl
+
+pub read_row : (l : List (List ℕ)) (i : ℕ) (a : List ℕ) → i < length l → a ≡ get_or l i a → a ≡ get_or l i []
+read_row [] i a low e = absurd (omega arith)
+read_row (x ∷ xs) zero a low e = e
+read_row (x ∷ xs) (suc i) a low e = read_row xs i a (omega arith) e
+
+pub takes_listed : (rows : List (List ℕ)) (lay : Lay) (f : ℕ) → IsLay (length rows) (places_of rows) lay → f < length rows + 1 → list_of lay.takes f ≡ takes_of rows f
+unfolding takes_of
+takes_listed rows lay f is low = is.takes f low
+
+pub gives_listed : (rows : List (List ℕ)) (lay : Lay) (f : ℕ) → IsLay (length rows) (places_of rows) lay → f < length rows + 1 → list_of lay.gives f ≡ gives_of rows f
+unfolding gives_of
+gives_listed rows lay f is low = is.gives f low

@@ -4,4 +4,6 @@ pub mod Edges
 pub mod Acts
 pub mod Laying
 pub mod Rolls
+pub mod Jobs
+pub mod Calls_kept
 pub mod Moves_kept

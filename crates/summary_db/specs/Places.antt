@@ -79,3 +79,7 @@ pub record Rolled {S : Type 0} (P Q : ℕ → S → Type 0) (ks : List ℕ) (k :
   pub whole : l ≡ front ++ back
   pub ahead : Holds P (drop k ks) front
   pub behind : Holds Q (take k ks) back
+
+-- nothing is said of a slot
+abbrev pub Anything : {S : Type 0} → ℕ → S → Type 0
+Anything i y = Unit {0}

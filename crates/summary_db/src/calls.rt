@@ -1,6 +1,6 @@
 // The calls on a database: looking at words, claiming a function, and what follows a claim.
 
-ghost use Rattle.std.specs.Prelude.{◌≡◌, ℕ, ◌<◌, ◌+◌, List, length, true, if◌then◌else◌, slice_index, IfSome, IfNone};
+ghost use Rattle.std.specs.Prelude.{◌≡◌, ℕ, ◌<◌, ◌+◌, List, length, true, if◌then◌else◌, slice_index, IfSome, IfNone, vec_len};
 ghost use Rattle.std.specs.List.{All};
 ghost use Rattle.std.specs.Arc.{arc_value};
 ghost use Rattle.plan_core.specs.Graph.{callees};
@@ -47,9 +47,11 @@ impl<W: Work> Db<W> {
         ensures waits { IfSome result (λ r. (member r.0 (callees (rows_of self.now) function) ≡ true) × (r.1 < 2) × ((view pass.new).place ≡ r.0) × ((view pass.new).word ≡ r.1) × ((view pass.old).finds < (view pass.new).finds)) }
         ensures seen { IfNone result ((g : ℕ) → member g (callees (rows_of self.now) function) ≡ true → member g (view pass.new).seen ≡ true) }
     {
-        for callee in self.rows.as_slice()[function as usize].as_slice() {
-            if let Seen::No(found) = self.published(pass, *callee) {
-                return Some((*callee, found));
+        let callees = self.callees_of(function);
+        for callee in callees {
+            match self.published(pass, *callee) {
+                Seen::Yes => {}
+                Seen::No(found) => return Some((*callee, found)),
             }
         }
         None
@@ -89,9 +91,10 @@ impl<W: Work> Db<W> {
         ensures asked { (job_function job.new ≡ job_function job.old) × (job_asked job.new ≡ k + 1) × (job_view job.new ≡ job_view job.old) }
         ensures output { arc_value result ≡ W.defined (work_of self.now) (slice_index (callees (rows_of self.now) (job_function job.old)) k) }
     {
-        let slot = self.lay.takes[job.function as usize][k];
+        let takes = self.takes(job.function);
+        let slot = takes[k];
         let output = self.swap(&mut job.seat, slot, None);
-        job.asked += 1;
+        job.asked = k + 1;
         output.unwrap()
     }
 
@@ -101,7 +104,46 @@ impl<W: Work> Db<W> {
         requires { IsJobOf W.defined self.now job.now }
         ensures { result ≡ length (gives_of (rows_of self.now) (job_function job.now)) }
     {
-        self.lay.gives[job.function as usize].len()
+        self.gives(job.function).len()
+    }
+
+    /// Publishes the job's function. Its result and the places to its callers are filled first, so
+    /// that whoever finds it published finds its output there.
+    pub fn publish(&self, pass: &mut Pass<W>, job: Job<W>, rows: RowList<W::Out>)
+        requires pass { IsPassOf self.now pass.old }
+        requires job { IsJobOf W.defined self.now job × (member (job_function job) (view pass.old).jobs ≡ true) }
+        requires count { vec_len rows.list ≡ length (gives_of (rows_of self.now) (job_function job)) }
+        requires rows { All (λ row. arc_value row ≡ W.defined (work_of self.now) (job_function job)) rows.list.items }
+        ensures pass { IsPassOf self.now pass.new }
+        ensures published { view pass.new ≡ ends (view pass.old) (put (job_function job) (job_view job)) }
+    {
+        let Job {
+            mut seat,
+            function,
+            asked,
+        } = job;
+        self.skip(&mut seat, function, asked);
+        self.fill(&mut seat, function, rows);
+        self.put_word(&mut seat, function);
+        self.end(&mut pass.seat, seat);
+    }
+
+    /// Gives the job's function up. The stop word is set, the function's places come home empty,
+    /// and its word stays 1 for ever.
+    pub fn abandon(&self, pass: &mut Pass<W>, job: Job<W>)
+        requires pass { IsPassOf self.now pass.old }
+        requires job { IsJobOf W.defined self.now job × (member (job_function job) (view pass.old).jobs ≡ true) }
+        ensures pass { IsPassOf self.now pass.new }
+        ensures abandoned { view pass.new ≡ ends (view pass.old) (left (job_function job) (job_view job)) }
+    {
+        let Job {
+            mut seat,
+            function,
+            asked,
+        } = job;
+        self.clear(&mut seat, function, asked);
+        self.leave(&mut seat);
+        self.end(&mut pass.seat, seat);
     }
 
     /// Takes in what the other pass stands for.

@@ -9,6 +9,7 @@ pub mod laws;
 pub mod pass;
 pub mod place;
 pub mod rule;
+mod slots;
 mod steps;
 pub mod work;
 

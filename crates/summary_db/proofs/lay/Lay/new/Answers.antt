@@ -1,20 +1,29 @@
-use Rattle.std.proofs.Common.{◌≡◌, arith, ℕ, ◌++◌, map, length, refl, sym, subst, append-nil, ap, ◌∙◌}
+use Rattle.std.proofs.Common.{◌≡◌, get_or, true, arith, ℕ, ◌++◌, map, length, refl, sym, subst, append-nil, ap, ◌∙◌}
 use Rattle.std.specs.List.{range_with_len}
 use Rattle.plan_core.specs.Graph.{callees}
 use Rattle.summary_db.specs.Places.{edge, edges_before}
 use Rattle.summary_db.specs.Lays.{IsLay}
-use Rattle.summary_db.proofs.Laying.{laid_none, rows_more, results_more, all_places}
+use Rattle.summary_db.proofs.Laying.{laid_none, rows_more, results_more, all_places, read_row}
+use Rattle.summary_db.specs.Views.{member}
 use Rattle.summary_db.proofs.lay.Lay.new.Goals as goal
 
 pub loop-taker-init : goal.loop-taker-init
 loop-taker-init c = laid_none c.args.rows.now c.len-count.result _ c.in_ok-none.ensures c.in_ok-none-2.ensures refl
 
 pub push_row-requires : goal.push_row-requires
-push_row-requires c = ?
+push_row-requires c =
+    let low = c.loop-taker-test.true in let n = c.len-count.ensures in let a = c.loop-taker.invariant.takers in let b = c.loop-taker.invariant.givers in
+    let row = c.index-as_slice-taker.result in
+    let is : c.as_slice-in-loop-taker.result.now ≡ callees c.args.rows.now c.loop-taker.taker =
+    c.as_slice-in-loop-taker.ensures ∙ read_row c.args.rows.now c.loop-taker.taker row (omega arith) (c.index-as_slice-taker.is ∙ ap (λ l. get_or l c.loop-taker.taker row) c.as_slice.ensures) in
+    (omega arith, λ giver has. let i = c.requires.0.inside c.loop-taker.taker giver (subst (λ xs. member giver xs ≡ true) is has) in omega arith)
 
 pub loop-taker-preserved : goal.loop-taker-preserved
 loop-taker-preserved c =
-    let is : c.as_slice-in-loop-taker.result.now ≡ callees c.args.rows.now c.loop-taker.taker = ? in
+    let low = c.loop-taker-test.true in let n = c.len-count.ensures in
+    let row = c.index-as_slice-taker.result in
+    let is : c.as_slice-in-loop-taker.result.now ≡ callees c.args.rows.now c.loop-taker.taker =
+    c.as_slice-in-loop-taker.ensures ∙ read_row c.args.rows.now c.loop-taker.taker row (omega arith) (c.index-as_slice-taker.is ∙ ap (λ l. get_or l c.loop-taker.taker row) c.as_slice.ensures) in
     subst (λ ps. IsLay c.len-count.result ps c.push_row.new.self) (ap (λ gs. edges_before c.args.rows.now c.loop-taker.taker ++ map (edge c.loop-taker.taker) gs) is ∙ rows_more c.args.rows.now c.loop-taker.taker)
     (c.in_ok-push_row.ensures.lay c.len-count.result (edges_before c.args.rows.now c.loop-taker.taker) c.loop-taker.invariant)
 
