@@ -4,3 +4,4 @@ pub mod Rule
 pub mod Told
 pub mod Passes
 pub mod Lays
+pub mod Ends

@@ -10,6 +10,7 @@ use std::snapshot::Snapshot;
 use std::sync::Arc;
 
 /// What the table of a database is told once: the plan and the work.
+#[derive(Drop)]
 pub struct About<W> {
     pub plan: Snapshot<Plan>,
     pub work: Snapshot<W>,

@@ -3,12 +3,12 @@
 ghost use Rattle.std.specs.Prelude.{◌≡◌, ℕ, ◌<◌, ◌+◌, List, [], ◌∷◌, length, true, Some, None};
 ghost use Rattle.atomic_table.specs.Table.{rest, turned};
 ghost use Rattle.plan_core.specs.Graph.{callees};
-ghost use Rattle.summary_db.specs.Views.{member, looked, heard, put, left, opens, starts, both, ends};
+ghost use Rattle.summary_db.specs.Views.{member, looked, heard, put, left, opens, starts, both, ends, fresh};
 ghost use Rattle.summary_db.specs.Places.{Holds, Fills, slots_of};
 ghost use Rattle.summary_db.specs.Told.{Claims, IsOutput};
 
 use crate::db::Db;
-use crate::rule::{Begin, Both, End, Hear, Leave, Look, Put, Take};
+use crate::rule::{Begin, Both, Cut, End, Hear, Leave, Look, Put, Take};
 use crate::{Knows, Work};
 use atomic_table::Seat;
 use std::sync::Arc;
@@ -90,6 +90,18 @@ impl<W: Work> Db<W> {
         ensures job { (result.table_id ≡ seat.old.table_id) × (result.me ≡ (starts seat.old.me.0, [])) }
     {
         self.table.shared.split_seat::<Begin>(seat)
+    }
+
+    /// Cuts off the seat of a pass that stands for nothing yet.
+    pub(crate) fn cut(
+        &self,
+        seat: &mut Seat<Option<Arc<W::Out>>, Knows<Option<W>>>,
+    ) -> Seat<Option<Arc<W::Out>>, Knows<Option<W>>>
+        requires { seat.old.table_id ≡ self.now.table.shared.table_id }
+        ensures pass { (seat.new.table_id ≡ seat.old.table_id) × (seat.new.id ≡ seat.old.id) × (seat.new.me ≡ seat.old.me) }
+        ensures other { (result.table_id ≡ seat.old.table_id) × (result.me ≡ (fresh seat.old.me.0.rows seat.old.me.0.work, [])) }
+    {
+        self.table.shared.split_seat::<Cut>(seat)
     }
 
     /// Takes in the seat of a job that has ended.

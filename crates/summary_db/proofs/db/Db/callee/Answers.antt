@@ -46,4 +46,14 @@ returns-clause-output g c =
     let d = c.args.self.now in
     let a = job_next g.W.Work.defined c.args.self.now c.args.job.now c.requires.job c.args.k c.requires.next.0 c.requires.next.1 c.takes-takes.result.now c.takes-takes.ensures in
     let same = same_value c.args.job.now.seat.me.1 _ _ _ _ a.value c.swap-output.result a.first c.swap-output.ensures.old in
-    and_value a.value c.unwrap.result (λ x. arc_value x ≡ g.W.Work.defined d.table.shared.key.work.value (get_or (callees d.rows c.args.job.now.function) c.args.k 0)) (same ∙ ?) a.output
+    and_value a.value c.unwrap.result (λ x. arc_value x ≡ g.W.Work.defined d.table.shared.key.work.value (get_or (callees d.rows c.args.job.now.function) c.args.k 0)) (same ∙ c.unwrap.ensures) a.output
+
+pub offset_bounds-takes-k : goal.offset_bounds-takes-k
+offset_bounds-takes-k g c =
+    let d = c.args.self.now in let job = c.requires.job in let t = c.takes-takes.type_inv in
+    let e = ap length c.takes-takes.ensures in let l = length_takes d.rows c.args.job.now.function job.inside in let k = c.requires.next.1 in omega arith
+
+pub overflow_add-job : goal.overflow_add-job
+overflow_add-job g c =
+    let d = c.args.self.now in let job = c.requires.job in let t = c.takes-takes.type_inv in
+    let e = ap length c.takes-takes.ensures in let l = length_takes d.rows c.args.job.now.function job.inside in let k = c.requires.next.1 in omega arith

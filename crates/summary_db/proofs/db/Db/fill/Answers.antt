@@ -1,5 +1,7 @@
 use Rattle.std.proofs.Common.{◌≡◌, ◌+◌, ◌<◌, arith, length, length-append, ap, sym, ◌∙◌, subst, None, Some, ℕ}
 use Rattle.std.specs.Arc.{arc_value}
+use Rattle.std.specs.declared.sync.Arc.{Arc}
+use Rattle.std.proofs.Common.{Global}
 use Rattle.std.specs.Option.{IsSome}
 use Rattle.std.proofs.lemmas.List.Elements.{All-pop}
 use Rattle.summary_db.specs.Places.{Anything, Fills, Rolled, slots_of, takes_of, gives_of}
@@ -17,7 +19,7 @@ swap-requires-after_bounds g c κs within =
 pub loop-k-preserved : goal.loop-k-preserved
 loop-k-preserved g c =
     let d = c.args.self.now in let inv = c.loop-k.invariant in let s = c.swap.ensures.seat in
-    let out = λ row. arc_value row ≡ g.W.Work.defined d.table.shared.key.work.value c.args.function in
+    let out = λ (row : Arc g.row.W-Out.Denot Global). arc_value row ≡ g.W.Work.defined d.table.shared.key.work.value c.args.function in
     let good = IsOutput g.W.Work.defined (Some d.table.shared.key.work.value) in
     let n = roll Anything (Fills d.rows good c.args.function) (slots_of d.rows c.args.function) (length c.takes-takes.result.now + c.loop-k.k) c.slot-slot.result c.loop-k.seat.me.1 c.slot-slot.ensures inv.1 in
     let popped = All-pop out c.loop-k.list.items c.pop-row.new.self.items c.pop-row.result c.pop-row.ensures.items inv.3 in
