@@ -1,5 +1,5 @@
 -- What the calls of a database give, on plain data.
-use Rattle.std.proofs.Common.{◌≡◌, ◌≢◌, ℕ, zero, suc, ◌+◌, ◌<◌, ◌≤◌, Bool, true, false, eqb, cond, List, [], ◌∷◌, ◌++◌, length, get_or, refl, sym, ap, ◌∙◌, subst, ⊎_elim, arith, Option, Some, None, Global, eq-eqb}
+use Rattle.std.proofs.Common.{◌≡◌, ◌≢◌, ℕ, zero, suc, ◌+◌, ◌-◌, ◌<◌, ◌≤◌, Bool, true, false, eqb, cond, List, [], ◌∷◌, ◌++◌, length, get_or, refl, sym, ap, ◌∙◌, subst, ⊎_elim, arith, Option, Some, None, Global, eq-eqb}
 use Rattle.std.proofs.lemmas.Bool.{false≢true, or_cases, or_left, cond-true, eqb-true}
 use Rattle.std.specs.Option.{IsSome, IfSome, IsSomeAnd, option_to_list}
 use Rattle.std.specs.declared.sync.Arc.{Arc}
@@ -11,10 +11,15 @@ use Rattle.summary_db.specs.declared.pass.Seen.{Seen}
 use Rattle.summary_db.specs.declared.pass.Seen.TheVariants.{Yes, No}
 use Rattle.summary_db.specs.declared.knows.Knows.{Knows}
 use Rattle.summary_db.specs.Views.{member, looked}
-use Rattle.summary_db.specs.Places.{Given, Spent, Rolled, slots_of, takes_of}
+use Rattle.summary_db.specs.Places.{Given, Spent, Rolled, slots_of, takes_of, IsLaidOut, places_of}
 use Rattle.summary_db.specs.Told.{IsOutput}
 use Rattle.summary_db.specs.Passes.{IsJobOf, IsSeen}
-use Rattle.summary_db.proofs.Edges.{length_takes}
+use Rattle.summary_db.proofs.Edges.{length_takes, result_place}
+use Rattle.summary_db.proofs.Moves_kept.{seen_home}
+use Rattle.summary_db.specs.Rule.{IsRuled}
+use Rattle.atomic_table.specs.Table.{State}
+use mathlib.Core.Option.{some, some-injective}
+use lib.ListN.{get_elem?}
 use Rattle.summary_db.proofs.Jobs.{IsAsked, asked, at_read}
 
 module _ {A : Type 0} where
@@ -58,3 +63,15 @@ member_index (x ∷ xs) g has =
     (λ same. (0, omega arith, sym (eqb-true g x same)))
     (λ rest. let r = member_index xs g rest in let low = r.1 in (suc r.0, omega arith, r.2))
     (or_cases (eqb g x) (member g xs) has)
+
+-- what is left of a database at the place of a result
+pub end_output : {S T : Type 0} (rows : List (List ℕ)) (empty : S) (good : ℕ → S → Type 0) (s : State S (Knows T)) → IsRuled rows empty good s → IsLaidOut rows
+    → (id : ℕ) (v : Knows T) → get_elem? s.views id ≡ some v → (f : ℕ) → f < length rows → member f v.seen ≡ true
+    → (xs : List S) → ((k : ℕ) (y : S) → get_elem? s.homes k ≡ some (some y) → get_elem? xs k ≡ some y)
+    → (first : ℕ) → first + length rows ≡ length (places_of rows) → (out : S) → get_elem? xs (first + f) ≡ some out → good f out
+end_output {S} {T} rows empty good s r laid id v at f low has xs home first is out here =
+    let place = result_place rows f low in
+    let same : (length (places_of rows) - length rows) + f ≡ first + f = omega arith in
+    let h = seen_home T rows empty good s r laid id v f ((length (places_of rows) - length rows) + f) at has place in
+    let there : get_elem? xs (first + f) ≡ some h.0 = subst (λ (k : ℕ). get_elem? xs k ≡ some h.0) same (home ((length (places_of rows) - length rows) + f) h.0 h.1) in
+    subst (good f) (some-injective h.0 out (sym there ∙ here)) h.2

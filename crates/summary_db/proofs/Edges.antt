@@ -1,13 +1,15 @@
 -- What the places of a plan are, and which slots a function has.
-use Rattle.std.proofs.Common.{◌≡◌, ◌≢◌, ℕ, zero, suc, ◌+◌, ◌<◌, ◌≤◌, Bool, true, false, cond, ◌||◌, eqb, List, [], ◌∷◌, ◌++◌, length, map, get_or, refl, sym, ap, ◌∙◌, subst, ⊎_elim, ◌⊎◌, inl, inr, arith, eq-eqb, ne_eqb, filter, append-nil}
+use Rattle.std.proofs.Common.{◌≡◌, ◌≢◌, ℕ, zero, suc, ◌+◌, ◌-◌, length-append, ◌<◌, ◌≤◌, Bool, true, false, cond, ◌||◌, eqb, List, [], ◌∷◌, ◌++◌, length, map, get_or, refl, sym, ap, ◌∙◌, subst, ⊎_elim, ◌⊎◌, inl, inr, arith, eq-eqb, ne_eqb, filter, append-nil}
 use mathlib.Core.Option.{some, none, some-injective, some-ne-none}
 use lib.ListN.{get_elem?}
+use Rattle.atomic_table.proofs.Lists.{at_map}
 use Rattle.std.specs.List.{range_with_len}
 use Rattle.std.proofs.lemmas.Bool.{cases_eq, cases_lt, cases_Bool, cond_both, cond-true, cond-false, or_left, or_right, or_from, or_cases, eqb-true, false≢true, false_from_ne_true}
 use Rattle.std.proofs.lemmas.List.{length-map}
 use Rattle.std.proofs.lemmas.List.FromFn.{length-range_with_len, get_or-range_with_len}
 use Rattle.std.proofs.lemmas.List.Elements.{filter-append}
-use Rattle.plan_core.specs.Graph.{callees}
+use Rattle.std.specs.List.{Contains}
+use Rattle.plan_core.specs.Graph.{callees, IsPlan, Walk, one}
 use Rattle.summary_db.specs.declared.place.Place.{Place}
 use Rattle.summary_db.specs.Views.{member}
 use Rattle.summary_db.specs.Places.{edge, edges_before, places_of, numbers_where, is_taker, is_giver, takes_of, gives_of, slots_of, IsPlace, IsLaidOut}
@@ -225,3 +227,46 @@ nth_result rows f i low at =
     let g : f ≡ m.0 = sym (get_or-range_with_len 0 n f 0 low ∙ omega arith) ∙ get_or_from_at (range_with_len 0 n) f m.0 0 m.1 in
     subst (λ (j : ℕ). get_elem? (places_of rows) j ≡ some (edge n f)) (sym same)
     (r.here ∙ ap some (sym (ap (edge n) g ∙ m.2)))
+
+contains_from_member : (xs : List ℕ) (g : ℕ) → member g xs ≡ true → Contains xs g
+contains_from_member [] g has = absurd (false≢true has)
+contains_from_member (x ∷ xs) g has =
+    ⊎_elim
+    (λ same. (0, omega arith, sym (eqb-true g x same)))
+    (λ rest. let r = contains_from_member xs g rest in let low = r.1 in (suc r.0, omega arith, r.2))
+    (or_cases (eqb g x) (member g xs) has)
+
+pub laid_from_plan : (rows : List (List ℕ)) → IsPlan rows → IsLaidOut rows
+laid_from_plan rows plan =
+    record {
+      loop_free = λ f. false_from_ne_true (member f (callees rows f)) (λ has. plan.acyclic f (one f f (contains_from_member (callees rows f) f has)));
+      inside = λ f g has. plan.inside f g (contains_from_member (callees rows f) g has);
+    }
+
+-- the results stand behind all edges
+pub result_place : (rows : List (List ℕ)) (f : ℕ) → f < length rows → IsPlace rows ((length (places_of rows) - length rows) + f) (edge (length rows) f)
+unfolding places_of
+result_place rows f low =
+    let n : ℕ = length rows in
+    let es = edges_before rows n in
+    let m = length-append es (map (edge n) (range_with_len 0 n)) in
+    let l = length-map (range_with_len 0 n) (edge n) in
+    let r = length-range_with_len 0 n in
+    let is : (length (es ++ map (edge n) (range_with_len 0 n)) - n) + f ≡ length es + f = omega arith in
+    let t = at_from_inside (range_with_len 0 n) f (omega arith) in
+    let same : t.0 ≡ f = sym (get_or_from_at (range_with_len 0 n) f t.0 0 t.1) ∙ (get_or-range_with_len 0 n f 0 low ∙ omega arith) in
+    subst (λ (j : ℕ). get_elem? (es ++ map (edge n) (range_with_len 0 n)) j ≡ some (edge n f)) (sym is)
+    (at_past es (map (edge n) (range_with_len 0 n)) f (edge n f) (at_map (edge n) (range_with_len 0 n) f t.0 t.1 ∙ ap (λ (k : ℕ). some (edge n k)) same))
+  where
+    at_past : (xs ys : List Place) (k : ℕ) (p : Place) → get_elem? ys k ≡ some p → get_elem? (xs ++ ys) (length xs + k) ≡ some p
+    at_past [] ys k p at = let e : 0 + k ≡ k = omega arith in subst (λ (j : ℕ). get_elem? ys j ≡ some p) (sym e) at
+    at_past (x ∷ xs) ys k p at = let e : suc (length xs) + k ≡ suc (length xs + k) = omega arith in subst (λ (j : ℕ). get_elem? (x ∷ (xs ++ ys)) j ≡ some p) (sym e) (at_past xs ys k p at)
+
+pub places_many : (rows : List (List ℕ)) → length rows ≤ length (places_of rows)
+unfolding places_of
+places_many rows =
+    let n : ℕ = length rows in
+    let m = length-append (edges_before rows n) (map (edge n) (range_with_len 0 n)) in
+    let l = length-map (range_with_len 0 n) (edge n) in
+    let r = length-range_with_len 0 n in
+    omega arith

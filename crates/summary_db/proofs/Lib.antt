@@ -5,5 +5,5 @@ pub mod Acts
 pub mod Laying
 pub mod Rolls
 pub mod Jobs
-pub mod Calls_kept
 pub mod Moves_kept
+pub mod Calls_kept

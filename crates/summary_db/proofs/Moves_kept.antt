@@ -378,16 +378,14 @@ module _ {S : Type 0} (T : Type 0) (rows : List (List ℕ)) (empty : S) (good : 
       let free : r.stage f ≡ Free = free_from_word (r.stage f) (sym (r.shown f inside) ∙ zero') in
       let fits = r.fits id me.0 at in
       let done : (i : ℕ) (p : Place) → IsPlace rows i p → p.taker ≡ f → r.stage p.giver ≡ Done = λ i p is same. fits.seen p.giver (saw p.giver (callee_from_place rows i p f inside is same)) in
-      let taken : IsTaken (Given rows good f) (slots_of rows f) s.homes me.1 = take_all (Given rows good f) (slots_of rows f) s.homes me.1 (slots_distinct rows laid f) (free_home s r laid f free done) in
-      (
+      let taken : IsTaken (Given rows good f) (slots_of rows f) s.homes me.1 = take_all (Given rows good f) (slots_of rows f) s.homes me.1 (slots_distinct rows laid f) (free_home s r laid f free done) in (
         took f me.0,
         taken.act,
         taken.valid,
         moved s r laid f Held id (set s.words f 1) (homes_after s.homes me.1 taken.act) (took f me.0) (claim_moved s r laid id me f inside free at done taken),
         ((λ _. (taken.held, taken.holds, ap (λ l. (took f me.0, l)) taken.carried)), λ other. absurd (other zero')),
       ))
-      (λ other.
-      (
+      (λ other. (
         looked f (get_or s.words f 0) me.0,
         keeps,
         tt,
@@ -466,8 +464,7 @@ module _ {S : Type 0} (T : Type 0) (rows : List (List ℕ)) (empty : S) (good : 
       let one : get_or s.words f 0 ≡ 1 = r.shown f m.inside ∙ ap word_of m.held in
       exchanged (get_or s.words f 0) 1 2 (λ x. (w : Knows T) × (a : Act S) × Rattle.atomic_table.specs.Table.Valid s.homes me.1 a × Rule (stepped s f x id me.1 w a) × Puts f (get_or s.words f 0) me (w, carried_after me.1 a))
       (λ _.
-      let given : IsGiven (Fills rows good f) (slots_of rows f) s.homes me.1 = give_all (Fills rows good f) (slots_of rows f) s.homes me.1 full (slots_distinct rows laid f) (λ k in'. let low = slot_inside rows f k in' in let room = r.room in omega arith) in
-      (
+      let given : IsGiven (Fills rows good f) (slots_of rows f) s.homes me.1 = give_all (Fills rows good f) (slots_of rows f) s.homes me.1 full (slots_distinct rows laid f) (λ k in'. let low = slot_inside rows f k in' in let room = r.room in omega arith) in (
         put f me.0,
         given.act,
         given.valid,
@@ -525,8 +522,7 @@ module _ {S : Type 0} (T : Type 0) (rows : List (List ℕ)) (empty : S) (good : 
       → Allows {S = S} {V = Knows T} Rule slots id me (length rows) (λ _. 1) (λ _ after. after ≡ (left f me.0, []))
   leave_allowed laid slots id me f has full s r len at small =
       let m = mine_from_claim s r id me.0 f at has in
-      let given : IsGiven (λ i y. y ≡ empty) (slots_of rows f) s.homes me.1 = give_all (λ i y. y ≡ empty) (slots_of rows f) s.homes me.1 full (slots_distinct rows laid f) (λ k in'. let low = slot_inside rows f k in' in let room = r.room in omega arith) in
-      (
+      let given : IsGiven (λ i y. y ≡ empty) (slots_of rows f) s.homes me.1 = give_all (λ i y. y ≡ empty) (slots_of rows f) s.homes me.1 full (slots_distinct rows laid f) (λ k in'. let low = slot_inside rows f k in' in let room = r.room in omega arith) in (
         left f me.0,
         given.act,
         given.valid,
@@ -621,17 +617,17 @@ module _ {S : Type 0} (T : Type 0) (rows : List (List ℕ)) (empty : S) (good : 
   both_set test stage owner id other apart xs ys zs is mine theirs g =
       ap (λ l. member g l) is ∙ (member_append g xs ys ∙ ((λ i. mine g i || theirs g i) ∙ joined (test (stage g)) (owner g)))
     where
-    joined : (b : Bool) (o : ℕ) → ((b && eqb o id) || (b && eqb o other)) ≡ (b && eqb (cond (eqb o other) id o) id)
-    joined false o = refl
-    joined true o =
-        ⊎_elim
-        (λ same. or_right (eqb o id) (eqb o other) (eq-eqb o other same) ∙ sym (eq-eqb (cond (eqb o other) id o) id (Rattle.std.proofs.lemmas.Bool.cond-true (eqb o other) id o (eq-eqb o other same))))
-        (λ else. (ap (λ (c : Bool). eqb o id || c) (ne_eqb o other else) ∙ or_false (eqb o id)) ∙ sym (ap (λ (k : ℕ). eqb k id) (Rattle.std.proofs.lemmas.Bool.cond-false (eqb o other) id o (ne_eqb o other else))))
-        (cases_eq o other)
-      where
-      or_false : (b : Bool) → (b || false) ≡ b
-      or_false true = refl
-      or_false false = refl
+      joined : (b : Bool) (o : ℕ) → ((b && eqb o id) || (b && eqb o other)) ≡ (b && eqb (cond (eqb o other) id o) id)
+      joined false o = refl
+      joined true o =
+          ⊎_elim
+          (λ same. or_right (eqb o id) (eqb o other) (eq-eqb o other same) ∙ sym (eq-eqb (cond (eqb o other) id o) id (Rattle.std.proofs.lemmas.Bool.cond-true (eqb o other) id o (eq-eqb o other same))))
+          (λ else. (ap (λ (c : Bool). eqb o id || c) (ne_eqb o other else) ∙ or_false (eqb o id)) ∙ sym (ap (λ (k : ℕ). eqb k id) (Rattle.std.proofs.lemmas.Bool.cond-false (eqb o other) id o (ne_eqb o other else))))
+          (cases_eq o other)
+        where
+          or_false : (b : Bool) → (b || false) ≡ b
+          or_false true = refl
+          or_false false = refl
 
   sent_else : (id other : ℕ) (owner : ℕ → ℕ) (seat g : ℕ) → seat ≢ id → seat ≢ other → eqb (sent id other owner g) seat ≡ eqb (owner g) seat
   sent_else id other owner seat g a b =
@@ -754,9 +750,9 @@ module _ {S : Type 0} (T : Type 0) (rows : List (List ℕ)) (empty : S) (good : 
             };
       }
     where
-    only : (v w : Knows T) (seat : ℕ) → get_elem? (v ∷ []) seat ≡ some w → v ≡ w
-    only v w zero at = some-injective v w at
-    only v w (suc seat) at = absurd (some-ne-none w (sym at))
+      only : (v w : Knows T) (seat : ℕ) → get_elem? (v ∷ []) seat ≡ some w → v ≡ w
+      only v w zero at = some-injective v w at
+      only v w (suc seat) at = absurd (some-ne-none w (sym at))
 
   -- what a pass saw published lies at the place of its result
   pub seen_home : (s : St) → Rule s → IsLaidOut rows → (id : ℕ) (v : Knows T) (f i : ℕ) → get_elem? s.views id ≡ some v → member f v.seen ≡ true
@@ -764,9 +760,6 @@ module _ {S : Type 0} (T : Type 0) (rows : List (List ℕ)) (empty : S) (good : 
   seen_home s r laid id v f i at has is =
       let done : r.stage f ≡ Done = (r.fits id v at).seen f has in
       lies_at (r.stage f) (r.stage (length rows)) Done Free f (get_elem? s.homes i) (sym done) (sym (r.outside (length rows) (omega arith))) (r.filled i (edge (length rows) f) is)
-
-
-
 
 -- the claim, in the words of the view
 pub claim_told : {W O : Type 0} (defined : W → ℕ → O) (rows : List (List ℕ)) (w : W) → IsLaidOut rows

@@ -111,6 +111,6 @@ module _ (test : Place → Bool) where
       record { from = suc r.from; found = r.found; number = omega arith; here = r.here; nth = subst (λ l. get_elem? l k ≡ some r.found) (sym (cond-false (test p) (p ∷ filter test ps) (filter test ps) fails)) r.nth })
       (cases_Bool (test p))
     where
-    first : (n : ℕ) (p : Place) (ps : List Place) → test p ≡ true → (k i : ℕ) → get_elem? (n ∷ numbers_where test (n + 1) ps) k ≡ some i → ((j : ℕ) → get_elem? (numbers_where test (n + 1) ps) j ≡ some i → IsNth (n + 1) ps j i) → IsNth n (p ∷ ps) k i
-    first n p ps passes zero i at rec = let e = some-injective n i at in record { from = 0; found = p; number = omega arith; here = refl; nth = ap (λ l. get_elem? l 0) (cond-true (test p) (p ∷ filter test ps) (filter test ps) passes) }
-    first n p ps passes (suc k) i at rec = let r = rec k at in let e = r.number in record { from = suc r.from; found = r.found; number = omega arith; here = r.here; nth = subst (λ l. get_elem? l (suc k) ≡ some r.found) (sym (cond-true (test p) (p ∷ filter test ps) (filter test ps) passes)) r.nth }
+      first : (n : ℕ) (p : Place) (ps : List Place) → test p ≡ true → (k i : ℕ) → get_elem? (n ∷ numbers_where test (n + 1) ps) k ≡ some i → ((j : ℕ) → get_elem? (numbers_where test (n + 1) ps) j ≡ some i → IsNth (n + 1) ps j i) → IsNth n (p ∷ ps) k i
+      first n p ps passes zero i at rec = let e = some-injective n i at in record { from = 0; found = p; number = omega arith; here = refl; nth = ap (λ l. get_elem? l 0) (cond-true (test p) (p ∷ filter test ps) (filter test ps) passes) }
+      first n p ps passes (suc k) i at rec = let r = rec k at in let e = r.number in record { from = suc r.from; found = r.found; number = omega arith; here = r.here; nth = subst (λ l. get_elem? l (suc k) ≡ some r.found) (sym (cond-true (test p) (p ∷ filter test ps) (filter test ps) passes)) r.nth }

@@ -1,14 +1,14 @@
 // How a database begins, and how it ends.
 
-ghost use Rattle.std.specs.Prelude.{◌≡◌, ℕ, ◌<◌, ◌≤◌, ◌+◌, ◌^◌, List, [], length, true, Some, None, IfOk, vec_len, IsSomeAnd, slice_index_or};
+ghost use Rattle.std.specs.Prelude.{◌≡◌, ℕ, ◌<◌, ◌≤◌, ◌+◌, ◌^◌, List, [], length, true, Some, None, IfOk, vec_len, replicate};
 ghost use Rattle.std.specs.List.{All};
-ghost use Rattle.std.specs.Arc.{arc_value};
 ghost use Rattle.plan_core.specs.Graph.{IsPlan};
 ghost use Rattle.summary_db.specs.Views.{member, fresh};
+ghost use Rattle.summary_db.specs.Ends.{outputs, output_at};
+ghost use Rattle.summary_db.specs.Told.{IsOutput};
 ghost use Rattle.summary_db.specs.Passes.{rows_of, work_of, view, IsPassOf};
-ghost use Rattle.summary_db.specs.Ends.{output_at};
 
-use crate::closed::Closed;
+use crate::closed::{Closed, drain};
 use crate::db::Db;
 use crate::lay::Lay;
 use crate::rule::About;
@@ -30,6 +30,23 @@ fn copied(alloc: Global, rows: &List<List<u32>>) -> Result<List<List<u32>>, OutO
         copy.push(List::from_vec(Vec::from_slice(alloc, row.as_slice())?))?;
     }
     Ok(copy)
+}
+
+/// So many free words.
+fn zeros(alloc: Global, count: usize) -> Result<Vec<u64>, OutOfMemory>
+    ensures { IfOk result (λ words. words.items ≡ replicate count 0) }
+{
+    Ok(vec![in alloc; 0u64; count]?)
+}
+
+/// What the table is told: the plan and the work.
+fn about<W>(plan: &Plan, work: &W) -> About<W>
+    ensures { (result.plan.value ≡ plan.now) × (result.work.value ≡ work.now) }
+{
+    About {
+        plan: Snapshot::of(plan),
+        work: Snapshot::of(work),
+    }
 }
 
 /// Room for so many outputs.
@@ -79,11 +96,8 @@ impl<W: Work> Db<W> {
         let rows = copied(alloc, &plan.callees)?;
         let lay = Lay::new(alloc, &rows)?;
         let room = empty(alloc, rows.len())?;
-        let words = vec![in alloc; 0u64; rows.len() + 1]?;
-        let about = About {
-            plan: Snapshot::of(plan),
-            work: Snapshot::of(work),
-        };
+        let words = zeros(alloc, rows.len() + 1)?;
+        let about = about(plan, work);
         let (table, seat) = Table::vacant(alloc, words.as_slice(), lay.count, &about)?;
         let db = Db {
             table,
@@ -99,25 +113,20 @@ impl<W: Work> Db<W> {
     /// from what is left.
     pub fn close(self, pass: Pass<W>) -> Closed<W>
         requires { IsPassOf self pass }
-        ensures count { length (Rattle.summary_db.specs.Ends.outputs result) ≡ length (rows_of self) }
-        ensures outputs { (f : ℕ) → f < length (rows_of self) → member f (view pass).seen ≡ true → IsSomeAnd (output_at result f) (λ output. arc_value output ≡ W.defined (work_of self) f) }
+        ensures count { length (outputs result) ≡ length (rows_of self) }
+        ensures outputs { (f : ℕ) → f < length (rows_of self) → member f (view pass).seen ≡ true → IsOutput W.defined (Some (work_of self)) f (output_at result f) }
     {
         let Db {
             table,
             rows,
             lay,
-            mut room,
+            room,
         } = self;
         let Pass { seat } = pass;
         let first = lay.count - rows.len();
-        let mut closed = table.close_with(seat);
-        for number in 0..lay.count {
-            let slot = closed.take(number);
-            if number >= first {
-                room[number - first] = slot;
-            }
+        let closed = table.close_with(seat);
+        Closed {
+            outputs: drain(closed, first, room),
         }
-        closed.free();
-        Closed { outputs: room }
     }
 }

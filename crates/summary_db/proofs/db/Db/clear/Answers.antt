@@ -12,8 +12,7 @@ swap-requires-after_bounds g c κs within =
 pub loop-k-preserved : goal.loop-k-preserved
 loop-k-preserved g c =
     let d = c.args.self.now in let inv = c.loop-k.invariant in let s = c.swap.ensures.seat in
-    let n = roll Anything (λ i y. y ≡ None) (slots_of d.rows c.args.function) c.loop-k.k c.slot-slot.result c.loop-k.seat.me.1 c.slot-slot.ensures inv.1 in
-    (
+    let n = roll Anything (λ i y. y ≡ None) (slots_of d.rows c.args.function) c.loop-k.k c.slot-slot.result c.loop-k.seat.me.1 c.slot-slot.ensures inv.1 in (
       (s.0 ∙ inv.0.0, s.1 ∙ inv.0.1, ap (λ m. m.0) s.2 ∙ inv.0.2),
       subst (λ m. Rolled Anything (λ i y. y ≡ None) (slots_of d.rows c.args.function) (c.loop-k.k + 1) m.1) (sym s.2) (n.on None refl),
     )

@@ -4,8 +4,7 @@ use Rattle.summary_db.proofs.db.Db.end.Goals as goal
 
 pub join_seat-requires : goal.join_seat-requires
 join_seat-requires g c =
-    let d = c.args.self.now in let w = d.words in
-    (
+    let d = c.args.self.now in let w = d.words in (
       c.requires.0,
       c.requires.1,
       c.requires.2,

@@ -1,4 +1,4 @@
-use Rattle.std.proofs.Common.{◌≡◌, ◌+◌, ◌<◌, arith, length, length-append, ap, sym, ◌∙◌, subst, None, Some, ℕ}
+use Rattle.std.proofs.Common.{◌≡◌, ◌+◌, ◌<◌, ◌∷◌, arith, length, length-append, ap, sym, ◌∙◌, subst, None, Some, ℕ}
 use Rattle.std.specs.Arc.{arc_value}
 use Rattle.std.specs.declared.sync.Arc.{Arc}
 use Rattle.std.proofs.Common.{Global}
@@ -6,6 +6,7 @@ use Rattle.std.specs.Option.{IsSome}
 use Rattle.std.proofs.lemmas.List.Elements.{All-pop}
 use Rattle.summary_db.specs.Places.{Anything, Fills, Rolled, slots_of, takes_of, gives_of}
 use Rattle.summary_db.specs.Told.{IsOutput}
+use Rattle.atomic_table.specs.Table.{rest, turned}
 use Rattle.summary_db.proofs.Rolls.{roll}
 use Rattle.summary_db.proofs.Calls_kept.{some_and, one_popped}
 use Rattle.summary_db.proofs.db.Db.fill.Goals as goal
@@ -27,11 +28,10 @@ loop-k-preserved g c =
     let is : IsSome c.pop-row.result = c.pop-row.ensures.variant.1 (omega arith) in
     let one = one_popped c.pop-row.result is in let len = c.pop-row.ensures.len in
     let full : good c.args.function c.pop-row.result = some_and c.pop-row.result out is popped.1 in
-    let again : length c.takes-takes.result.now + c.loop-k.k + 1 ≡ length c.takes-takes.result.now + (c.loop-k.k + 1) = omega arith in
-    (
+    let again : length c.takes-takes.result.now + c.loop-k.k + 1 ≡ length c.takes-takes.result.now + (c.loop-k.k + 1) = omega arith in (
       (s.0 ∙ inv.0.0, s.1 ∙ inv.0.1, ap (λ m'. m'.0) s.2 ∙ inv.0.2),
       subst (λ m'. Rolled Anything (Fills d.rows good c.args.function) (slots_of d.rows c.args.function) (length c.takes-takes.result.now + (c.loop-k.k + 1)) m'.1) (sym s.2)
-          (subst (λ (j : ℕ). Rolled Anything (Fills d.rows good c.args.function) (slots_of d.rows c.args.function) j _) again (n.on c.pop-row.result (λ p at same. full))),
+          (subst (λ (j : ℕ). Rolled Anything (Fills d.rows good c.args.function) (slots_of d.rows c.args.function) j (turned ((c.slot-slot.result, c.pop-row.result) ∷ rest c.loop-k.seat.me.1))) again (n.on c.pop-row.result (λ p at same. full))),
       omega arith,
       popped.0,
     )

@@ -5,8 +5,7 @@ use Rattle.summary_db.proofs.db.Db.leave.Goals as goal
 
 pub store-requires : goal.store-requires
 store-requires g c =
-    let d = c.args.self.now in let w = d.words in let n = c.len.ensures in
-    (
+    let d = c.args.self.now in let w = d.words in let n = c.len.ensures in (
       c.requires.seat,
       omega arith,
       leave_allowed_at _ _ _ _ (subst IsLaidOut d.planned d.laid) _ _ _ c.args.seat.now.me.0.place c.len.result (ap length (sym d.planned) ∙ sym n) c.requires.claim

@@ -6,8 +6,7 @@ use Rattle.summary_db.proofs.db.Db.put_word.Goals as goal
 
 pub compare_exchange-requires : goal.compare_exchange-requires
 compare_exchange-requires g c =
-    let d = c.args.self.now in let w = d.words in let f = c.requires.seat.1 in
-    (
+    let d = c.args.self.now in let w = d.words in let f = c.requires.seat.1 in (
       c.requires.seat.0,
       omega arith,
       put_allowed _ _ _ _ (subst IsLaidOut d.planned d.laid) _ _ _ c.args.function c.requires.claim

@@ -8,8 +8,7 @@ pub loop-k-preserved : goal.loop-k-preserved
 loop-k-preserved g c =
     let d = c.args.self.now in let inv = c.loop-k.invariant in let t = c.turn.ensures in
     let low = c.loop-k-test.true in let e = ap length c.takes-takes.ensures in
-    let good = IsOutput g.W.Work.defined (Some d.table.shared.key.work.value) in
-    (
+    let good = IsOutput g.W.Work.defined (Some d.table.shared.key.work.value) in (
       t.0 ∙ inv.0,
       t.1 ∙ inv.1,
       ap (λ m. m.0) t.2 ∙ inv.2,

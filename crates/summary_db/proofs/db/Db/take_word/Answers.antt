@@ -7,8 +7,7 @@ use Rattle.summary_db.proofs.db.Db.take_word.Goals as goal
 
 pub compare_exchange-requires : goal.compare_exchange-requires
 compare_exchange-requires g c =
-    let d = c.args.self.now in let w = d.words in let f = c.requires.seat.1 in
-    (
+    let d = c.args.self.now in let w = d.words in let f = c.requires.seat.1 in (
       c.requires.seat.0,
       omega arith,
       claim_told g.W.Work.defined d.table.shared.key.plan.value.callees d.table.shared.key.work.value (subst IsLaidOut d.planned d.laid) _ _ c.args.seat.now.me c.args.function

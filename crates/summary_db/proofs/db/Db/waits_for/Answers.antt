@@ -19,8 +19,7 @@ loop-callee-preserved g c =
     let old = view c.loop-callee.pass in
     let step : Looks old (view c.published.new.pass) = subst (Looks old) (sym found.2) (looked_looks x found.0 old) in
     let two = word_from_yes found.0 c.published.result found.1 c.in-Yes.is in
-    let here : member x (view c.published.new.pass).seen ≡ true = ap (λ w. member x w.seen) found.2 ∙ seen_now x found.0 old two in
-    (
+    let here : member x (view c.published.new.pass).seen ≡ true = ap (λ w. member x w.seen) found.2 ∙ seen_now x found.0 old two in (
       c.published.ensures.pass,
       looks_again (view c.args.pass.now) old (view c.published.new.pass) c.loop-callee.invariant.1 step,
       below_more (λ k. member (get_or (callees c.args.self.now.rows c.args.function) k 0) (view c.published.new.pass).seen ≡ true) i
@@ -34,8 +33,7 @@ returns-in-No-clause-waits g c =
     let found = c.published.ensures.found in
     let r = word_from_no found.0 c.in-No.found c.published.result found.1 c.in-No.is in
     let same = r.0 in let small = r.1 in
-    let before = c.loop-callee.invariant.1.finds in let after = ap (λ w. w.finds) found.2 in
-    (
+    let before = c.loop-callee.invariant.1.finds in let after = ap (λ w. w.finds) found.2 in (
       subst (λ ys. member x ys ≡ true) c.callees_of-callees.ensures (member_get xs i 0 c.loop-callee-test.true),
       omega arith,
       ap (λ w. w.place) found.2,

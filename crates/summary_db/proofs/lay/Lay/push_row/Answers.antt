@@ -16,11 +16,10 @@ pub loop-giver-preserved : goal.loop-giver-preserved
 loop-giver-preserved c =
     let a = c.loop-giver.invariant.1 in
     let b = c.loop-giver.invariant.2 in
-    let l = c.in_ok-push.ensures.len in
-    (
+    let l = c.in_ok-push.ensures.len in (
       (λ n places lay.
-      subst (λ ps. IsLay n ps c.push.new.self) (row_more places (edge c.args.taker) c.args.givers.now c.loop-giver.giver-index 0 c.loop-giver-test.true)
-      (c.in_ok-push.ensures.lay n (places ++ map (edge c.args.taker) (take c.loop-giver.giver-index c.args.givers.now)) (c.loop-giver.invariant.0 n places lay))),
+          subst (λ ps. IsLay n ps c.push.new.self) (row_more places (edge c.args.taker) c.args.givers.now c.loop-giver.giver-index 0 c.loop-giver-test.true)
+          (c.in_ok-push.ensures.lay n (places ++ map (edge c.args.taker) (take c.loop-giver.giver-index c.args.givers.now)) (c.loop-giver.invariant.0 n places lay))),
       omega arith,
       omega arith,
     )
