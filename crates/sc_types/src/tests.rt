@@ -411,6 +411,7 @@ fn a_program_has_its_widths(rt: HostRuntime) {
         names: Names::new(rt.alloc()),
         files: List::new(rt.alloc()),
         widths: Widths::Lp64,
+        machine: None,
         structs: List::new(rt.alloc()),
         globals: List::new(rt.alloc()),
         functions: List::new(rt.alloc()),

@@ -1,0 +1,9 @@
+pub mod Sets
+pub mod Numbers
+pub mod Edges
+pub mod Acts
+pub mod Laying
+pub mod Rolls
+pub mod Jobs
+pub mod Moves_kept
+pub mod Calls_kept
