@@ -1,5 +1,5 @@
 -- How much room a type takes (C11 6.2.8, 6.5.3.4, 6.7.2.1): its size and its alignment, in bytes.
-use Rattle.std.specs.Prelude.{ℕ, ◌+◌, ◌-◌, ◌*◌, ◌/◌, ◌^◌, min, max, nat_eq, nat_lt, Bool, true, false, Option, Some, None, List, [], ◌∷◌, slice_index_or, if◌then◌else◌}
+use Rattle.std.specs.Prelude.{ℕ, ◌+◌, ◌-◌, ◌*◌, ◌/◌, ◌^◌, min, max, nat_eq, nat_lt, Bool, true, false, Option, Some, None, List, fold, slice_index_or, if◌then◌else◌}
 use Rattle.sc_tree.specs.declared.ctype.OpaqueKind.{OpaqueKind}
 use Rattle.sc_tree.specs.declared.ctype.OpaqueKind.TheVariants as opaque
 use Rattle.sc_tree.specs.declared.ctype.Widths.{Widths}
@@ -104,12 +104,10 @@ abbrev pub closed : Option Extent → Option Extent
 closed None = None
 closed (Some e) = fits (record { size = rounded_up e.size e.align; align = e.align })
 
-abbrev pub members_extent : Widths → List StructDef → (union : Bool) → List FieldDef → Option Extent → Option Extent
-members_extent w structs union [] all = all
-members_extent w structs union (f ∷ fs) None = None
-members_extent w structs union (f ∷ fs) (Some all) =
-    members_extent w structs union fs (with_field union f.bits (extent w structs f.ctype) all)
+abbrev pub with_next : Widths → List StructDef → (union : Bool) → Option Extent → FieldDef → Option Extent
+with_next w structs union None f = None
+with_next w structs union (Some all) f = with_field union f.bits (extent w structs f.ctype) all
 
 -- the extent of a struct or union with these members
 abbrev pub struct_extent : Widths → List StructDef → (union : Bool) → List FieldDef → Option Extent
-struct_extent w structs union fields = closed (members_extent w structs union fields (Some no_members))
+struct_extent w structs union fields = closed (fold (with_next w structs union) (Some no_members) fields)

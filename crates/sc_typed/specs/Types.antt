@@ -130,15 +130,15 @@ same_opaque _ _ = false
 abbrev pub same_flag : Bool → Bool → Bool
 same_flag a b = if a then b else not b
 
--- each test holds of the type at its place, and there are as many
-abbrev pub hold_of : List (CType → Bool) → List CType → Bool
-hold_of [] [] = true
-hold_of (p ∷ ps) (t ∷ ts) = p t && hold_of ps ts
-hold_of _ _ = false
+-- each of one list fits the type at its place, and there are as many
+abbrev pub each_fits : {A : Type 0} → (A → CType → Bool) → List A → List CType → Bool
+each_fits fit [] [] = true
+each_fits fit (x ∷ xs) (t ∷ ts) = fit x t && each_fits fit xs ts
+each_fits fit _ _ = false
 
 abbrev pub same_params : Option (List (CType → Bool)) → Option (List CType) → Bool
 same_params None None = true
-same_params (Some ps) (Some ts) = hold_of ps ts
+same_params (Some ps) (Some ts) = each_fits (λ p t. p t) ps ts
 same_params _ _ = false
 
 abbrev pub same_step : CType-F (CType → Bool) (Signature → Bool) → CType-F CType Signature → Bool
@@ -158,6 +158,9 @@ same_signature_step s t = s.result t.result && (same_params s.params t.params &&
 
 abbrev pub same : CType → CType → Bool
 same = fold-CType (CType → Bool) (Signature → Bool) (λ f t. same_step f (out-CType t)) (λ f s. same_signature_step f (out-Signature s))
+
+abbrev pub same_signature : Signature → Signature → Bool
+same_signature = fold-Signature (CType → Bool) (Signature → Bool) (λ f t. same_step f (out-CType t)) (λ f s. same_signature_step f (out-Signature s))
 
 -- Compatible types (C11 6.2.7, 6.7.6.3): two declarations of one name agree where their types are.
 
@@ -194,7 +197,7 @@ abbrev pub params_agree : (left : Option (List Agreeing)) (left_variadic : Bool)
 params_agree None v None u = true
 params_agree (Some ps) v None u = not v && list_all (λ p. p.keeps) ps
 params_agree None v (Some ts) u = not u && list_all keeps_itself ts
-params_agree (Some ps) v (Some ts) u = same_flag v u && hold_of (map (λ p. p.agrees) ps) ts
+params_agree (Some ps) v (Some ts) u = same_flag v u && each_fits (λ p t. p.agrees t) ps ts
 
 abbrev pub agrees_step : CType-F Agreeing (Signature → Bool) → CType-F CType Signature → Bool
 agrees_step CType-F.Void CType-F.Void = true
@@ -214,9 +217,15 @@ agreeing f = record { keeps = keeps_layer f; agrees = λ t. agrees_step f (out-C
 abbrev pub signatures_agree : Signature-F Agreeing (Signature → Bool) → Signature-F CType Signature → Bool
 signatures_agree s t = s.result.agrees t.result && params_agree s.params s.variadic t.params t.variadic
 
+abbrev pub agreement : CType → Agreeing
+agreement = fold-CType Agreeing (Signature → Bool) agreeing (λ f s. signatures_agree f (out-Signature s))
+
 -- whether two types are compatible
 abbrev pub compatible : CType → CType → Bool
-compatible t = (fold-CType Agreeing (Signature → Bool) agreeing (λ f s. signatures_agree f (out-Signature s)) t).agrees
+compatible t = (agreement t).agrees
+
+abbrev pub compatible_signature : Signature → Signature → Bool
+compatible_signature = fold-Signature Agreeing (Signature → Bool) agreeing (λ f s. signatures_agree f (out-Signature s))
 
 -- The composite type of two compatible types (C11 6.2.7, 3): a length or a list of parameters that one of
 -- them has stands in it.
@@ -279,5 +288,11 @@ signature_with s t = roll-Signature (record {
 abbrev pub composing_signature : Signature-F Composing ComposingSignature → ComposingSignature
 composing_signature s = record { itself = signature_itself s; with = λ t. signature_with s (out-Signature t) }
 
+abbrev pub composition : CType → Composing
+composition = fold-CType Composing ComposingSignature composing composing_signature
+
+abbrev pub signature_composition : Signature → ComposingSignature
+signature_composition = fold-Signature Composing ComposingSignature composing composing_signature
+
 abbrev pub composite : CType → CType → CType
-composite t = (fold-CType Composing ComposingSignature composing composing_signature t).with
+composite t = (composition t).with
