@@ -1,5 +1,6 @@
 pub mod Faults
 pub mod Walks
+pub mod Gives
 pub mod Conversions
 pub mod Operators
 pub mod Builtins

@@ -5,6 +5,15 @@
 //! each.
 #![tactic(auto)]
 
+mod conversions;
+mod faults;
+mod steps;
 mod walk;
 
+pub use conversions::{
+    common_of, convert, converted, converts, decayed, node, opaque_fault, opaque_kind, promote, to,
+    to_kind, value,
+};
+pub use faults::{ill_typed_at, is_before, unsupported_at, with_fault};
+pub use steps::{fault, holds_or, ill_typed, unsupported};
 pub use walk::{Builtin, Entity, Fault, Given, GlobalKey, Record, Tag, TagKind, Walk};
