@@ -22,8 +22,7 @@ use Rattle.sc_rules.specs.declared.walk.Given.TheVariants as takes
 use Rattle.sc_rules.specs.declared.walk.Entity.{Entity}
 use Rattle.sc_rules.specs.declared.walk.Entity.TheVariants as entity
 use Rattle.sc_rules.specs.Walks.{Check, ◌>>=◌, done, given, both, unsupported, ill_typed}
-use Rattle.sc_rules.specs.Conversions.{node, type_of, place_of, value, promote, convert, converted}
-use Rattle.sc_rules.specs.Operators.{int, made}
+use Rattle.sc_rules.specs.Conversions.{int, made, node, type_of, place_of, value, promote, convert, converted}
 
 -- a function with that result of whose arguments nothing is said
 abbrev pub with_result : CType → Signature

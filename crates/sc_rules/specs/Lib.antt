@@ -2,6 +2,8 @@ pub mod Faults
 pub mod Walks
 pub mod Gives
 pub mod Conversions
+pub mod Binary
+pub mod Assignments
 pub mod Operators
 pub mod Builtins
 pub mod Here

@@ -15,8 +15,7 @@ use Rattle.sc_typed.specs.Extents.{struct_at}
 use Rattle.sc_typed.specs.Types.{target, is_aggregate}
 use Rattle.sc_rules.specs.declared.walk.Walk.{Walk}
 use Rattle.sc_rules.specs.Walks.{Check, ◌>>=◌, done, unsupported, ill_typed}
-use Rattle.sc_rules.specs.Conversions.{type_of}
-use Rattle.sc_rules.specs.Operators.{made}
+use Rattle.sc_rules.specs.Conversions.{made, type_of}
 
 -- What a member's name means in a struct or union: nothing; a member of its own, by its number; or what is not
 -- taken, a member of a union, a bit field, and a member of an unnamed member.

@@ -1,16 +1,12 @@
--- Operators (C11 6.5): what each makes of operands that have their types, or which fault it finds.
+-- Constants, and operators other than those between two operands and assignment (C11 6.4.4.1, 6.5): what each
+-- makes of operands that have their types, or which fault it finds.
 use Rattle.std.specs.Prelude.{ℕ, ◌+◌, Bool, true, false, not, ◌&&◌, ◌||◌, Option, Some, None, if◌then◌else◌, ◌∷◌, []}
 use Rattle.sc_base.specs.declared.pos.Pos.{Pos}
 use Rattle.sc_base.specs.declared.skip.Unsupported.TheVariants as u
 use Rattle.sc_base.specs.declared.skip.IllTyped.TheVariants as i
 use Rattle.sc_tree.specs.declared.token.IntToken.{IntToken}
-use Rattle.sc_tree.specs.declared.op.BinaryOp.{BinaryOp}
-use Rattle.sc_tree.specs.declared.op.BinaryOp.TheVariants as op
 use Rattle.sc_tree.specs.declared.op.UnaryOp.{UnaryOp}
 use Rattle.sc_tree.specs.declared.op.UnaryOp.TheVariants as sign
-use Rattle.sc_tree.specs.declared.op.AssignOp.{AssignOp}
-use Rattle.sc_tree.specs.declared.op.AssignOp.TheVariants as assign
-use Rattle.sc_tree.specs.declared.op.Step.{Step}
 use Rattle.sc_tree.specs.declared.ctype.CType.{CType, CType-F, out-CType}
 use Rattle.sc_tree.specs.declared.ctype.CType.TheVariants as ty
 use Rattle.sc_tree.specs.declared.ctype.Signature.{Signature}
@@ -23,18 +19,11 @@ use Rattle.sc_tree.specs.declared.expr.Place.{Place}
 use Rattle.sc_typed.specs.declared.expr.TExpr.{TExpr}
 use Rattle.sc_typed.specs.declared.expr.What.{What}
 use Rattle.sc_typed.specs.declared.expr.What.TheVariants as what
-use Rattle.sc_typed.specs.Kinds.{common}
 use Rattle.sc_typed.specs.Types.{same, is_integer, is_pointer, is_scalar, is_aggregate, is_function, is_void, is_void_pointer, target, promoted_kind}
 use Rattle.sc_typed.specs.Constants.{is_null_constant, is_lvalue, constant_kind}
-use Rattle.sc_rules.specs.Faults.{ill_typed_at, unsupported_at}
-use Rattle.sc_rules.specs.Walks.{Check, ◌>>=◌, done, given, both, unsupported, ill_typed, holds_or}
-use Rattle.sc_rules.specs.Conversions.{node, type_of, place_of, to, promote, common_of, opaque_kind, opaque_fault, decayed, converts, converted, convert}
-
-abbrev pub int : CType
-int = ty.Int kind.Int
-
-abbrev pub made : What → CType → Place → Check (Option TExpr)
-made w t p = done (Some (node w t p))
+use Rattle.sc_rules.specs.Walks.{Check, ◌>>=◌, done, unsupported, ill_typed}
+use Rattle.sc_rules.specs.Conversions.{int, made, node, type_of, place_of, to, promote, common_of, opaque_kind, converts}
+use Rattle.sc_rules.specs.Binary.{both_integers, some_pointer}
 
 -- The type of `sizeof` (C11 6.5.3.4, 7.19).
 abbrev pub size_type : Widths → CType
@@ -52,104 +41,6 @@ int_of_value w t (Some n) p = int_of_kind (constant_kind w t.decimal t.unsigned 
 
 abbrev pub int_constant : Widths → IntToken → Place → Check (Option TExpr)
 int_constant w t p = int_of_value w t t.value p
-
--- Operators between two operands, by the manner in which they treat them.
-pub data Manner : Type 0 where
-  Logical : Manner
-  Equality : Manner
-  Ordering : Manner
-  Shifting : Manner
-  Additive : Manner
-  Arithmetic : Manner
-
-abbrev pub manner : BinaryOp → Manner
-manner op.And = Logical
-manner op.Or = Logical
-manner op.Equal = Equality
-manner op.NotEqual = Equality
-manner op.Less = Ordering
-manner op.Greater = Ordering
-manner op.LessEqual = Ordering
-manner op.GreaterEqual = Ordering
-manner op.ShiftLeft = Shifting
-manner op.ShiftRight = Shifting
-manner op.Add = Additive
-manner op.Sub = Additive
-manner _ = Arithmetic
-
-abbrev pub both_integers : TExpr → TExpr → Bool
-both_integers a b = is_integer (type_of a) && is_integer (type_of b)
-
-abbrev pub some_pointer : TExpr → TExpr → Bool
-some_pointer a b = is_pointer (type_of a) || is_pointer (type_of b)
-
--- both operands in their common kind, which is the kind of the result (C11 6.5.5, 6.5.6, 6.5.10 to 6.5.12)
-abbrev pub on_common : Widths → BinaryOp → Place → TExpr → TExpr → Check (Option TExpr)
-on_common w o p a b =
-    if both_integers a b
-    then made (what.Binary o (to (common_of w a b) a) (to (common_of w a b) b)) (common_of w a b) p
-    else ill_typed i.Operand p.token
-
--- both operands in their common kind, and an `int` as the result (C11 6.5.8, 6.5.9)
-abbrev pub compared : Widths → BinaryOp → Place → TExpr → TExpr → Check (Option TExpr)
-compared w o p a b =
-    if both_integers a b
-    then made (what.Binary o (to (common_of w a b) a) (to (common_of w a b) b)) int p
-    else ill_typed i.Operand p.token
-
--- arithmetic on pointers is not taken
-abbrev pub additive : Widths → BinaryOp → Place → TExpr → TExpr → Check (Option TExpr)
-additive w o p a b = if some_pointer a b then unsupported u.Arith p.token else on_common w o p a b
-
--- nor is their order
-abbrev pub ordering : Widths → BinaryOp → Place → TExpr → TExpr → Check (Option TExpr)
-ordering w o p a b = if some_pointer a b then unsupported u.Order p.token else compared w o p a b
-
--- whether two operands, of which one is a pointer, may be compared: each is a pointer or a null constant
-abbrev pub is_comparable : Widths → TExpr → Bool
-is_comparable w e = is_pointer (type_of e) || is_null_constant w e
-
--- whether the left operand goes to the right one's type: it is no pointer, or a null constant beside one that
--- is none
-abbrev pub left_follows : Widths → TExpr → TExpr → Bool
-left_follows w a b = not (is_pointer (type_of a)) || (is_null_constant w a && not (is_null_constant w b))
-
-abbrev pub pointers_compared : Widths → BinaryOp → Place → TExpr → TExpr → Check (Option TExpr)
-pointers_compared w o p a b =
-    if left_follows w a b
-    then made (what.Binary o (to (type_of b) a) b) int p
-    else made (what.Binary o a (to (type_of a) b)) int p
-
-abbrev pub equality : Widths → BinaryOp → Place → TExpr → TExpr → Check (Option TExpr)
-equality w o p a b =
-    if some_pointer a b
-    then (if is_comparable w a && is_comparable w b then pointers_compared w o p a b else ill_typed i.Operand p.token)
-    else compared w o p a b
-
--- each operand promoted, and the left one's kind as that of the result (C11 6.5.7)
-abbrev pub shifting : BinaryOp → Place → TExpr → TExpr → Check (Option TExpr)
-shifting o p a b =
-    if both_integers a b
-    then made (what.Binary o (promote a) (promote b)) (ty.Int (promoted_kind (type_of a))) p
-    else ill_typed i.Operand p.token
-
--- both operands compared with 0 or null (C11 6.5.13, 6.5.14)
-abbrev pub logical : BinaryOp → Place → TExpr → TExpr → Check (Option TExpr)
-logical o p a b =
-    if is_scalar (type_of a) && is_scalar (type_of b)
-    then made (what.Binary o a b) int p
-    else ill_typed i.Operand p.token
-
-abbrev pub binary_by : Manner → Widths → BinaryOp → Place → TExpr → TExpr → Check (Option TExpr)
-binary_by Logical w o p a b = logical o p a b
-binary_by Equality w o p a b = equality w o p a b
-binary_by Ordering w o p a b = ordering w o p a b
-binary_by Shifting w o p a b = shifting o p a b
-binary_by Additive w o p a b = additive w o p a b
-binary_by Arithmetic w o p a b = on_common w o p a b
-
-abbrev pub binary : Widths → BinaryOp → Place → TExpr → TExpr → Check (Option TExpr)
-binary w o p a b = binary_by (manner o) w o p a b
 
 -- Operators before their operand (C11 6.5.3.2, 6.5.3.3).
 
@@ -188,102 +79,6 @@ unary sign.Plus p a = signing sign.Plus p a
 unary sign.Minus p a = signing sign.Minus p a
 unary sign.Complement p a = promoting sign.Complement p a
 
--- `++` and `--` (C11 6.5.2.4, 6.5.3.1) of what stands as it is
-abbrev pub stepped : CType → Place → TExpr → Check Bool
-stepped t p a =
-    if is_pointer t
-    then holds_or false (unsupported_at u.Arith p.token)
-    else holds_or (is_integer t) (ill_typed_at i.Operand p.token)
-
-abbrev pub increment_of : What → Place → TExpr → Check (Option TExpr)
-increment_of w p a = do
-  counts ← stepped (type_of a) p a
-  names ← holds_or (is_lvalue a) (ill_typed_at i.Lvalue p.token)
-  if counts && names then made w (type_of a) p else done None
-
-abbrev pub increment_unless : Option OpaqueKind → What → Place → TExpr → Check (Option TExpr)
-increment_unless None w p a = increment_of w p a
-increment_unless (Some k) w p a = unsupported (opaque_fault k) p.first
-
-abbrev pub pre_increment : Step → Place → TExpr → Check (Option TExpr)
-pre_increment s p a = increment_unless (opaque_kind (type_of a)) (what.PreInc s (decayed a)) p (decayed a)
-
-abbrev pub post_increment : Step → Place → TExpr → Check (Option TExpr)
-post_increment s p a = increment_unless (opaque_kind (type_of a)) (what.PostInc s (decayed a)) p (decayed a)
-
--- Assignment (C11 6.5.16). The left side stands as it is, the right side is a value.
-
--- the operator that `+=` and its kin work with; none of `=`
-abbrev pub assigned_operator : AssignOp → Option BinaryOp
-assigned_operator assign.Set = None
-assigned_operator assign.Mul = Some op.Mul
-assigned_operator assign.Div = Some op.Div
-assigned_operator assign.Rem = Some op.Rem
-assigned_operator assign.Add = Some op.Add
-assigned_operator assign.Sub = Some op.Sub
-assigned_operator assign.ShiftLeft = Some op.ShiftLeft
-assigned_operator assign.ShiftRight = Some op.ShiftRight
-assigned_operator assign.BitAnd = Some op.BitAnd
-assigned_operator assign.BitXor = Some op.BitXor
-assigned_operator assign.BitOr = Some op.BitOr
-
--- the type in which an assignment works, and its right side converted to it
-pub record Working : Type 0 where
-  pub ctype : CType
-  pub right : TExpr
-
-abbrev pub working_in : CType → TExpr → Check (Option Working)
-working_in t b = done (Some (record { ctype = t; right = b }))
-
--- a shift promotes each side alone, any other operator brings both to their common kind
-abbrev pub working_by : Manner → Widths → TExpr → TExpr → Check (Option Working)
-working_by Shifting w a b = working_in (ty.Int (promoted_kind (type_of a))) (promote b)
-working_by _ w a b = working_in (common_of w a b) (to (common_of w a b) b)
-
-abbrev pub is_additive : Manner → Bool
-is_additive Additive = true
-is_additive _ = false
-
-abbrev pub compound : Widths → BinaryOp → Place → TExpr → TExpr → Check (Option Working)
-compound w o p a b =
-    if is_additive (manner o) && some_pointer a b
-    then unsupported u.Arith p.token
-    else (if both_integers a b then working_by (manner o) w a b else ill_typed i.Operand p.token)
-
-abbrev pub working : Widths → Option BinaryOp → Place → TExpr → TExpr → Check (Option Working)
-working w None p a b = do
-  r ← converted w i.Operand p.token (type_of a) b
-  given r (λ b. working_in (type_of a) b)
-working w (Some o) p a b = compound w o p a b
-
-abbrev pub assigned : Bool → AssignOp → Place → TExpr → Option Working → Check (Option TExpr)
-assigned names o p a None = done None
-assigned false o p a (Some r) = done None
-assigned true o p a (Some r) = made (what.Assign o r.ctype a r.right) (type_of a) p
-
-abbrev pub assign_value : Widths → AssignOp → Place → TExpr → Option TExpr → Check (Option Working)
-assign_value w o p a None = done None
-assign_value w o p a (Some b) = working w (assigned_operator o) p a b
-
-abbrev pub assignment_of : Widths → AssignOp → Place → TExpr → Option TExpr → Check (Option TExpr)
-assignment_of w o p a b = do
-  names ← holds_or (is_lvalue a) (ill_typed_at i.Lvalue p.token)
-  r ← assign_value w o p a b
-  assigned names o p a r
-
--- an object of an opaque type is not assigned to
-abbrev pub opaque_assigned : OpaqueKind → Place → TExpr → Check (Option TExpr)
-opaque_assigned k p a = do
-  _ ← holds_or (is_lvalue a) (ill_typed_at i.Lvalue p.token)
-  unsupported (opaque_fault k) p.first
-
-abbrev pub assignment_unless : Option OpaqueKind → Widths → AssignOp → Place → TExpr → Option TExpr → Check (Option TExpr)
-assignment_unless None w o p a b = assignment_of w o p (decayed a) b
-assignment_unless (Some k) w o p a b = opaque_assigned k p a
-
-abbrev pub assignment : Widths → AssignOp → Place → TExpr → Option TExpr → Check (Option TExpr)
-assignment w o p a b = assignment_unless (opaque_kind (type_of a)) w o p a b
-
 -- `? :` (C11 6.5.15)
 
 abbrev pub pointer_arms : Widths → TExpr → TExpr → Option CType
@@ -296,6 +91,13 @@ pointer_arms w b c =
 abbrev pub follows_pointer : Widths → TExpr → TExpr → Bool
 follows_pointer w b c = is_null_constant w b && (not (is_null_constant w c) && is_pointer (type_of c))
 
+-- the type of `? :` by its arms, of which one is a pointer
+abbrev pub mixed_arms : Widths → TExpr → TExpr → Option CType
+mixed_arms w b c =
+    if follows_pointer w b c
+    then Some (type_of c)
+    else (if follows_pointer w c b then Some (type_of b) else pointer_arms w b c)
+
 -- the type of `? :` by its arms
 abbrev pub arms_type : Widths → TExpr → TExpr → Option CType
 arms_type w b c =
@@ -303,31 +105,38 @@ arms_type w b c =
     then Some (common_of w b c)
     else (if is_void (type_of b) && is_void (type_of c)
     then Some ty.Void
-    else (if not (some_pointer b c)
-    then None
-    else (if follows_pointer w b c
-    then Some (type_of c)
-    else (if follows_pointer w c b then Some (type_of b) else pointer_arms w b c))))
+    else (if some_pointer b c then mixed_arms w b c else None))
+
+abbrev pub chosen : CType → Place → TExpr → TExpr → TExpr → TExpr
+chosen t p a b c = node (what.Cond a (to t b) (to t c)) t p
 
 abbrev pub conditional_to : Option CType → Place → TExpr → TExpr → TExpr → Check (Option TExpr)
 conditional_to None p a b c = ill_typed i.Operand p.token
 conditional_to (Some t) p a b c =
-    if is_scalar (type_of a) then made (what.Cond a (to t b) (to t c)) t p else ill_typed i.Operand p.token
+    if is_scalar (type_of a) then done (Some (chosen t p a b c)) else ill_typed i.Operand p.token
 
 -- an operand that is a struct or union is not taken
-abbrev pub no_aggregate : TExpr → Check (Option TExpr)
-no_aggregate e = if is_aggregate (type_of e) then unsupported u.Struct (place_of e).first else done (Some e)
+abbrev pub no_aggregate : Option TExpr → Check (Option TExpr)
+no_aggregate None = done None
+no_aggregate (Some e) = if is_aggregate (type_of e) then unsupported u.Struct (place_of e).first else done (Some e)
+
+-- each operand that has a type is judged, whatever faults others have
+abbrev pub conditional_of : Widths → Place → Option TExpr → Option TExpr → Option TExpr → Check (Option TExpr)
+conditional_of w p None b c = done None
+conditional_of w p (Some a) None c = done None
+conditional_of w p (Some a) (Some b) None = done None
+conditional_of w p (Some a) (Some b) (Some c) = conditional_to (arms_type w b c) p a b c
 
 abbrev pub conditional : Widths → Place → Option TExpr → Option TExpr → Option TExpr → Check (Option TExpr)
 conditional w p a b c = do
-  x ← given a no_aggregate
-  y ← given b no_aggregate
-  z ← given c no_aggregate
-  given x (λ x. both y z (λ y z. conditional_to (arms_type w y z) p x y z))
+  x ← no_aggregate a
+  y ← no_aggregate b
+  z ← no_aggregate c
+  conditional_of w p x y z
 
 -- the comma operator (C11 6.5.17)
-abbrev pub comma : Place → TExpr → TExpr → Check (Option TExpr)
-comma p a b = made (what.Comma a b) (type_of b) p
+abbrev pub comma : Place → TExpr → TExpr → TExpr
+comma p a b = node (what.Comma a b) (type_of b) p
 
 -- Casts (C11 6.5.4): a value of an opaque type that a cast makes of an integer is refused where it is taken.
 abbrev pub is_opaque_of_integer : CType → TExpr → Option OpaqueKind → Bool

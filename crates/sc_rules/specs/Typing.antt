@@ -44,8 +44,10 @@ use Rattle.sc_rules.specs.declared.walk.TagKind.TheVariants as tag
 use Rattle.sc_rules.specs.declared.walk.Builtin.{Builtin}
 use Rattle.sc_rules.specs.Walks.{Check, ◌>>=◌, done, given, both, unsupported, ill_typed, holds_or, name_means, name_here, declare, tag_means, tag_here, declare_tag, Scope, no_scope, open_scope, close_scope}
 use Rattle.sc_rules.specs.Faults.{ill_typed_at}
-use Rattle.sc_rules.specs.Conversions.{node, type_of, place_of, value, decayed, decayed_type}
-use Rattle.sc_rules.specs.Operators.{int, made, int_constant, binary, unary, pre_increment, post_increment, assignment, conditional, comma, cast, size_of_expression, size_of_type, index}
+use Rattle.sc_rules.specs.Conversions.{int, made, node, type_of, place_of, value, decayed, decayed_type}
+use Rattle.sc_rules.specs.Binary.{binary}
+use Rattle.sc_rules.specs.Assignments.{pre_increment, post_increment, assignment}
+use Rattle.sc_rules.specs.Operators.{int_constant, unary, conditional, comma, cast, size_of_expression, size_of_type, index}
 use Rattle.sc_rules.specs.Here.{Here}
 use Rattle.sc_rules.specs.Members.{field, is_called, is_there}
 use Rattle.sc_rules.specs.Calls.{unknown_function, callee, call, builtin_call}
@@ -562,7 +564,7 @@ module _ (here : Here) where
   expr_step (Expr-F.Comma a b p) = plain (do
     x ← valued a
     y ← valued b
-    both x y (comma p))
+    both x y (λ x y. done (Some (comma p x y))))
   expr_step (Expr-F.Assign o a b p) = plain (do
     x ← a.run
     y ← valued b
