@@ -1,13 +1,13 @@
 -- The words of a line that were read so far, and what follows where one breaks the form.
-use Rattle.std.proofs.Common.{◌≡◌, ℕ, zero, suc, ◌+◌, ◌<◌, ◌≤◌, Bool, true, false, cond, List, [], ◌∷◌, ◌++◌, length, drop, refl, sym, ap, ◌∙◌, arith, Option, Some, None, inl, inr}
-use Rattle.std.specs.Prelude.{not, ◌&&◌, ◌||◌, nat_le, bytes_eq, option_map}
-use Rattle.std.specs.List.{list_all, list_any}
+use Rattle.std.proofs.Common.{◌≡◌, ℕ, ◌<◌, ◌≤◌, Bool, true, false, List, [], ◌∷◌, ◌++◌, length, refl, sym, ap, ◌∙◌, arith, Some, None, inl, inr}
+use Rattle.std.specs.Prelude.{not, ◌&&◌, ◌||◌, nat_le, bytes_eq, if◌then◌else◌}
+use Rattle.std.specs.List.{list_all}
 use Rattle.std.proofs.lemmas.Bool.{and_parts, and_left, and_right, and_from, or_parts, or_left, or_right, or_from, cases_Bool, not-true, not_from_false, not_from_true, le-leb, lt-leb}
 use Rattle.std.proofs.lemmas.List.{append-nil, append_assoc, length-append}
 use Rattle.std.proofs.lemmas.Bool.Decides.{same_from_decides}
 use Rattle.std.proofs.lemmas.Slice.Eq.{bytes_eq-Decides}
 use Rattle.fsm_spec.specs.Words.{is_word, is_among, are_different}
-use Rattle.fsm_spec.specs.Forms.{are_states, target_in, targets_in, both}
+use Rattle.fsm_spec.specs.Forms.{are_states}
 
 -- ---- lists of words
 
@@ -27,12 +27,13 @@ bytes_eq_turned xs ys = same_from_decides (bytes_eq xs ys) (bytes_eq ys xs) (byt
 pub repeated : (xs : List (List ℕ)) (w : List ℕ) (more : List (List ℕ)) → is_among w xs ≡ true → are_different (xs ++ w ∷ more) ≡ false
 repeated [] w more h = absurd (cc)
 repeated (x ∷ xs) w more h = elim (cases_Bool (bytes_eq x w)) [
-    | inl e ↦ (
-        let a : is_among x (xs ++ w ∷ more) ≡ true = rw (among_append x xs (w ∷ more)) (or_right (is_among x xs) (bytes_eq w x || is_among x more) (or_left (bytes_eq w x) (is_among x more) (bytes_eq_turned w x ∙ e))) in
-        and_left (not (is_among x (xs ++ w ∷ more))) (are_different (xs ++ w ∷ more)) (not_from_true _ a))
-    | inr e ↦ (
-        let k : is_among w xs ≡ true = rw e at h in
-        and_right (not (is_among x (xs ++ w ∷ more))) (are_different (xs ++ w ∷ more)) (repeated xs w more k)) ]
+  | inl e ↦ (
+      let a : is_among x (xs ++ w ∷ more) ≡ true = rw (among_append x xs (w ∷ more)) (or_right (is_among x xs) (bytes_eq w x || is_among x more) (or_left (bytes_eq w x) (is_among x more) (bytes_eq_turned w x ∙ e))) in
+      and_left (not (is_among x (xs ++ w ∷ more))) (are_different (xs ++ w ∷ more)) (not_from_true _ a))
+  | inr e ↦ (
+      let k : is_among w xs ≡ true = rw e at h in
+      and_right (not (is_among x (xs ++ w ∷ more))) (are_different (xs ++ w ∷ more)) (repeated xs w more k))
+]
 
 -- another word may follow
 pub still_different : (xs : List (List ℕ)) (w : List ℕ) → are_different xs ≡ true → is_among w xs ≡ false → are_different (xs ++ w ∷ []) ≡ true
@@ -95,3 +96,9 @@ unfolding are_states
 states_done all left states r e enough =
     rw (states_end all left states r e)
     (and_from _ _ (le-leb 2 (length states) enough) (and_from _ _ (le-leb (length states) 8 r.few) (and_from _ _ r.words r.different)))
+
+pub none_of : (all : List (List ℕ)) → are_states all ≡ false → None ≡ (if are_states all then Some all else None)
+none_of all e = rw e refl
+
+pub some_of : (all states : List (List ℕ)) → all ≡ states → are_states all ≡ true → Some states ≡ (if are_states all then Some all else None)
+some_of all states w e = rw e (ap Some (sym w))

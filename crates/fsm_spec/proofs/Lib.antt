@@ -1,3 +1,4 @@
 pub mod FormProofs
 pub mod ReadingProofs
+pub mod WholeProofs
 pub mod WordProofs

@@ -1,12 +1,11 @@
 -- Words are ASCII texts; and how lines and words are taken off one after the other.
-use Rattle.std.proofs.Common.{◌≡◌, ◌<◌, ℕ, zero, suc, true, false, cond, List, [], ◌∷◌, ◌++◌, length, refl, sym, ap, ◌∙◌, arith, inl, inr, eqb}
-use Rattle.std.specs.Prelude.{not, IsAscii, IsUtf8, ◌==◌, ◌&&◌, nat_le, slice_index}
-use Rattle.std.specs.Char.{is_ascii_digit, is_ascii_alphanumeric}
-use Rattle.std.specs.List.{list_all, onto_first, slice_split}
-use Rattle.std.proofs.lemmas.Bool.{and_parts, cases_Bool, not-true}
+use Rattle.std.proofs.Common.{◌≡◌, ◌<◌, ℕ, zero, suc, true, List, [], ◌∷◌, ◌++◌, length, refl, ap, ◌∙◌, arith}
+use Rattle.std.specs.Prelude.{not, IsAscii, IsUtf8, ◌==◌, nat_le}
+use Rattle.std.specs.List.{list_all}
+use Rattle.std.proofs.lemmas.Bool.{and_parts, not-true}
 use Rattle.std.proofs.lemmas.Bool.Decides.{nat_tests}
 use Rattle.std.proofs.lemmas.Str.{IsUtf8-from_ascii}
-use Rattle.fsm_spec.specs.Words.{is_word, is_word_byte, is_space, lines, words}
+use Rattle.fsm_spec.specs.Words.{is_word, is_word_byte, lines, words}
 
 ascii_byte : (c : ℕ) → is_word_byte c ≡ true → c < 128
 unfolding is_word_byte

@@ -1,6 +1,6 @@
 -- The machine of locks as a table: a lock is unlocked (U) or locked (L); locking a locked lock and unlocking an
 -- unlocked one are errors. The functions that only try to lock are no operations: they have a rule of their own.
-use Rattle.std.specs.Prelude.{ℕ, List, [], ◌∷◌, Option, Some, None, codes}
+use Rattle.std.specs.Prelude.{ℕ, List, [], ◌∷◌, ◌++◌, Some, None, codes}
 use Rattle.fsm_spec.specs.declared.table.MachineSpec.{MachineSpec}
 use Rattle.fsm_spec.specs.declared.table.Operation.{Operation}
 use Rattle.fsm_spec.specs.declared.table.Returns.{Returns}
@@ -21,3 +21,15 @@ lock_operations =
 
 unfoldable pub locks : MachineSpec
 locks = record { name = codes "lock"; states = codes "U" ∷ codes "L" ∷ []; operations = lock_operations }
+
+-- the bytes of these lines, each ended by a line feed
+abbrev pub file_of : List (List ℕ) → List ℕ
+file_of [] = []
+file_of (line ∷ lines) = line ++ 10 ∷ file_of lines
+
+-- the machine of locks as a machine file
+abbrev pub lock_file : List ℕ
+lock_file = file_of (
+    codes "machine lock" ∷ codes "states U L" ∷ codes "op spin_lock void U>L L>!" ∷ codes "op mutex_lock void U>L L>!"
+    ∷ codes "op pthread_mutex_lock zero U>L L>!" ∷ codes "op spin_unlock void U>! L>U" ∷ codes "op mutex_unlock void U>! L>U"
+    ∷ codes "op pthread_mutex_unlock zero U>! L>U" ∷ [])

@@ -1,5 +1,5 @@
 -- What the steps of the reader give, each in the words of the definitions that `spelled` is made of.
-use Rattle.std.specs.Prelude.{◌≡◌, ⊤, ℕ, suc, Bool, ◌&&◌, nat_le, nat_lt, List, [], ◌∷◌, length, take, Option, Some, None, if◌then◌else◌, Result, Ok, Err}
+use Rattle.std.specs.Prelude.{◌≡◌, ⊤, ℕ, suc, ◌&&◌, nat_le, nat_lt, List, [], length, take, Option, Some, None, if◌then◌else◌, Result, Ok, Err}
 use Rattle.fsm_spec.specs.declared.fault.MachineAnswer.{MachineAnswer}
 use Rattle.fsm_spec.specs.declared.fault.MachineAnswer.TheVariants as answer
 use Rattle.fsm_spec.specs.declared.table.Operation.{Operation}

@@ -1,6 +1,7 @@
 -- What a machine says of a function, of an operation and a state, and of an operation and any state; and how
 -- many bits a state takes.
-use Rattle.std.specs.Prelude.{ℕ, ◌-◌, Bool, true, false, nat_lt, nat_le, List, [], ◌∷◌, length, Option, Some, None, if◌then◌else◌, slice_get, position, bytes_eq}
+use Rattle.std.specs.Prelude.{◌≡◌, ℕ, ◌-◌, ◌<◌, ◌≤◌, ◌==◌, Bool, true, false, ◌&&◌, nat_lt, nat_le, List, [], ◌∷◌, length, Option, Some, None, if◌then◌else◌, slice_get, position, bytes_eq}
+use Rattle.std.specs.List.{list_all}
 use Rattle.fsm_spec.specs.declared.table.MachineSpec.{MachineSpec}
 use Rattle.fsm_spec.specs.declared.table.Operation.{Operation}
 use Rattle.fsm_spec.specs.declared.table.Returns.{Returns}
@@ -52,3 +53,23 @@ bits_of_states k = if nat_le k 2 then 1 else (if nat_le k 4 then 2 else 3)
 -- the state that a number of those bits names: the number n names state n, or the last of k states
 abbrev pub state_of_number : ℕ → ℕ → ℕ
 state_of_number k n = if nat_lt n k then n else (k - 1)
+
+-- a target is an error, or one of k states
+abbrev pub is_target : ℕ → Option ℕ → Bool
+is_target k None = true
+is_target k (Some state) = nat_lt state k
+
+-- an operation has a target for each of k states
+abbrev pub has_targets : ℕ → Operation → Bool
+has_targets k o = (length o.targets == k) && list_all (is_target k) o.targets
+
+-- what each machine of a file has: two to eight states; 1 to 64 operations, each with a target for each state;
+-- and each target is an error, or one of the states
+pub record IsWhole (machine : MachineSpec) : Type 0 where
+  pub least_states : 2 ≤ length machine.states
+  pub most_states : length machine.states ≤ 8
+  pub least_operations : 1 ≤ length machine.operations
+  pub most_operations : length machine.operations ≤ 64
+  pub targets : list_all (has_targets (length machine.states)) machine.operations ≡ true
+  pub in_range : (op state target : ℕ) → target_of machine op state ≡ Some target → target < length machine.states
+  pub any_in_range : (op target : ℕ) → on_any machine op ≡ Some target → target < length machine.states

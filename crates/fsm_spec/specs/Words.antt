@@ -3,7 +3,7 @@
 -- Lines end at line feeds; bytes behind the last line feed, where there are some, are a last line. Words
 -- are separated by exactly one space. A word of the form is one to 31 letters, digits or `_`, and does not
 -- begin with a digit.
-use Rattle.std.specs.Prelude.{ℕ, Bool, true, false, not, ◌&&◌, ◌||◌, ◌==◌, nat_le, List, [], ◌∷◌, length, slice_index, Option, if◌then◌else◌, position, bytes_eq}
+use Rattle.std.specs.Prelude.{ℕ, Bool, true, not, ◌&&◌, ◌||◌, ◌==◌, nat_le, List, [], ◌∷◌, length, slice_index, Option, if◌then◌else◌, position, bytes_eq}
 use Rattle.std.specs.List.{list_all, list_any, slice_split, onto_first}
 use Rattle.std.specs.Char.{is_ascii_alphanumeric, is_ascii_digit}
 

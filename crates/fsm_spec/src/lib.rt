@@ -8,6 +8,7 @@
 
 mod fault;
 mod forms;
+mod laws;
 mod list;
 mod lock;
 mod reading;
@@ -15,6 +16,7 @@ mod table;
 mod words;
 
 pub use fault::{MachineAnswer, OutOfMemory};
+pub use laws::{lock_file, state_numbers, whole_machines};
 pub use list::List;
 pub use lock::locks;
 pub use reading::machine;

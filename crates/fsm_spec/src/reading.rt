@@ -1,10 +1,10 @@
 //! Reading a machine from the bytes of a file.
 #![tactic(auto)]
 
-ghost use Rattle.std.specs.Prelude.{◌≡◌, IfOk, option_map};
-ghost use Rattle.fsm_spec.specs.Words.{is_among};
+ghost use Rattle.std.specs.Prelude.{◌≡◌, IfOk, bytes_eq, option_map};
+ghost use Rattle.std.specs.List.{list_any};
 ghost use Rattle.fsm_spec.specs.Forms.{name_in, states_in};
-ghost use Rattle.fsm_spec.specs.Reading.{Answers, functions, spelled};
+ghost use Rattle.fsm_spec.specs.Reading.{Answers, spelled};
 ghost use Rattle.fsm_spec.specs.Steps.{Gives, at_line, next_in, operations_answer};
 
 use crate::words::Lines;
@@ -53,9 +53,8 @@ fn states(alloc: Global, line: Option<&[u8]>) -> Result<List<Word>, MachineAnswe
 }
 
 /// Whether an operation has this function.
-#[tactic(auto, using(crate::proofs::ReadingProofs::among_functions))]
 fn has_function(operations: &[Operation], function: &Word) -> bool
-    ensures { result ≡ is_among function.now (functions operations.now) }
+    ensures { result ≡ list_any (λ o. bytes_eq o.function function.now) operations.now }
 {
     let function = function.as_str().as_bytes();
     operations

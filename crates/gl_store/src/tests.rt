@@ -1,5 +1,5 @@
-//! Worked stores: one cell that is written, merged and marked; three cells and two pointers over all choices of four inputs, beside a
-//! store by hand; other widths; and what a caller's proof looks like after a read, a write and a merge.
+//! Worked stores: one cell that is marked; three cells and two pointers over all choices of four inputs, beside a store by hand; and
+//! what a caller's proof looks like after a read, a write and a merge.
 ghost use Rattle.std.specs.Prelude.{◌≡◌, ℕ, ◌<◌, ◌≤◌, List, ◌∷◌, [], length, IfOk, OnOk, if◌then◌else◌};
 ghost use Rattle.bit_net.specs.Circuit.{input_count};
 ghost use Rattle.bit_net.specs.Runs.{Grown, Always};
@@ -57,31 +57,18 @@ fn number(rt: &impl Abort, net: &Net, choice: &[bool], val: &Val) -> u64
 }
 
 #[test]
-fn one_cell(rt: HostRuntime) -> Result<(), Fail> {
+fn marks_where_the_input_holds(rt: HostRuntime) -> Result<(), Fail> {
     let mut net = Net::new(rt.alloc(), 1)?;
     let shape = Shape {
         cells: [8].to_vec(rt.alloc())?,
     };
-    let old = Store::new(&mut net, &shape)?;
-    let mut new = Store::new(&mut net, &shape)?;
-    let at = Set::one(&net, 1);
-    let five = Val::Word(Word {
-        bits: word(&net, 8, 5)?,
-    });
-    let always = net.constant(true);
-    new.store(&mut net, always, &at, &five)?;
-    let found = new.load(&mut net, &at, 8)?;
-    assert_eq!(rt; number(&rt, &net, &[true], &found), 5);
+    let mut store = Store::new(&mut net, &shape)?;
     let input = net.input(0);
-    let mut merged = merge(&mut net, input, &new, &old)?;
-    let found = merged.load(&mut net, &at, 8)?;
-    assert_eq!(rt; number(&rt, &net, &[true], &found), 5);
-    assert_eq!(rt; number(&rt, &net, &[false], &found), 0);
-    assert_eq!(rt; merged.locations.len(), 1);
-    merged.mark(&mut net, input, 0, Flag::Freed)?;
-    let freed = merged.flag(0, Flag::Freed);
-    let escaped = merged.flag(0, Flag::Escaped);
+    store.mark(&mut net, input, 0, Flag::Freed)?;
+    let freed = store.flag(0, Flag::Freed);
+    let escaped = store.flag(0, Flag::Escaped);
     assert_eq!(rt; value(&rt, &net, &[true], freed), true);
+    assert_eq!(rt; value(&rt, &net, &[false], freed), false);
     assert_eq!(rt; value(&rt, &net, &[true], escaped), false);
     Ok(())
 }
@@ -257,28 +244,6 @@ fn writes_through_two_pointers(rt: HostRuntime) -> Result<(), Fail> {
     Ok(())
 }
 
-/// A location that is no cell of the width that is asked for is read as 0 and is not written.
-#[test]
-fn leaves_other_widths_alone(rt: HostRuntime) -> Result<(), Fail> {
-    let mut net = Net::new(rt.alloc(), 0)?;
-    let mut store = cells_and_pointers(&rt, &mut net)?;
-    let always = net.constant(true);
-    let place = Set::one(&net, 1);
-    let five = Val::Word(Word {
-        bits: word(&net, 8, 5)?,
-    });
-    store.store(&mut net, always, &place, &five)?;
-    let wide = Val::Word(Word {
-        bits: word(&net, 16, 7)?,
-    });
-    store.store(&mut net, always, &place, &wide)?;
-    let narrow = store.load(&mut net, &place, 8)?;
-    let of_another_width = store.load(&mut net, &place, 16)?;
-    assert_eq!(rt; number(&rt, &net, &[], &narrow), 5);
-    assert_eq!(rt; number(&rt, &net, &[], &of_another_width), 0);
-    Ok(())
-}
-
 /// What a caller's proof looks like after three calls in a row: where `live` holds, the number at `from` is written at `to`, and the
 /// store is then merged with that of another branch.
 fn copied_in_a_branch(
@@ -310,6 +275,22 @@ fn copied_in_a_branch(
     Ok(merged)
 }
 
+/// The blank store with 5 in cell 1.
+fn with_five(rt: &HostRuntime, net: &mut Net) -> Result<Store, OutOfMemory>
+    ensures grown { Grown net.old net.new }
+    ensures kinds { IfOk result (λ r. kinds r.locations.items ≡ Numbers 8 ∷ Numbers 8 ∷ Numbers 8 ∷ Pointers ∷ Pointers ∷ []) }
+    ensures below { IfOk result (λ r. locations_top r.locations.items ≤ length net.new) }
+{
+    let mut store = cells_and_pointers(rt, net)?;
+    let always = net.constant(true);
+    let at = Set::one(net, 1);
+    let five = Val::Word(Word {
+        bits: word(net, 8, 5)?,
+    });
+    store.store(net, always, &at, &five)?;
+    Ok(store)
+}
+
 /// The store of the branch has 5 in cell 1, which is copied to cell 2 where the first input holds; the other store is blank.
 #[test]
 fn copies_in_a_branch(rt: HostRuntime) -> Result<(), Fail> {
@@ -319,12 +300,7 @@ fn copies_in_a_branch(rt: HostRuntime) -> Result<(), Fail> {
     let from = Set::one(&net, 1);
     let to = Set::one(&net, 2);
     let other = cells_and_pointers(&rt, &mut net)?;
-    let mut store = cells_and_pointers(&rt, &mut net)?;
-    let always = net.constant(true);
-    let five = Val::Word(Word {
-        bits: word(&net, 8, 5)?,
-    });
-    store.store(&mut net, always, &from, &five)?;
+    let mut store = with_five(&rt, &mut net)?;
     let merged = copied_in_a_branch(&mut net, live, &mut store, &from, &to, branch, &other)?;
     let found = cell(&mut net, &merged, 2)?;
     assert_eq!(rt; number(&rt, &net, &[true, true], &found), 5);

@@ -44,8 +44,8 @@ pub data IsDueFor (name bytes : List ℕ) : Due → Type 0 where
   not_spelled : ((form : Form) → IsFirst form bytes → ⊥) → IsDueFor name bytes (Line Refused (codes "saturn_check: unbuilt\n"))
 
 -- Of the words, which are the program's name and that of one file: bad words where there are not two;
--- a fault of reading, where the count of faults rose and the file's name is no firm one; and else what
--- is due for the bytes that are read of the file.
+-- a fault of reading, where the count of faults rose and the file's name is no firm one; or what is due
+-- for the bytes that are read of the file. Where the count of faults rose, the last two may both be due.
 pub data IsDue : List (List ℕ) → Source → Due → Type 0 where
   bad_words : (words : List (List ℕ)) (source : Source) → length words ≢ 2 → IsDue words source (Line BadWords (codes "saturn_check: bad words\n"))
   unread : (program name : List ℕ) (source : Source) → Rose source.faults_before source.faults_after → is_named name source.firm ≡ false

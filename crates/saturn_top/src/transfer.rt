@@ -42,7 +42,7 @@ const CHUNK: usize = 4096;
 ///
 /// # Errors
 ///
-/// Failed comes only where the count of faults rose in this call, and the name is no firm one.
+/// Failed comes only where the count of faults rose in this call, or stands at its greatest value, and the name is no firm one.
 pub fn read_file<F: Files>(
     alloc: Global,
     files: &mut F,
@@ -70,7 +70,7 @@ pub fn read_file<F: Files>(
 ///
 /// # Errors
 ///
-/// Failed comes only where the sink's count of faults rose in this call. The sink has got a
+/// Failed comes only where the sink's count of faults rose in this call, or stands at its greatest value. The sink has got a
 /// proper front of the bytes then.
 pub fn write_all<S: Sink>(sink: &mut S, bytes: &[u8]) -> Result<(), Failed>
     ensures { MatchResult result

@@ -6,7 +6,7 @@ ghost use Rattle.std.specs.Prelude.{◌≡◌};
 use crate::Pos;
 
 /// Why a function, or a declaration at file scope, is skipped. Of several skips at one place the
-/// first in this order counts, and of those of one variant the first kind.
+/// first in this order is to count, and of those of one variant the first kind.
 #[derive(Clone, Copy, Debug, PartialEq, Eq)]
 pub enum Skip {
     /// The tokens spell no tree of the grammar.

@@ -1,4 +1,4 @@
-// What the lexer answers where it has no tokens.
+//! What the lexer answers where it has no tokens.
 #![tactic(auto)]
 
 ghost use Rattle.std.specs.Prelude.{◌≡◌};

@@ -1,4 +1,4 @@
-// Which brackets match, over all tokens of a file.
+//! Which brackets match, over all tokens of a file.
 #![tactic(auto)]
 
 ghost use Rattle.std.specs.Prelude.{◌≡◌, IfOk};
@@ -20,7 +20,7 @@ impl Open {
     ghost use Rattle.std.specs.Prelude.{◌≡◌, ◌+◌, List, IfOk, OnOk, if◌then◌else◌};
     ghost use Rattle.sc_tree.specs.Brackets.{behind_role, closed_by, is_same, nothing_open, opened, unbalanced};
     ghost use Rattle.sc_tree.specs.Roles.{role_of};
-    ghost use Rattle.sc_lexer.specs.Opened.{now_open};
+    ghost use Rattle.sc_lexer.specs.OpenBrackets.{now_open};
 
     fn new(alloc: Global) -> Open
         ensures { now_open result ≡ nothing_open }

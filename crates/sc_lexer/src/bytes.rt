@@ -1,4 +1,4 @@
-// The classes of bytes (C11 5.2.1, 6.4), and how many bytes of a class stand at the front.
+//! The classes of bytes (C11 5.2.1, 6.4), and how many bytes of a class stand at the front.
 #![tactic(auto)]
 
 ghost use Rattle.std.specs.Prelude.{◌≡◌, ◌≤◌, length};

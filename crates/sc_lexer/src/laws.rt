@@ -1,5 +1,5 @@
-// Laws of the definition of pieces: none is empty, so the definition has steps enough for all bytes, and
-// the punctuator that it takes is the longest one.
+//! Laws of the definition of pieces: none is empty, so the definition has steps enough for all bytes, and
+//! the punctuator that it takes is the longest one.
 #![tactic(auto)]
 
 ghost use Rattle.std.specs.Prelude.{◌≡◌, ℕ, ◌<◌, ◌≤◌, Bool, true, List, Some, length};

@@ -1,4 +1,4 @@
-// The tokens and segments of a file.
+//! The tokens and segments of a file.
 #![tactic(auto)]
 
 ghost use Rattle.std.specs.Prelude.{◌≡◌, ◌+◌, ◌-◌, ◌^◌, ◌<◌, IfOk, length};

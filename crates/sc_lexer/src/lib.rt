@@ -1,9 +1,9 @@
-// The lexer: the bytes of a file become its tokens and segments.
-//
-// `pieces` cuts off the piece at the front (with `bytes`, `tables`, `numbers` and `literals` below it),
-// `place` counts lines and columns, `words` numbers the names, `scan` makes tokens of all pieces, and
-// `brackets`, `removal` and `segments` do what is done with the list of them. What the tokens of a file
-// are is defined in `sc_tree`, in `specs/Lexed.antt`.
+//! The lexer: the bytes of a file become its tokens and segments.
+//!
+//! `pieces` cuts off the piece at the front (with `bytes`, `tables`, `numbers` and `literals` below it),
+//! `place` counts lines and columns, `words` numbers the names, `scan` makes tokens of all pieces, and
+//! `brackets`, `removal` and `segments` do what is done with the list of them. What the tokens of a file
+//! are is defined in `sc_tree`, in `specs/Lexed.antt`.
 #![tactic(auto)]
 
 pub mod answer;

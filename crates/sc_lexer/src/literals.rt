@@ -1,4 +1,4 @@
-// Comments, string literals and character constants (C11 6.4.4.4, 6.4.5, 6.4.9).
+//! Comments, string literals and character constants (C11 6.4.4.4, 6.4.5, 6.4.9).
 #![tactic(auto)]
 
 ghost use Rattle.std.specs.Prelude.{◌≡◌, ℕ, ◌+◌, ◌^◌, ◌<◌, ◌≤◌, List, false, IfSome, length, option_map};

@@ -1,15 +1,15 @@
-// Integer constants (C11 6.4.4.1), and how far a number reaches (C11 6.4.8).
+//! Integer constants (C11 6.4.4.1), and how far a number reaches (C11 6.4.8).
 #![tactic(auto)]
 
 ghost use Rattle.std.specs.Prelude.{◌≡◌, ◌+◌, ◌*◌, ◌^◌, ◌<◌, ◌≤◌, IfSome, length};
-ghost use Rattle.sc_tree.specs.Numbers.{digit_value, fitting, integer, integer_of, number_from, number_kind};
+ghost use Rattle.sc_tree.specs.Numbers.{digit_value, fitting, int_token, integer, integer_of, number_from, number_kind};
 ghost use Rattle.sc_tree.specs.Pieces.{goes_on, is_digit_front, number_len, number_tail};
 
 use crate::bytes::{
     decimal_digits, hexadecimal_digits, is_exponent, is_number_byte, is_sign, octal_digits,
 };
 use crate::tables::{begins, suffix_of};
-use sc_tree::{IntToken, Kind};
+use sc_tree::{IntToken, Kind, Suffix};
 
 /// Whether a number goes on with a byte behind another.
 #[tactic(auto, unfolding(sc_tree::specs::Pieces::goes_on))]
@@ -94,6 +94,19 @@ pub(crate) fn number(base: u64, digits: &[u8]) -> Option<u64>
     Some(number)
 }
 
+/// The integer constant of a number, if it fits 64 bits, with its suffix.
+fn int_token(number: Option<u64>, decimal: bool, suffix: Suffix) -> IntToken
+    ensures { result ≡ int_token number decimal suffix }
+{
+    IntToken {
+        value: number.unwrap_or(0),
+        fits: number.is_some(),
+        decimal,
+        unsigned: suffix.unsigned,
+        longs: suffix.longs,
+    }
+}
+
 /// The integer constant of a text that begins with so many digits and goes on with a suffix.
 #[tactic(auto, unfolding(sc_tree::specs::Numbers::integer))]
 fn integer(decimal: bool, base: u64, count: usize, text: &[u8]) -> Option<IntToken>
@@ -106,12 +119,7 @@ fn integer(decimal: bool, base: u64, count: usize, text: &[u8]) -> Option<IntTok
     }
     let (digits, suffix) = text.split_at(count);
     let suffix = suffix_of(suffix)?;
-    Some(IntToken {
-        value: number(base, digits),
-        decimal,
-        unsigned: suffix.unsigned,
-        longs: suffix.longs,
-    })
+    Some(int_token(number(base, digits), decimal, suffix))
 }
 
 /// The integer constant that a text is.

@@ -1,4 +1,4 @@
-// The piece at the front of the bytes that are left: the longest form that begins there.
+//! The piece at the front of the bytes that are left: the longest form that begins there.
 #![tactic(auto)]
 
 ghost use Rattle.std.specs.Prelude.{◌≡◌, ◌^◌, ◌<◌, ◌≤◌, IfSome, length, take};

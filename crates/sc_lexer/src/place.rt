@@ -1,4 +1,4 @@
-// Lines and columns, counted while the bytes are passed.
+//! Lines and columns, counted while the bytes are passed.
 #![tactic(auto)]
 
 use crate::bytes::is_blank;

@@ -1,4 +1,4 @@
-// The tokens without the words that leave nothing.
+//! The tokens without the words that leave nothing.
 #![tactic(auto)]
 
 ghost use Rattle.std.specs.Prelude.{◌≡◌, ◌+◌, ◌^◌, ◌<◌, ◌≤◌, length};

@@ -1,4 +1,4 @@
-// What a token does to brackets and segments.
+//! What a token does to brackets and segments.
 #![tactic(auto)]
 
 ghost use Rattle.std.specs.Prelude.{◌≡◌};

@@ -1,4 +1,4 @@
-// All tokens of a file, those too that leave nothing.
+//! All tokens of a file, those too that leave nothing.
 #![tactic(auto)]
 
 ghost use Rattle.std.specs.Prelude.{◌≡◌, ◌+◌, ◌-◌, ◌^◌, ◌<◌, ◌≤◌, ◌++◌, [], length, IfOk, OnOk};

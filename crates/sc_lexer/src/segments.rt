@@ -1,4 +1,4 @@
-// Where the segments of a file end.
+//! Where the segments of a file end.
 #![tactic(auto)]
 
 ghost use Rattle.std.specs.Prelude.{◌≡◌, ◌+◌, ◌^◌, ◌<◌, ◌≤◌, IfOk, length};

@@ -1,4 +1,4 @@
-// The tables of words, punctuators, suffixes, escapes and openings, and how a row is found.
+//! The tables of words, punctuators, suffixes, escapes and openings, and how a row is found.
 #![tactic(auto)]
 
 ghost use Rattle.std.specs.Prelude.{◌≡◌, ◌≤◌, IfSome, IsTrue, length, map, option_map};

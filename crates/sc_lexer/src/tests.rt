@@ -1,4 +1,4 @@
-// The tokens of small files: each kind of token with its edges, places, refusals and segments.
+//! The tokens of small files: each kind of token with its edges, places, refusals and segments.
 use crate::{LexAnswer, tokens};
 use sc_base::{NameId, Names, Pos};
 use sc_tree::{IntToken, Kind, Punct, Reserved, StrToken, Tokens};
@@ -35,7 +35,8 @@ fn refusal(alloc: Global, text: &str) -> Option<(u32, u32, bool)> {
 
 fn int(value: Option<u64>, decimal: bool, unsigned: bool, longs: u8) -> Option<Kind> {
     Some(Kind::Int(IntToken {
-        value,
+        value: value.unwrap_or(0),
+        fits: value.is_some(),
         decimal,
         unsigned,
         longs,

@@ -1,4 +1,4 @@
-// What a piece is: a word is reserved, or gets the place of its text among the names.
+//! What a piece is: a word is reserved, or gets the place of its text among the names.
 #![tactic(auto)]
 
 ghost use Rattle.std.specs.Prelude.{◌≡◌, ℕ, ◌-◌, ◌^◌, ◌<◌, ◌++◌, List, IfOk, length, true};

@@ -27,7 +27,7 @@ use Rattle.sc_tree.specs.Specifiers.{no_pieces, with_pieces, finished}
 use Rattle.sc_tree.specs.Tokens.{token, word, punct, reserved, first_pos, is_type}
 use Rattle.sc_tree.specs.Grammar as g
 use Rattle.sc_tree.specs.Grammar.{record_word, may_name, may_lack, Strings, one_string, more_strings, Spells, Arguments, Listed, Heads, a_head, Specifies, pieces, Pieces, no_piece, more_pieces, APiece, Members, AMember, Parts, APart, Enumerators, AnEnumerator, Declares, a_direct, a_pointer, Directs, Parameters, ManyHeads}
-use Rattle.sc_parse_expr.specs.Front.{punct_of, word_of, reserved_of, front, front_reserved, behind, is_left_paren, is_right_paren, is_left_bracket, is_right_bracket, is_star, is_some, is_sizeof, is_type_word, begins_piece, begins_type, unary_at, step_at}
+use Rattle.sc_parse_front.specs.Front.{punct_of, word_of, reserved_of, front, front_reserved, behind, is_left_paren, is_right_paren, is_left_bracket, is_right_bracket, is_star, is_some, is_sizeof, is_type_word, begins_piece, begins_type, unary_at, step_at}
 use Rattle.sc_parse_expr.specs.Laws.{opens_expr, BeginsExpr, BeginsSpecs, opens_declarator, BeginsDeclarator}
 
 -- ---- tokens that begin with one that the test takes

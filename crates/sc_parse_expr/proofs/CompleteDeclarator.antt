@@ -29,10 +29,11 @@ use Rattle.sc_parse_expr.specs.declared.found.Wanted.{Wanted}
 use Rattle.sc_parse_expr.specs.declared.found.Phrase.{Phrase}
 use Rattle.sc_parse_expr.specs.declared.found.Declared.{Declared}
 use Rattle.sc_parse_expr.specs.declared.found.Headed.{Headed}
-use Rattle.sc_parse_expr.specs.Front.{punct_of, word_of, reserved_of, front, front_word, front_reserved, behind, is_left_paren, is_right_paren, is_right_bracket, is_star, is_ellipsis, is_void_key, is_some, is_type_word, begins_piece, begins_type, Suffix, Indexing, Calling, suffix}
+use Rattle.sc_parse_front.specs.Front.{punct_of, word_of, reserved_of, front, front_word, front_reserved, behind, is_left_paren, is_right_paren, is_right_bracket, is_star, is_ellipsis, is_void_key, is_some, is_type_word, begins_piece, begins_type, Suffix, Indexing, Calling, suffix}
 use Rattle.sc_parse_expr.specs.Read.{Read, read, Parse, Listed, commas}
 use Rattle.sc_parse_expr.specs.Reading.{operand, declared, params, Roll, enrolled, inner_expr, inner_head, pointed, enclosed, encloses, unnamed, begun, open_array, long_array, array_of, parameters, function_of, derived, derive, direct, declarator}
-use Rattle.sc_parse_expr.specs.Laws.{ends_specs, ends_declarator, is_derived}
+use Rattle.sc_parse_expr.specs.Laws.{ends_specs, ends_declarator}
+use Rattle.sc_parse_front.specs.Front.{is_derived}
 use Rattle.sc_parse_expr.proofs.Begins.{Begins, by_first, longer, not_empty, expr_begins, no_right_bracket, head_begins, opens_piece, piece_begins, piece_no_sign, is_a_type, no_specs, MayBegin, left_out, opened, opens_direct, opens_declared, direct_begins, declarator_begins}
 use Rattle.sc_parse_expr.proofs.Inner.{no_value, node_is, has_turn, commas_last, commas_end, commas_more, IsInner, and_false, head_read}
 

@@ -25,7 +25,7 @@ use Rattle.sc_tree.specs.Grammar.{Strings, one_string, more_strings, Spells, Arg
 use Rattle.sc_parse_expr.specs.declared.found.Wanted.{Wanted}
 use Rattle.sc_parse_expr.specs.declared.found.Phrase.{Phrase}
 use Rattle.sc_parse_expr.specs.declared.found.Operand.{Operand}
-use Rattle.sc_parse_expr.specs.Front.{string_of, is_left_paren, begins_type, front, front_string, behind, is_comma, is_question, is_some, at_level, binary_at, assign_at, Suffix, Fielding, Stepping, NoSuffix, suffix}
+use Rattle.sc_parse_front.specs.Front.{string_of, is_left_paren, begins_type, front, front_string, behind, is_comma, is_question, is_some, at_level, binary_at, assign_at, Suffix, Fielding, Stepping, NoSuffix, suffix}
 use Rattle.sc_parse_expr.specs.Read.{Read, read, Parse, commas}
 use Rattle.sc_parse_expr.specs.Reading
 use Rattle.sc_parse_expr.specs.Reading.{operand, strings, past_strings, with_tree, never, inner_expr, inner_head, bracketed, primary_by, primary, arguments, indexed, calling, fielded, stepped, suffixed, suffixes, postfix, applied, stepped_first, size_of_type, size_of, sized, prefix_by, prefix, cast, casts, combined, chained, chain, operators, chosen, choosing, choice, assigned, assigning, assignment, sequenced, sequencing, sequence, whole}

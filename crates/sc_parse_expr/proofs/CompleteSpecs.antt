@@ -37,9 +37,10 @@ use Rattle.sc_tree.specs.Grammar as g
 use Rattle.sc_tree.specs.Grammar.{record_word, body_form, Spells, Specifies, pieces, Pieces, no_piece, more_pieces, APiece, Members, no_member, more_members, AMember, a_member, an_untagged, Parts, one_part, more_parts, APart, a_plain_part, a_bit_field, a_padding, Enumerators, last_enumerator, last_with_comma, more_enumerators, AnEnumerator, an_enumerator, an_enumerator_set, Declares}
 use Rattle.sc_parse_expr.specs.declared.found.Wanted.{Wanted}
 use Rattle.sc_parse_expr.specs.declared.found.Phrase.{Phrase}
-use Rattle.sc_parse_expr.specs.Front.{punct_of, reserved_of, front, front_word, front_reserved, is_left_brace, is_right_brace, is_colon, is_semicolon, is_equals, is_enum, is_some, begins_piece}
+use Rattle.sc_parse_front.specs.Front.{punct_of, reserved_of, front, front_word, front_reserved, is_left_brace, is_right_brace, is_colon, is_semicolon, is_equals, is_enum, is_some, begins_piece}
 use Rattle.sc_parse_expr.specs.Read.{read, Parse, commas, many}
-use Rattle.sc_parse_expr.specs.Reading.{Start, AStorage, AWord, ARecord, AnEnum, AName, NoStart, enum_start, record_start, word_start, storage_start, reserved_start, name_start, start, with_item, never, padding, with_width, part, parts, member, member_of, record_piece, record_body, tagged_record, record_by, enumerator, enum_piece, enum_body, tagged_enum, enum_by, piece_by, starts, gathering, gather, specs}
+use Rattle.sc_parse_front.specs.Start.{Start, AStorage, AWord, ARecord, AnEnum, AName, NoStart, enum_start, record_start, word_start, storage_start, reserved_start, name_start, start}
+use Rattle.sc_parse_expr.specs.Reading.{with_item, never, padding, with_width, part, parts, member, member_of, record_piece, record_body, tagged_record, record_by, enumerator, enum_piece, enum_body, tagged_enum, enum_by, piece_by, starts, gathering, gather, specs}
 use Rattle.sc_parse_expr.specs.Laws.{ends_choice, ends_specs, ends_declarator, opens_declarator}
 use Rattle.sc_parse_expr.proofs.Begins.{Begins, by_first, longer, weaker, not_empty, opens_piece, piece_begins, piece_no_sign, specs_begin, named_begins, expr_is_high, declarator_is_high}
 use Rattle.sc_parse_expr.proofs.Inner.{no_value, node_is, has_turn, commas_last, commas_end, commas_more, many_end, many_more, IsInner}

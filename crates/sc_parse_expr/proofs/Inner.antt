@@ -18,7 +18,7 @@ use Rattle.sc_tree.specs.Tokens.{punct}
 use Rattle.sc_tree.specs.Grammar.{may_lack, Spells, Heads, a_head, Specifies, Declares}
 use Rattle.sc_parse_expr.specs.declared.found.Wanted.{Wanted}
 use Rattle.sc_parse_expr.specs.declared.found.Phrase.{Phrase}
-use Rattle.sc_parse_expr.specs.Front.{punct_of, reserved_of, front, is_comma, is_left_brace, is_some, begins_piece}
+use Rattle.sc_parse_front.specs.Front.{punct_of, reserved_of, front, is_comma, is_left_brace, is_some, begins_piece}
 use Rattle.sc_parse_expr.specs.Read.{read, Parse, node, commas, listed, listing, many}
 use Rattle.sc_parse_expr.specs.Reading.{operand, declared, inner_expr, inner_specs, inner_declarator, inner_head, headed}
 use Rattle.sc_parse_expr.specs.Laws.{ends_expr, ends_specs, ends_declarator}

@@ -1,5 +1,4 @@
 pub mod Begins
-mod Names
 pub mod Steps
 mod Spans
 pub mod Tools

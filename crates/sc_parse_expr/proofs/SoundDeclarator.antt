@@ -24,7 +24,7 @@ use Rattle.sc_parse_expr.specs.declared.found.Wanted.{Wanted}
 use Rattle.sc_parse_expr.specs.declared.found.Phrase.{Phrase}
 use Rattle.sc_parse_expr.specs.declared.found.Declared.{Declared}
 use Rattle.sc_parse_expr.specs.declared.found.Headed.{Headed}
-use Rattle.sc_parse_expr.specs.Front.{reserved_of, front, front_word, front_reserved, behind, is_left_paren, is_right_paren, is_right_bracket, is_star, is_ellipsis, is_void_key, begins_type, Suffix, Indexing, Calling, suffix}
+use Rattle.sc_parse_front.specs.Front.{reserved_of, front, front_word, front_reserved, behind, is_left_paren, is_right_paren, is_right_bracket, is_star, is_ellipsis, is_void_key, begins_type, Suffix, Indexing, Calling, suffix}
 use Rattle.sc_parse_expr.specs.Read.{Read, read, Parse, node, taking, Listed, commas}
 use Rattle.sc_parse_expr.specs.Reading as r
 use Rattle.sc_parse_expr.specs.Reading.{declared, Params, params, Roll, enrolled}

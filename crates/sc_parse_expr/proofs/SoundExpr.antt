@@ -37,7 +37,7 @@ use Rattle.sc_parse_expr.specs.declared.found.Phrase.{Phrase}
 use Rattle.sc_parse_expr.specs.declared.found.Operand.{Operand}
 use Rattle.sc_parse_expr.specs.declared.found.Declared.{Declared}
 use Rattle.sc_parse_expr.specs.declared.found.Headed.{Headed}
-use Rattle.sc_parse_expr.specs.Front.{front, front_word, front_reserved, behind, is_left_paren, is_right_paren, is_right_bracket, is_comma, is_colon, is_question, is_sizeof, begins_type, binary_at, unary_at, step_at, assign_at, Suffix, Indexing, Calling, Fielding, Stepping, NoSuffix, suffix}
+use Rattle.sc_parse_front.specs.Front.{front, front_word, front_reserved, behind, is_left_paren, is_right_paren, is_right_bracket, is_comma, is_colon, is_question, is_sizeof, begins_type, binary_at, unary_at, step_at, assign_at, Suffix, Indexing, Calling, Fielding, Stepping, NoSuffix, suffix}
 use Rattle.sc_parse_expr.specs.Read.{Read, read, Parse, node, taking, Listed, commas}
 use Rattle.sc_parse_expr.specs.Reading as r
 use Rattle.sc_parse_expr.specs.Reading.{operand, place, strings, past_strings, joined, passed, with_tree, never}

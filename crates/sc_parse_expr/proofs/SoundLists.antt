@@ -8,7 +8,7 @@ use Rattle.sc_tree.specs.declared.token.Punct.{Punct}
 use Rattle.sc_tree.specs.declared.token.Punct.TheVariants as sign
 use Rattle.sc_tree.specs.Tables.{◌>>=◌}
 use Rattle.sc_tree.specs.Tokens.{punct, first_pos}
-use Rattle.sc_parse_expr.specs.Front.{front, behind, is_comma}
+use Rattle.sc_parse_front.specs.Front.{front, behind, is_comma}
 use Rattle.sc_parse_expr.specs.Read.{Read, read, Parse, Listed, listing, listed, commas, many}
 use Rattle.sc_parse_expr.specs.Reading.{with_item}
 use Rattle.sc_parse_expr.proofs.Tools.{bind_some, if_is, test_is, given, Splits, none, glue, One, front_is, comma}

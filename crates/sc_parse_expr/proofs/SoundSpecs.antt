@@ -31,10 +31,11 @@ use Rattle.sc_tree.specs.Grammar.{record_word, Specifies, Pieces, APiece, Member
 use Rattle.sc_parse_expr.specs.declared.found.Wanted.{Wanted}
 use Rattle.sc_parse_expr.specs.declared.found.Phrase.{Phrase}
 use Rattle.sc_parse_expr.specs.declared.found.Declared.{Declared}
-use Rattle.sc_parse_expr.specs.Front.{front, front_word, front_reserved, behind, is_left_brace, is_right_brace, is_colon, is_semicolon, is_equals, is_enum}
+use Rattle.sc_parse_front.specs.Front.{front, front_word, front_reserved, behind, is_left_brace, is_right_brace, is_colon, is_semicolon, is_equals, is_enum}
 use Rattle.sc_parse_expr.specs.Read.{Read, read, Parse, taking, Listed, commas, many}
 use Rattle.sc_parse_expr.specs.Reading as r
-use Rattle.sc_parse_expr.specs.Reading.{Start, AStorage, AWord, ARecord, AnEnum, AName, NoStart, storage_start, word_start, record_start, enum_start, reserved_start, name_start, start, with_item, never}
+use Rattle.sc_parse_front.specs.Start.{Start, AStorage, AWord, ARecord, AnEnum, AName, NoStart, storage_start, word_start, record_start, enum_start, reserved_start, name_start, start}
+use Rattle.sc_parse_expr.specs.Reading.{with_item, never}
 use Rattle.sc_parse_expr.specs.Laws.{TakesSpecs}
 use Rattle.sc_parse_expr.proofs.Tools.{bind_some, some_is, if_is, test_is, given, node_is, Splits, none, glue, One, front_is, front_word_is, front_reserved_is, left_brace, right_brace, colon, semicolon, equals, enum, taken}
 use Rattle.sc_parse_expr.proofs.SoundLists.{Item, Chained, last, more, Ending, plain, with_comma, Row, empty, next, all_items, TookListed, TookMany, commas_took, many_took}

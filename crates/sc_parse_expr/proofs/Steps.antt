@@ -16,21 +16,24 @@ use Rattle.sc_parse_expr.specs.declared.found.Wanted.{Wanted}
 use Rattle.sc_parse_expr.specs.declared.found.Phrase.{Phrase}
 use Rattle.sc_parse_expr.specs.declared.found.Found.{Found}
 use Rattle.sc_parse_expr.specs.declared.found.Operand.{Operand}
-use Rattle.sc_parse_expr.specs.Front.{front, front_string, behind, is_comma, binary_at, Suffix, Indexing, Calling, Fielding, Stepping, NoSuffix, suffix}
+use Rattle.sc_parse_front.specs.Front.{front, front_string, behind, is_comma, binary_at, Suffix, Indexing, Calling, Fielding, Stepping, NoSuffix, suffix}
 use Rattle.sc_parse_expr.specs.Read.{Read, read, Parse, Listed, listing, listed, commas, many}
-use Rattle.sc_parse_expr.specs.Reading.{combined, chained, chain, suffixed, suffixes, sequenced, sequencing, sequence, operators, derived, derive, Start, start, starts, piece_by, gathering, gather, joined, passed, strings, past_strings, enrolled, parse, wanted}
-use Rattle.sc_parse_expr.specs.Steps.{one_suffix, is_suffix, one_derived}
-use Rattle.sc_parse_expr.specs.Laws.{is_derived}
+use Rattle.sc_parse_expr.specs.Reading.{combined, chained, chain, suffixed, suffixes, sequenced, sequencing, sequence, operators, derived, derive, starts, piece_by, gathering, gather, joined, passed, strings, past_strings, enrolled, parse, wanted}
+use Rattle.sc_parse_front.specs.Start.{Start, start}
+use Rattle.sc_parse_expr.specs.Steps.{one_suffix, one_derived}
+use Rattle.sc_parse_front.specs.Front.{is_suffix}
+use Rattle.sc_parse_front.specs.Front.{is_derived}
 use Rattle.sc_parse_expr.specs.declared.found.Declared.{Declared}
 use Rattle.sc_tree.specs.declared.grammar.Piece.{Piece}
 use Rattle.sc_tree.specs.declared.grammar.Gathered.{Gathered}
 use Rattle.sc_tree.specs.Specifiers.{with_piece}
-use Rattle.sc_parse_expr.specs.declared.stop.Stop.{Stop}
-use Rattle.sc_parse_expr.specs.declared.stop.Stop.TheVariants.{Memory, Not}
-use Rattle.sc_parse_expr.specs.declared.start.Start as begun
-use Rattle.sc_parse_expr.specs.declared.start.Start.TheVariants as begin
-use Rattle.sc_parse_expr.specs.Starts.{start_of}
-use Rattle.sc_parse_expr.specs.Gives.{Gives, GivesAs, Makes}
+use Rattle.sc_parse_front.specs.declared.stop.Stop.{Stop}
+use Rattle.sc_parse_front.specs.declared.stop.Stop.TheVariants.{Memory, Not}
+use Rattle.sc_parse_front.specs.declared.start.Start as begun
+use Rattle.sc_parse_front.specs.declared.start.Start.TheVariants as begin
+use Rattle.sc_parse_front.specs.Start.{start_of}
+use Rattle.sc_parse_expr.specs.Gives.{Gives, GivesAs}
+use Rattle.sc_parse_front.specs.Stop.{Makes}
 use Rattle.sc_parse_expr.specs.Nests.{below}
 use Rattle.sc_tree.specs.declared.expr.Head.{Head}
 use Rattle.sc_parse_expr.specs.declared.found.Headed.{Headed}

@@ -17,7 +17,7 @@ use Rattle.sc_tree.specs.declared.op.Step.{Step}
 use Rattle.sc_tree.specs.Tables.{◌>>=◌}
 use Rattle.sc_tree.specs.Tokens.{token, word, punct, reserved, first_pos}
 use Rattle.sc_tree.specs.Operators.{Binding, binding, binary, unary, step, assign, field}
-use Rattle.sc_parse_expr.specs.Front.{punct_of, word_of, reserved_of, front, front_word, front_reserved, behind, is_left_paren, is_right_paren, is_left_bracket, is_right_bracket, is_left_brace, is_right_brace, is_comma, is_colon, is_question, is_semicolon, is_star, is_equals, is_ellipsis, is_void_key, is_sizeof, is_enum, at_level, binary_at, unary_at, step_at, assign_at, Indexing, Calling, Fielding, Stepping, suffix}
+use Rattle.sc_parse_front.specs.Front.{punct_of, word_of, reserved_of, front, front_word, front_reserved, behind, is_left_paren, is_right_paren, is_left_bracket, is_right_bracket, is_left_brace, is_right_brace, is_comma, is_colon, is_question, is_semicolon, is_star, is_equals, is_ellipsis, is_void_key, is_sizeof, is_enum, at_level, binary_at, unary_at, step_at, assign_at, Indexing, Calling, Fielding, Stepping, suffix}
 use Rattle.sc_parse_expr.specs.Read.{Read, read, node, taking}
 
 -- ---- steps

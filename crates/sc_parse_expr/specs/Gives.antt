@@ -2,9 +2,8 @@
 use Rattle.std.specs.Prelude.{◌≡◌, ℕ, suc, nat_lt, Bool, true, false, List, Option, Some, None, Result, Ok, Err}
 use Rattle.sc_tree.specs.declared.token.Token.{Token}
 use Rattle.sc_parse_expr.specs.declared.found.Found.{Found}
-use Rattle.sc_parse_expr.specs.declared.stop.Stop.{Stop}
-use Rattle.sc_parse_expr.specs.declared.stop.Stop.TheVariants.{Memory, Not}
-use Rattle.sc_parse_expr.specs.Front.{behind}
+use Rattle.sc_parse_front.specs.declared.stop.Stop.{Stop}
+use Rattle.sc_parse_front.specs.declared.stop.Stop.TheVariants.{Memory, Not}
 use Rattle.sc_parse_expr.specs.Read.{Read, read}
 
 -- The call gives what is read, with the tokens that are left then, or that nothing is read; where memory
@@ -14,23 +13,11 @@ Gives o (Ok x) left = o ≡ Some (read x.it x.height left)
 Gives o (Err Not) left = o ≡ None
 Gives o (Err Memory) left = Unit
 
--- The call goes behind the first token where it was found to be the wanted one, and else refuses.
-abbrev pub Passes : Bool → Result (Unit {0}) Stop → List Token → List Token → Type 0
-Passes found (Ok x) old new = (found ≡ true) × (new ≡ behind old)
-Passes found (Err Not) old new = found ≡ false
-Passes found (Err Memory) old new = ⊥
-
 -- A tree over parts of that height is made where the limit allows one more, and else refused.
 abbrev pub Grows : {A : Type 0} → ℕ → A → ℕ → Result (Found A) Stop → Type 0
 Grows limit it below (Ok x) = (nat_lt below limit ≡ true) × (x.it ≡ it) × (x.height ≡ suc below)
 Grows limit it below (Err Not) = nat_lt below limit ≡ false
 Grows limit it below (Err Memory) = Unit
-
--- The call makes what the option has, or refuses where it has nothing.
-abbrev pub Makes : {A : Type 0} → Option A → Result A Stop → Type 0
-Makes o (Ok x) = o ≡ Some x
-Makes o (Err Not) = o ≡ None
-Makes o (Err Memory) = Unit
 
 -- As `Gives`, where the call gives what is read in a form of its own.
 abbrev pub GivesAs : {A B : Type 0} → (A → B) → Option (Read B) → Result (Found A) Stop → List Token → Type 0

@@ -18,7 +18,7 @@ use Rattle.sc_tree.specs.Tokens.{is_type}
 use Rattle.sc_tree.specs.Grammar.{Spells, Specifies, Declares}
 use Rattle.sc_parse_expr.specs.declared.found.Operand.{Operand}
 use Rattle.sc_parse_expr.specs.declared.found.Declared.{Declared}
-use Rattle.sc_parse_expr.specs.Front.{front, front_word, front_reserved, front_string, is_left_paren, is_left_brace, is_star, is_question, is_comma, is_some, begins_piece, begins_type, unary_at, step_at, assign_at, is_sizeof, Suffix, Indexing, Calling, NoSuffix, suffix}
+use Rattle.sc_parse_front.specs.Front.{front, front_word, front_reserved, front_string, is_left_paren, is_left_brace, is_star, is_question, is_comma, is_some, begins_piece, begins_type, unary_at, step_at, assign_at, is_sizeof, Suffix, Indexing, Calling, NoSuffix, suffix, is_derived}
 use Rattle.sc_parse_expr.specs.Read.{Read, read}
 use Rattle.sc_parse_expr.specs.Reading.{operand, declared, expr_at, specs_at, declarator_at}
 
@@ -84,11 +84,6 @@ ends_expr Whole ts = ends_assignment ts && not (is_comma (front ts))
 -- whether they do not go on with specifiers
 abbrev pub ends_specs : List Token → Bool
 ends_specs ts = not (begins_piece (front_reserved ts)) && not (is_left_brace (front ts))
-
-abbrev pub is_derived : Suffix → Bool
-is_derived Indexing = true
-is_derived Calling = true
-is_derived _ = false
 
 -- whether they do not go on with a declarator, be it empty
 abbrev pub ends_declarator : List Token → Bool

@@ -1,10 +1,7 @@
-pub mod Front
 pub mod Read
 pub mod Reading
 pub mod Laws
 pub mod Gives
 pub mod Nests
-pub mod TypeNames
 pub mod Steps
-pub mod Starts
 pub mod Spans

@@ -7,7 +7,7 @@ use Rattle.sc_tree.specs.declared.token.Token.{Token}
 use Rattle.sc_parse_expr.specs.declared.found.Wanted.{Wanted}
 use Rattle.sc_parse_expr.specs.declared.found.Phrase.{Phrase}
 use Rattle.sc_parse_expr.specs.declared.found.Found.{Found}
-use Rattle.sc_parse_expr.specs.declared.stop.Stop.{Stop}
+use Rattle.sc_parse_front.specs.declared.stop.Stop.{Stop}
 use Rattle.sc_parse_expr.specs.Read.{Parse}
 use Rattle.sc_parse_expr.specs.Reading.{parse}
 use Rattle.sc_parse_expr.specs.Gives.{Gives}

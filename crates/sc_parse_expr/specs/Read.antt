@@ -3,7 +3,7 @@ use Rattle.std.specs.Prelude.{ℕ, zero, suc, max, nat_lt, Bool, true, false, Li
 use Rattle.sc_tree.specs.declared.token.Token.{Token}
 use Rattle.sc_tree.specs.declared.token.Punct.{Punct}
 use Rattle.sc_tree.specs.Tables.{◌>>=◌}
-use Rattle.sc_parse_expr.specs.Front.{front, behind, is_comma}
+use Rattle.sc_parse_front.specs.Front.{front, behind, is_comma}
 
 -- What was read, the height of its tree, and the tokens behind it.
 pub record Read (A : Type 0) : Type 0 where

@@ -55,7 +55,8 @@ use Rattle.sc_parse_expr.specs.declared.found.Phrase.TheVariants as phrase
 use Rattle.sc_parse_expr.specs.declared.found.Operand.{Operand}
 use Rattle.sc_parse_expr.specs.declared.found.Declared.{Declared}
 use Rattle.sc_parse_expr.specs.declared.found.Headed.{Headed}
-use Rattle.sc_parse_expr.specs.Front.{string_of, front, front_word, front_reserved, behind, is_left_paren, is_right_paren, is_right_bracket, is_left_brace, is_right_brace, is_comma, is_colon, is_question, is_semicolon, is_star, is_equals, is_ellipsis, is_void_key, is_sizeof, is_enum, begins_type, binary_at, unary_at, step_at, assign_at, Suffix, Indexing, Calling, Fielding, Stepping, NoSuffix, suffix}
+use Rattle.sc_parse_front.specs.Front.{string_of, front, front_word, front_reserved, behind, is_left_paren, is_right_paren, is_right_bracket, is_left_brace, is_right_brace, is_comma, is_colon, is_question, is_semicolon, is_star, is_equals, is_ellipsis, is_void_key, is_sizeof, is_enum, begins_type, binary_at, unary_at, step_at, assign_at, Suffix, Indexing, Calling, Fielding, Stepping, NoSuffix, suffix}
+use Rattle.sc_parse_front.specs.Start.{Start, AStorage, AWord, ARecord, AnEnum, AName, NoStart, start}
 use Rattle.sc_parse_expr.specs.Read.{Read, read, Parse, node, taking, Listed, commas, many}
 
 -- ---- what is kept of what was read
@@ -68,7 +69,7 @@ declared t c = record { declarator = t; core = c }
 
 -- an expression that begins there, and for which that token stands
 abbrev pub place : Pos → Pos → Place
-place start p = record { token = p; first = start }
+place begin p = record { token = p; first = begin }
 
 abbrev pub expr_in : Read Phrase → Option (Read Operand)
 expr_in r = elim r.it [ phrase.Expr x ↦ Some (read x r.height r.rest) | phrase.Specs x ↦ None | phrase.Declarator x ↦ None ]
@@ -106,43 +107,7 @@ unfoldable pub past_strings : List Token → List Token
 past_strings [] = []
 past_strings (t ∷ ts) = passed (string_of t.kind) (past_strings ts) (t ∷ ts)
 
--- ---- what a piece of specifiers is to be
-
-pub data Start : Type 0 where
-  AStorage : Storage → Start
-  AWord : TypeWord → Start
-  ARecord : Bool → Start
-  AnEnum : Start
-  AName : NameId → Start
-  NoStart : Start
-
-abbrev pub enum_start : Bool → Start
-enum_start true = AnEnum
-enum_start false = NoStart
-
-abbrev pub record_start : Option Bool → Start → Start
-record_start (Some u) other = ARecord u
-record_start None other = other
-
-abbrev pub word_start : Option TypeWord → Start → Start
-word_start (Some w) other = AWord w
-word_start None other = other
-
-abbrev pub storage_start : Option Storage → Start → Start
-storage_start (Some s) other = AStorage s
-storage_start None other = other
-
-abbrev pub reserved_start : Option Reserved → Start → Start
-reserved_start None other = other
-reserved_start (Some w) other = storage_start (storage_word w) (word_start (type_word w) (record_start (record_word w) (enum_start (is_enum (Some w)))))
-
--- a typedef name is one where no type stands before it
-abbrev pub name_start : List NameId → SoFar → Option NameId → Start
-name_start types Untyped (Some w) = if is_type types w then AName w else NoStart
-name_start types _ _ = NoStart
-
-abbrev pub start : List NameId → SoFar → List Token → Start
-start types so ts = reserved_start (front_reserved ts) (name_start types so (front_word ts))
+-- ---- what is gathered
 
 -- The parameters of a function: their heads, whether each has a name, and whether `...` stands behind.
 pub record Params : Type 0 where
@@ -424,7 +389,7 @@ module _ (types : List NameId) (limit : ℕ) (inner : Wanted → Parse Phrase) w
   piece_by (AWord w) ts = Some (read (piece.Word w) 0 (behind ts))
   piece_by (ARecord u) ts = record_by u (first_pos ts) (front_word (behind ts)) (behind ts)
   piece_by AnEnum ts = enum_by (first_pos ts) (front_word (behind ts)) (behind ts)
-  piece_by (AName w) ts = Some (read (piece.Whole (base.Named w) form.NoBody) 0 (behind ts))
+  piece_by (AName w) ts = Some (read (piece.Whole (base.Named w (first_pos ts)) form.NoBody) 0 (behind ts))
   piece_by NoStart ts = None
 
   abbrev pub starts : Start → Bool

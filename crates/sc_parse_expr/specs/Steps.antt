@@ -14,14 +14,10 @@ use Rattle.sc_parse_expr.specs.declared.found.Phrase.{Phrase}
 use Rattle.sc_parse_expr.specs.declared.found.Operand.{Operand}
 use Rattle.sc_parse_expr.specs.declared.found.Declared.{Declared}
 use Rattle.sc_parse_expr.specs.declared.parameters.Params.{Params}
-use Rattle.sc_parse_expr.specs.Front.{is_right_brace, is_ellipsis, Suffix, Indexing, Calling, Fielding, Stepping, NoSuffix}
+use Rattle.sc_parse_front.specs.Front.{is_right_brace, is_ellipsis, Suffix, Indexing, Calling, Fielding, Stepping, NoSuffix}
 use Rattle.sc_parse_expr.specs.Read.{Read, read, Parse, commas}
 use Rattle.sc_parse_expr.specs.Reading.{inner_expr, inner_declarator, inner_head, with_tree, with_item, never, enrolled, indexed, calling, fielded, stepped, part, enumerator, enclosed, array_of, function_of, params, listed_params}
 use Rattle.sc_parse_expr.specs.Reading as reading
-
-abbrev pub is_suffix : Suffix → Bool
-is_suffix NoSuffix = false
-is_suffix _ = true
 
 -- the parameters as the reading has them
 abbrev pub params_of : Params → reading.Params

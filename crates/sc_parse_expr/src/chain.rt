@@ -1,4 +1,4 @@
-// Operators between two operands, level by level (C11 6.5.5 to 6.5.14).
+//! Operators between two operands, level by level (C11 6.5.5 to 6.5.14).
 
 ghost use Rattle.std.specs.Prelude.{◌≡◌, ◌+◌, ◌<◌};
 ghost use Rattle.sc_parse_expr.specs.Gives.{Gives};
@@ -6,12 +6,10 @@ ghost use Rattle.sc_parse_expr.specs.Nests.{Nests, below};
 ghost use Rattle.sc_parse_expr.specs.Read.{read};
 ghost use Rattle.sc_parse_expr.specs.Reading as spec;
 
-use crate::cursor::Cursor;
 use crate::found::{Found, Operand, Phrase, Wanted};
 use crate::grammar::Grammar;
-use crate::stop::Stop;
-use crate::type_names::TypeNames;
 use sc_base::Pos;
+use sc_parse_front::{Cursor, Stop, TypeNames};
 use sc_tree::expr::{Expr, Place};
 use sc_tree::grammar::Level;
 use sc_tree::op::BinaryOp;

@@ -1,18 +1,16 @@
-// Choices, assignments and commas (C11 6.5.15 to 6.5.17), and all levels together.
+//! Choices, assignments and commas (C11 6.5.15 to 6.5.17), and all levels together.
 
 ghost use Rattle.std.specs.Prelude.{◌≡◌};
-ghost use Rattle.sc_parse_expr.specs.Front.{front, assign_at};
+ghost use Rattle.sc_parse_front.specs.Front.{front, assign_at};
 ghost use Rattle.sc_parse_expr.specs.Gives.{Gives};
 ghost use Rattle.sc_parse_expr.specs.Nests.{Nests, below};
 ghost use Rattle.sc_parse_expr.specs.Read.{read};
 ghost use Rattle.sc_parse_expr.specs.Reading as spec;
 
-use crate::cursor::Cursor;
 use crate::found::{Found, Operand, Phrase, Wanted};
 use crate::grammar::Grammar;
-use crate::stop::Stop;
-use crate::type_names::TypeNames;
 use sc_base::Pos;
+use sc_parse_front::{Cursor, Stop, TypeNames};
 use sc_tree::expr::{Expr, Place};
 use sc_tree::grammar::Level;
 use sc_tree::op::AssignOp;

@@ -1,4 +1,4 @@
-// Laws of the reading: what the grammar spells is read, and no tokens spell two trees.
+//! Laws of the reading: what the grammar spells is read, and no tokens spell two trees.
 #![tactic(auto)]
 
 ghost use Rattle.std.specs.Prelude.{◌≡◌, ℕ, List, false};

@@ -1,8 +1,8 @@
-// Declarators (C11 6.7.6): `*`, brackets, names, arrays and functions.
+//! Declarators (C11 6.7.6): `*`, brackets, names, arrays and functions.
 
 ghost use Rattle.std.specs.Prelude.{◌≡◌};
 ghost use Rattle.sc_tree.specs.Grammar.{called, covered, may_lack, may_name};
-ghost use Rattle.sc_parse_expr.specs.Front.{front, front_word, suffix};
+ghost use Rattle.sc_parse_front.specs.Front.{front, front_word, suffix};
 ghost use Rattle.sc_parse_expr.specs.Gives.{Grows};
 ghost use Rattle.sc_parse_expr.specs.Steps.{enclosed_at, one_derived};
 ghost use Rattle.sc_parse_expr.specs.Gives.{Gives};
@@ -10,13 +10,11 @@ ghost use Rattle.sc_parse_expr.specs.Nests.{Nests, below};
 ghost use Rattle.sc_parse_expr.specs.Read.{read};
 ghost use Rattle.sc_parse_expr.specs.Reading as spec;
 
-use crate::cursor::Cursor;
 use crate::found::{Declared, Found, Phrase, Wanted};
 use crate::grammar::{Grammar, node};
 use crate::parameters::Params;
-use crate::stop::Stop;
-use crate::type_names::TypeNames;
 use sc_base::{Boxed, NameId};
+use sc_parse_front::{Cursor, Stop, TypeNames};
 use sc_tree::Punct;
 use sc_tree::expr::{Declarator, Expr};
 use sc_tree::grammar::{Core, Level, Naming};

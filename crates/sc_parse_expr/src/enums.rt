@@ -1,34 +1,34 @@
-// Enums with their enumerators (C11 6.7.2.2).
+//! Enums with their enumerators (C11 6.7.2.2).
 
-ghost use Rattle.std.specs.Prelude.{◌≡◌};
+ghost use Rattle.std.specs.Prelude.{◌≡◌, IfOk};
 ghost use Rattle.sc_tree.specs.declared.expr.Base.TheVariants as base;
 ghost use Rattle.sc_tree.specs.declared.expr.EnumSpec.{roll-EnumSpec};
 ghost use Rattle.sc_tree.specs.declared.grammar.Piece.TheVariants as piece;
-ghost use Rattle.sc_parse_expr.specs.Front.{front_word};
+ghost use Rattle.sc_parse_front.specs.Front.{front_word};
 ghost use Rattle.sc_parse_expr.specs.Steps.{some_enumerators};
 ghost use Rattle.sc_parse_expr.specs.Gives.{Gives};
 ghost use Rattle.sc_parse_expr.specs.Nests.{Nests, below};
 ghost use Rattle.sc_parse_expr.specs.Reading as spec;
 
-use crate::cursor::Cursor;
 use crate::found::{Found, Phrase, Wanted};
 use crate::grammar::{Grammar, node};
-use crate::stop::Stop;
-use crate::type_names::TypeNames;
-use sc_base::{List, NameId, Pos};
+use sc_base::{Boxed, List, NameId, OutOfMemory, Pos};
+use sc_parse_front::{Cursor, Stop, TypeNames};
 use sc_tree::expr::{Base, EnumSpec, Enumerator, Expr};
 use sc_tree::grammar::{BodyForm, Level, Piece};
 use std::alloc::Global;
 
 fn enum_piece(
+    alloc: Global,
     pos: Pos,
     tag: Option<NameId>,
     body: Option<List<Enumerator>>,
     form: BodyForm,
-) -> Piece
-    ensures { result ≡ piece.Whole (base.Enum (roll-EnumSpec (record { pos = pos; tag = tag; body = body }))) form }
+) -> Result<Piece, OutOfMemory>
+    ensures { IfOk result (λ made. made ≡ piece.Whole (base.Enum (roll-EnumSpec (record { pos = pos; tag = tag; body = body }))) form) }
 {
-    Piece::Whole(Base::Enum(EnumSpec { pos, tag, body }), form)
+    let spec = Boxed::new(alloc, EnumSpec { pos, tag, body })?;
+    Ok(Piece::Whole(Base::Enum(spec), form))
 }
 
 impl<
@@ -61,7 +61,7 @@ impl<
             it: Enumerator {
                 pos,
                 name,
-                value: Some(value.it.tree.into_inner()),
+                value: Some(value.it.tree),
             },
             height: value.height,
         })
@@ -101,11 +101,8 @@ impl<
     {
         let all = self.enumerators(tokens)?;
         tokens.pass_right_brace()?;
-        node(
-            self.limit,
-            enum_piece(pos, tag, Some(all.it), BodyForm::WithBody),
-            all.height,
-        )
+        let piece = enum_piece(self.alloc, pos, tag, Some(all.it), BodyForm::WithBody)?;
+        node(self.limit, piece, all.height)
     }
 
     #[tactic(auto, unfolding(crate::specs::Reading::tagged_enum))]
@@ -123,7 +120,7 @@ impl<
             return self.enum_body(tokens, pos, Some(tag));
         }
         Ok(Found {
-            it: enum_piece(pos, Some(tag), None, BodyForm::NoBody),
+            it: enum_piece(self.alloc, pos, Some(tag), None, BodyForm::NoBody)?,
             height: 0,
         })
     }

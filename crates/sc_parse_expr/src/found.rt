@@ -1,4 +1,4 @@
-// What is read at the front of tokens.
+//! What is read at the front of tokens.
 
 use sc_base::Boxed;
 use sc_tree::expr::{Declarator, Expr, Head};

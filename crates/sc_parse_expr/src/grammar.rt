@@ -1,4 +1,4 @@
-// The reading of trees up to a height, over a function that reads those which are lower by one.
+//! The reading of trees up to a height, over a function that reads those which are lower by one.
 
 ghost use Rattle.std.specs.Prelude.{◌≡◌};
 ghost use Rattle.sc_tree.specs.Grammar.{is_named};
@@ -6,11 +6,9 @@ ghost use Rattle.sc_parse_expr.specs.Gives.{Gives, Grows};
 ghost use Rattle.sc_parse_expr.specs.Nests.{Nests, below};
 ghost use Rattle.sc_parse_expr.specs.Reading as spec;
 
-use crate::cursor::Cursor;
 use crate::found::{Declared, Found, Headed, Operand, Phrase, Wanted};
-use crate::stop::Stop;
-use crate::type_names::TypeNames;
 use sc_base::Boxed;
+use sc_parse_front::{Cursor, Stop, TypeNames};
 use sc_tree::expr::{Expr, Head};
 use sc_tree::grammar::{Core, Level, Naming, Specified};
 use std::alloc::Global;

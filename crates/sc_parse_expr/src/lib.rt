@@ -1,21 +1,19 @@
-// Expressions, types and declarators: which tree a list of tokens spells, if it spells one.
-//
-// `specs/Reading.antt` has the reading as functions on lists of tokens. Two laws tie it to
-// `sc_tree/specs/Grammar.antt`: what is read is spelled (`sound`), and what is spelled is read
-// (`complete`). The code gives what the functions give: `grammar` reads trees up to a height over a
-// function that reads those lower by one, `primary`, `suffixes`, `prefix`, `chain` and `choice` read
-// expressions, `pieces`, `records` and `enums` specifiers, `direct` and `parameters` declarators, and
-// `parse` ties the knot. `span` has the expression that a span of tokens is.
+//! Expressions, types and declarators: which tree a list of tokens spells, if it spells one.
+//!
+//! `specs/Reading.antt` has the reading as functions on lists of tokens. Two laws tie it to
+//! `sc_tree/specs/Grammar.antt`: what is read is spelled (`sound`), and what is spelled is read
+//! (`complete`). The code gives what the functions give: `grammar` reads trees up to a height over a
+//! function that reads those lower by one, `primary`, `suffixes`, `prefix`, `chain` and `choice` read
+//! expressions, `pieces`, `records` and `enums` specifiers, `direct` and `parameters` declarators, and
+//! `parse` ties the knot. `span` has the expression that a span of tokens is.
 #![tactic(auto)]
 
 mod chain;
 mod choice;
 pub mod complete;
-pub mod cursor;
 mod direct;
 mod enums;
 pub mod found;
-mod fronts;
 mod grammar;
 mod parameters;
 pub mod parse;
@@ -23,23 +21,14 @@ mod pieces;
 mod prefix;
 mod primary;
 mod records;
-mod signs;
 pub mod sound;
 pub mod span;
-mod start;
-pub mod stop;
 mod suffixes;
-mod tables;
-pub mod type_names;
-mod words;
 
-pub use cursor::Cursor;
 pub use found::{Declared, Found, Operand, Phrase, Wanted};
 pub use grammar::node;
 pub use parse::{read_declarator, read_expr, read_specs};
 pub use span::{Parsed, expr};
-pub use stop::Stop;
-pub use type_names::TypeNames;
 
 #[cfg(test)]
 mod tests;

@@ -1,4 +1,4 @@
-// The parameters of a function (C11 6.7.6.3).
+//! The parameters of a function (C11 6.7.6.3).
 
 ghost use Rattle.std.specs.Prelude.{◌≡◌, ◌&&◌};
 ghost use Rattle.sc_parse_expr.specs.Gives.{GivesAs};
@@ -6,12 +6,10 @@ ghost use Rattle.sc_parse_expr.specs.Nests.{Nests, below};
 ghost use Rattle.sc_parse_expr.specs.Reading as spec;
 ghost use Rattle.sc_parse_expr.specs.Steps.{params_of, some_heads};
 
-use crate::cursor::Cursor;
 use crate::found::{Found, Headed, Phrase, Wanted};
 use crate::grammar::Grammar;
-use crate::stop::Stop;
-use crate::type_names::TypeNames;
 use sc_base::List;
+use sc_parse_front::{Cursor, Stop, TypeNames, room_for_one};
 use sc_tree::expr::Head;
 use sc_tree::grammar::Naming;
 use std::alloc::Global;
@@ -40,7 +38,7 @@ impl<
         requires { Nests self.now.limit (F.pre self.now.inner) (F.post self.now.inner) }
         ensures { GivesAs params_of (some_heads self.now.types.now self.now.limit (below self.now.types.now self.now.limit) tokens.old) result tokens.new }
     {
-        let mut all = List::new(self.alloc);
+        let mut all = room_for_one(self.alloc)?;
         let mut named = true;
         let mut height = 0;
         for _turn in 0..tokens.len() {

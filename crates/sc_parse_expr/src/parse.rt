@@ -1,15 +1,13 @@
-// The knot: what is read up to a height, whose parts are read up to one less.
+//! The knot: what is read up to a height, whose parts are read up to one less.
 
 ghost use Rattle.std.specs.Prelude.{◌≡◌};
 ghost use Rattle.sc_parse_expr.specs.Gives.{Gives};
 ghost use Rattle.sc_parse_expr.specs.Nests.{Nests, below};
 ghost use Rattle.sc_parse_expr.specs.Reading as spec;
 
-use crate::cursor::Cursor;
 use crate::found::{Declared, Found, Operand, Phrase, Wanted};
 use crate::grammar::Grammar;
-use crate::stop::Stop;
-use crate::type_names::TypeNames;
+use sc_parse_front::{Cursor, Stop, TypeNames};
 use sc_tree::grammar::{Level, Naming, Specified};
 use std::alloc::Global;
 

@@ -1,21 +1,19 @@
-// The pieces of specifiers, one after the other (C11 6.7).
+//! The pieces of specifiers, one after the other (C11 6.7).
 
 ghost use Rattle.std.specs.Prelude.{◌≡◌, Some, length};
 ghost use Rattle.sc_tree.specs.Specifiers.{no_pieces};
-ghost use Rattle.sc_parse_expr.specs.Front.{behind};
-ghost use Rattle.sc_parse_expr.specs.Starts.{start_of};
+ghost use Rattle.sc_parse_front.specs.Front.{behind};
+ghost use Rattle.sc_parse_front.specs.Start.{start_of};
 ghost use Rattle.sc_parse_expr.specs.Gives.{Gives};
 ghost use Rattle.sc_parse_expr.specs.Nests.{Nests, below};
 ghost use Rattle.sc_parse_expr.specs.Read.{read};
 ghost use Rattle.sc_parse_expr.specs.Reading as spec;
 
-use crate::cursor::Cursor;
 use crate::found::{Found, Phrase, Wanted};
 use crate::grammar::Grammar;
-use crate::start::{Start, begun_piece};
-use crate::stop::Stop;
-use crate::type_names::TypeNames;
-use crate::words::{finished, no_pieces, with_piece};
+use sc_parse_front::{
+    Cursor, Start, Stop, TypeNames, begun_piece, finished, no_pieces, with_piece,
+};
 use sc_tree::expr::Base;
 use sc_tree::grammar::{BodyForm, Gathered, Piece, Specified};
 use std::alloc::Global;
@@ -43,10 +41,13 @@ impl<
         match start {
             Start::Storage(word) => one_token(tokens, Piece::Storage(word)),
             Start::Word(word) => one_token(tokens, Piece::Word(word)),
-            Start::Name(word) => one_token(
-                tokens,
-                Piece::Whole(Base::Named(word), BodyForm::NoBody),
-            ),
+            Start::Name(word) => {
+                let pos = tokens.first_pos();
+                one_token(
+                    tokens,
+                    Piece::Whole(Base::Named(word, pos), BodyForm::NoBody),
+                )
+            }
             Start::Record(union) => {
                 let pos = tokens.first_pos();
                 tokens.advance();

@@ -1,16 +1,14 @@
-// The operators before their operand, `sizeof` and casts (C11 6.5.3, 6.5.4).
+//! The operators before their operand, `sizeof` and casts (C11 6.5.3, 6.5.4).
 
 ghost use Rattle.std.specs.Prelude.{◌≡◌};
 ghost use Rattle.sc_parse_expr.specs.Gives.{Gives};
 ghost use Rattle.sc_parse_expr.specs.Nests.{Nests, below};
 ghost use Rattle.sc_parse_expr.specs.Reading as spec;
 
-use crate::cursor::Cursor;
 use crate::found::{Found, Operand, Phrase, Wanted};
 use crate::grammar::Grammar;
 use crate::primary::at;
-use crate::stop::Stop;
-use crate::type_names::TypeNames;
+use sc_parse_front::{Cursor, Stop, TypeNames};
 use sc_tree::expr::Expr;
 use sc_tree::grammar::{Level, Naming};
 use sc_tree::op::{Step, UnaryOp};

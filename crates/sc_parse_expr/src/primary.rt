@@ -1,4 +1,4 @@
-// Names, constants, strings and expressions in brackets (C11 6.5.1).
+//! Names, constants, strings and expressions in brackets (C11 6.5.1).
 
 ghost use Rattle.std.specs.Prelude.{◌≡◌, ◌∷◌, Some, OnOk, IfOk};
 ghost use Rattle.sc_tree.specs.declared.token.Punct.TheVariants as sign;
@@ -7,12 +7,10 @@ ghost use Rattle.sc_parse_expr.specs.Gives.{Gives};
 ghost use Rattle.sc_parse_expr.specs.Nests.{Nests, below};
 ghost use Rattle.sc_parse_expr.specs.Reading as spec;
 
-use crate::cursor::Cursor;
 use crate::found::{Found, Operand, Phrase, Wanted};
 use crate::grammar::{Grammar, node};
-use crate::stop::Stop;
-use crate::type_names::TypeNames;
 use sc_base::{List, NameId, OutOfMemory, Pos};
+use sc_parse_front::{Cursor, Stop, TypeNames};
 use sc_tree::expr::{Expr, Place};
 use sc_tree::grammar::Level;
 use sc_tree::{Kind, Punct, StrToken};

@@ -1,11 +1,11 @@
-// Structs and unions with their members (C11 6.7.2.1).
+//! Structs and unions with their members (C11 6.7.2.1).
 
-ghost use Rattle.std.specs.Prelude.{◌≡◌, Some, [], length};
+ghost use Rattle.std.specs.Prelude.{◌≡◌, Some, [], length, IfOk};
 ghost use Rattle.sc_tree.specs.declared.expr.Aggregate.{roll-Aggregate};
 ghost use Rattle.sc_tree.specs.declared.expr.Base.TheVariants as base;
 ghost use Rattle.sc_tree.specs.declared.grammar.Piece.TheVariants as piece;
 ghost use Rattle.sc_tree.specs.Grammar.{body_form};
-ghost use Rattle.sc_parse_expr.specs.Front.{front_word, is_right_brace};
+ghost use Rattle.sc_parse_front.specs.Front.{front_word, is_right_brace};
 ghost use Rattle.sc_parse_expr.specs.Read.{many};
 ghost use Rattle.sc_parse_expr.specs.Steps.{some_parts};
 ghost use Rattle.sc_parse_expr.specs.Gives.{Gives};
@@ -13,12 +13,10 @@ ghost use Rattle.sc_parse_expr.specs.Nests.{Nests, below};
 ghost use Rattle.sc_parse_expr.specs.Read.{read};
 ghost use Rattle.sc_parse_expr.specs.Reading as spec;
 
-use crate::cursor::Cursor;
 use crate::found::{Declared, Found, Phrase, Wanted};
 use crate::grammar::{Grammar, node};
-use crate::stop::Stop;
-use crate::type_names::TypeNames;
-use sc_base::{List, NameId, Pos};
+use sc_base::{Boxed, List, NameId, OutOfMemory, Pos};
+use sc_parse_front::{Cursor, Stop, TypeNames, room_for_one};
 use sc_tree::expr::{Aggregate, Base, Expr, Member, Part};
 use sc_tree::grammar::{BodyForm, Level, Naming, Piece, Specified};
 use std::alloc::Global;
@@ -33,13 +31,14 @@ fn body_form(tag: Option<NameId>) -> BodyForm
 }
 
 fn record_piece(
+    alloc: Global,
     union: bool,
     pos: Pos,
     tag: Option<NameId>,
     body: Option<List<Member>>,
     form: BodyForm,
-) -> Piece
-    ensures { result ≡ piece.Whole (base.Struct (roll-Aggregate (record { pos = pos; union = union; tag = tag; body = body }))) form }
+) -> Result<Piece, OutOfMemory>
+    ensures { IfOk result (λ made. made ≡ piece.Whole (base.Struct (roll-Aggregate (record { pos = pos; union = union; tag = tag; body = body }))) form) }
 {
     let record = Aggregate {
         pos,
@@ -47,7 +46,8 @@ fn record_piece(
         tag,
         body,
     };
-    Piece::Whole(Base::Struct(record), form)
+    let record = Boxed::new(alloc, record)?;
+    Ok(Piece::Whole(Base::Struct(record), form))
 }
 
 impl<
@@ -65,7 +65,7 @@ impl<
         Ok(Found {
             it: Part {
                 declarator: None,
-                width: Some(width.it.tree.into_inner()),
+                width: Some(width.it.tree),
             },
             height: width.height,
         })
@@ -83,7 +83,7 @@ impl<
         if !tokens.is_colon() {
             return Ok(Found {
                 it: Part {
-                    declarator: Some(declared.it.declarator.into_inner()),
+                    declarator: Some(declared.it.declarator),
                     width: None,
                 },
                 height: declared.height,
@@ -93,8 +93,8 @@ impl<
         let width = self.inner_expr(tokens, Level::Choice)?;
         Ok(Found {
             it: Part {
-                declarator: Some(declared.it.declarator.into_inner()),
-                width: Some(width.it.tree.into_inner()),
+                declarator: Some(declared.it.declarator),
+                width: Some(width.it.tree),
             },
             height: declared.height.max(width.height),
         })
@@ -117,7 +117,7 @@ impl<
         requires { Nests self.now.limit (F.pre self.now.inner) (F.post self.now.inner) }
         ensures { Gives (some_parts self.now.types.now self.now.limit (below self.now.types.now self.now.limit) tokens.old) result tokens.new }
     {
-        let mut all = List::new(self.alloc);
+        let mut all = room_for_one(self.alloc)?;
         let mut height = 0;
         for _turn in 0..tokens.len() {
             let found = self.part(tokens)?;
@@ -219,7 +219,8 @@ impl<
     {
         let members = self.members(tokens)?;
         tokens.advance();
-        let piece = record_piece(union, pos, tag, Some(members.it), body_form(tag));
+        let form = body_form(tag);
+        let piece = record_piece(self.alloc, union, pos, tag, Some(members.it), form)?;
         node(self.limit, piece, members.height)
     }
 
@@ -239,7 +240,7 @@ impl<
             return self.record_body(tokens, union, pos, Some(tag));
         }
         Ok(Found {
-            it: record_piece(union, pos, Some(tag), None, BodyForm::NoBody),
+            it: record_piece(self.alloc, union, pos, Some(tag), None, BodyForm::NoBody)?,
             height: 0,
         })
     }

@@ -1,4 +1,4 @@
-// The law that what is read is spelled.
+//! The law that what is read is spelled.
 #![tactic(auto)]
 
 ghost use Rattle.std.specs.Prelude.{ℕ, List};

@@ -1,4 +1,4 @@
-// The expression that a span of tokens is.
+//! The expression that a span of tokens is.
 
 ghost use Rattle.std.specs.Prelude.{◌≡◌, ◌≤◌, ◌-◌, length, take, drop, IfOk};
 ghost use Rattle.sc_tree.specs.declared.grammar.Level.TheVariants.{Whole};
@@ -6,11 +6,9 @@ ghost use Rattle.sc_tree.specs.Trees.{max_height};
 ghost use Rattle.sc_parse_expr.specs.Reading.{expr_at};
 ghost use Rattle.sc_parse_expr.specs.Spans.{Answers, IsParsed};
 
-use crate::cursor::Cursor;
 use crate::parse::read_expr;
-use crate::stop::Stop;
-use crate::type_names::TypeNames;
 use sc_base::OutOfMemory;
+use sc_parse_front::{Cursor, Stop, TypeNames};
 use sc_tree::expr::Expr;
 use sc_tree::grammar::Level;
 use sc_tree::{Token, Tokens};

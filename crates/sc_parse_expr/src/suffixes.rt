@@ -1,19 +1,17 @@
-// What may stand behind an operand: indices, arguments, fields, `++` and `--` (C11 6.5.2).
+//! What may stand behind an operand: indices, arguments, fields, `++` and `--` (C11 6.5.2).
 
 ghost use Rattle.std.specs.Prelude.{◌≡◌};
-ghost use Rattle.sc_parse_expr.specs.Front.{front, suffix};
+ghost use Rattle.sc_parse_front.specs.Front.{front, suffix};
 ghost use Rattle.sc_parse_expr.specs.Steps.{one_suffix, some_arguments};
 ghost use Rattle.sc_parse_expr.specs.Gives.{Gives};
 ghost use Rattle.sc_parse_expr.specs.Nests.{Nests, below};
 ghost use Rattle.sc_parse_expr.specs.Read.{read};
 ghost use Rattle.sc_parse_expr.specs.Reading as spec;
 
-use crate::cursor::Cursor;
 use crate::found::{Found, Operand, Phrase, Wanted};
 use crate::grammar::Grammar;
-use crate::stop::Stop;
-use crate::type_names::TypeNames;
 use sc_base::{List, Pos};
+use sc_parse_front::{Cursor, Stop, TypeNames, room_for_one};
 use sc_tree::Punct;
 use sc_tree::expr::{Expr, Place};
 use sc_tree::grammar::Level;
@@ -51,7 +49,7 @@ impl<
         requires { Nests self.now.limit (F.pre self.now.inner) (F.post self.now.inner) }
         ensures { Gives (some_arguments self.now.types.now self.now.limit (below self.now.types.now self.now.limit) tokens.old) result tokens.new }
     {
-        let mut all = List::new(self.alloc);
+        let mut all = room_for_one(self.alloc)?;
         let mut height = 0;
         for _turn in 0..tokens.len() {
             let found = self.inner_expr(tokens, Level::Assignment)?;

@@ -1,7 +1,8 @@
-// Small expressions: how operators group, casts and calls, and how high a tree may be.
+//! Small expressions: how operators group, casts and calls, and how high a tree may be.
 
-use crate::{Parsed, TypeNames, expr};
+use crate::{Parsed, expr};
 use sc_base::{List, NameId, OutOfMemory, Pos};
+use sc_parse_front::TypeNames;
 use sc_tree::expr::Expr;
 use sc_tree::op::{AssignOp, BinaryOp};
 use sc_tree::{IntToken, Kind, Punct, Token, Tokens};
@@ -14,7 +15,8 @@ fn word(at: u32) -> Kind {
 
 fn one() -> Kind {
     Kind::Int(IntToken {
-        value: Some(1),
+        value: 1,
+        fits: true,
         decimal: true,
         unsigned: false,
         longs: 0,

@@ -20,7 +20,7 @@ use Rattle.sc_tree.specs.Operators.{Binding, binary, step, assign, field}
 use Rattle.sc_tree.specs.Tokens.{token, word, punct, reserved, is_type}
 use Rattle.sc_tree.specs.Grammar as g
 use Rattle.sc_tree.specs.Grammar.{may_lack, Strings, one_string, more_strings, Spells, Specifies, pieces, Pieces, no_piece, more_pieces, APiece, Declares}
-use Rattle.sc_parse_expr.specs.Front.{punct_of, word_of, reserved_of, front, front_word, front_reserved, behind, is_right_paren, is_left_brace, is_right_brace, is_colon, is_semicolon, is_type_word, begins_piece, begins_type}
+use Rattle.sc_parse_front.specs.Front.{punct_of, word_of, reserved_of, front, front_word, front_reserved, behind, is_right_paren, is_left_brace, is_right_brace, is_colon, is_semicolon, is_type_word, begins_piece, begins_type}
 use Rattle.sc_parse_expr.specs.Laws.{opens_expr, BeginsExpr, BeginsSpecs, opens_declarator, BeginsDeclarator}
 use Rattle.sc_parse_unit.specs.Reading.{begins_designator, label_at, keyword, NoKeyword, marker, NoMarker}
 

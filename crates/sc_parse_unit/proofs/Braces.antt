@@ -3,7 +3,7 @@ use Rattle.std.proofs.Common.{◌≡◌, ℕ, zero, suc, ◌+◌, ◌-◌, ◌�
 use Rattle.sc_tree.specs.declared.token.Token.{Token}
 use Rattle.sc_tree.specs.declared.token.Kind.{Kind}
 use Rattle.sc_tree.specs.Units.{Turn, Opens, Closes, Neither, turn_of, is_empty, closes_by, closes}
-use Rattle.sc_parse_expr.specs.Front.{front_kind, behind}
+use Rattle.sc_parse_front.specs.Front.{front_kind, behind}
 use Rattle.sc_parse_unit.specs.Steps.{is_closing}
 
 closes_turn : (n : ℕ) (ts : List Token) (q : Kind) → front_kind ts ≡ Some q → closes n ts ≡ closes_by (turn_of q) n (λ m. closes m (behind ts)) (is_empty (behind ts))

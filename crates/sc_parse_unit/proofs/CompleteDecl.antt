@@ -15,7 +15,7 @@ use Rattle.sc_tree.specs.declared.grammar.Specified.{Specified}
 use Rattle.sc_tree.specs.Tokens.{punct, first_pos}
 use Rattle.sc_tree.specs.Grammar.{Declares}
 use Rattle.sc_tree.specs.Statements.{AnInitDeclarator, uninitialised, initialised, InitDeclarators, one_declared, more_declared, IsPlain, ADeclaration, without_declarators, with_declarators}
-use Rattle.sc_parse_expr.specs.Front.{front, is_equals}
+use Rattle.sc_parse_front.specs.Front.{front, is_equals}
 use Rattle.sc_parse_expr.specs.Read.{read, commas}
 use Rattle.sc_parse_expr.specs.Reading.{declared, with_item, never}
 use Rattle.sc_parse_expr.specs.Laws.{ends_expr, ends_specs, ends_declarator, BeginsSpecs, BeginsDeclarator}

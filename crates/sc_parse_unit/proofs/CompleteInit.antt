@@ -12,7 +12,7 @@ use Rattle.sc_tree.specs.declared.decl.Designator.{Designator}
 use Rattle.sc_tree.specs.declared.grammar.Level.TheVariants.{Choice, Assignment}
 use Rattle.sc_tree.specs.Tokens.{punct, word}
 use Rattle.sc_tree.specs.Statements.{ADesignator, of_field, of_index, Designates, one_designator, more_designators, Initialises, a_value, empty_braces, in_braces, InitItems, last_item, last_item_with_comma, more_items, AnInitItem, an_item, a_designated}
-use Rattle.sc_parse_expr.specs.Front.{punct_of, front, is_right_brace}
+use Rattle.sc_parse_front.specs.Front.{punct_of, front, is_right_brace}
 use Rattle.sc_parse_expr.specs.Read.{read, Parse, commas}
 use Rattle.sc_parse_expr.specs.Reading.{with_item, parse}
 use Rattle.sc_parse_expr.specs.Laws.{ends_expr}

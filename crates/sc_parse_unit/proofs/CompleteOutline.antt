@@ -7,7 +7,7 @@ use Rattle.sc_tree.specs.declared.token.Kind.{Kind}
 use Rattle.sc_tree.specs.declared.token.Kind.TheVariants as k
 use Rattle.sc_tree.specs.declared.token.Punct.TheVariants as sign
 use Rattle.sc_tree.specs.declared.expr.Head.{Head}
-use Rattle.sc_tree.specs.declared.decl.Decl.{Decl}
+use Rattle.sc_tree.specs.declared.unit.FileDecl.{FileDecl}
 use Rattle.sc_tree.specs.declared.decl.InitDeclarator.{InitDeclarator}
 use Rattle.sc_tree.specs.declared.grammar.Naming.TheVariants as naming
 use Rattle.sc_tree.specs.declared.grammar.Core.TheVariants as core
@@ -16,7 +16,7 @@ use Rattle.sc_tree.specs.Trees.{max_height}
 use Rattle.sc_tree.specs.Units as g
 use Rattle.sc_tree.specs.Units.{with_declared, AFileDeclarator, FileDeclarators, AFileDeclaration, AFunctionHead, a_function_head, is_brace, is_braced, is_empty, closes, IsDeclaration, IsFunction}
 use Rattle.sc_parse_expr.specs.declared.found.Declared.{Declared}
-use Rattle.sc_parse_expr.specs.Front.{front, behind, is_left_brace, is_comma}
+use Rattle.sc_parse_front.specs.Front.{front, behind, is_left_brace, is_comma}
 use Rattle.sc_parse_expr.specs.Read.{Read, read, Parse}
 use Rattle.sc_parse_expr.specs.Reading.{declarator_at, declared}
 use Rattle.sc_parse_expr.specs.Laws.{ends_declarator, BeginsDeclarator}
@@ -163,7 +163,7 @@ module _ (known : (types : List NameId) (limit : ℕ) → below.IsComplete types
 
   -- ---- segments before their bodies
 
-  declaration_spelled : {types behind : List NameId} {h : ℕ} {x : Decl} {ts : List Token} → AFileDeclaration types behind h x ts → h ≤ max_height
+  declaration_spelled : {types behind : List NameId} {h : ℕ} {x : FileDecl} {ts : List Token} → AFileDeclaration types behind h x ts → h ≤ max_height
       → outline_of types ts ≡ Some (outlined (outline.Decl x) behind [])
   unfolding outline_of specified first_declared ended
   declaration_spelled (g.empty types p) low = refl
@@ -186,7 +186,7 @@ module _ (known : (types : List NameId) (limit : ℕ) → below.IsComplete types
         one.whole,
       ) refl
 
-  pub declaration_outlined : (types : List NameId) (ts : List Token) (behind : List NameId) (x : Decl) → IsDeclaration types behind ts x → outline_of types ts ≡ Some (outlined (outline.Decl x) behind [])
+  pub declaration_outlined : (types : List NameId) (ts : List Token) (behind : List NameId) (x : FileDecl) → IsDeclaration types behind ts x → outline_of types ts ≡ Some (outlined (outline.Decl x) behind [])
   declaration_outlined types ts behind x d = declaration_spelled d.spelled d.low
 
   head_spelled : {types : List NameId} {h : ℕ} {x : Head} {s : List Token} → AFunctionHead types h x s → h ≤ max_height → (inside : List Token) → is_braced inside ≡ true

@@ -20,8 +20,8 @@ use Rattle.sc_tree.specs.declared.grammar.Level.TheVariants.{Choice, Whole}
 use Rattle.sc_tree.specs.Tokens.{punct, word, reserved, first_pos}
 use Rattle.sc_tree.specs.Grammar.{Spells}
 use Rattle.sc_tree.specs.Statements as g
-use Rattle.sc_tree.specs.Statements.{ADeclaration, AtMost, left_out, there, Starts, with_nothing, with_expr, with_declaration, States, Items, AnItem}
-use Rattle.sc_parse_expr.specs.Front.{punct_of, word_of, reserved_of, front, front_reserved, is_right_brace, is_right_paren, is_semicolon, begins_piece, is_type_word, begins_type}
+use Rattle.sc_tree.specs.Statements.{ADeclaration, for_head, AtMost, left_out, there, Starts, with_nothing, with_expr, with_declaration, States, Items, AnItem}
+use Rattle.sc_parse_front.specs.Front.{punct_of, word_of, reserved_of, front, front_reserved, is_right_brace, is_right_paren, is_semicolon, begins_piece, is_type_word, begins_type}
 use Rattle.sc_parse_expr.specs.Read.{Read, read, Parse, node, many}
 use Rattle.sc_parse_expr.specs.Reading.{with_item}
 use Rattle.sc_parse_expr.specs.Laws.{opens_expr, ends_expr, BeginsExpr, BeginsSpecs}
@@ -296,7 +296,7 @@ module _ (types : List NameId) (known : (limit : ℕ) → below.IsComplete types
       )
       (node_is limit out (max h m) rest (omega arith)))
   state_read (g.a_for {b = b} {h = h} {k = j} {m = m} {n = n} {f = f} {c = c} {e = e} {x = x} {s = s} {r = r} {u = u} {v = v} p q o w df dc de y) low rest closed =
-      let out = stmt.For f c e x p in
+      let out = stmt.For (for_head f c e) x p in
       let inside = u ++ punct sign.RightParen w ∷ v in
       let two = punct sign.Semicolon o ∷ (u ++ punct sign.RightParen w ∷ (v ++ rest)) in
       worded key.For p (punct sign.LeftParen q ∷ ((s ++ (r ++ punct sign.Semicolon o ∷ inside)) ++ rest)) (Some (read out (suc (max h (max j (max m n)))) rest))

@@ -6,7 +6,7 @@ use Rattle.sc_base.specs.declared.pos.NameId.{NameId}
 use Rattle.sc_base.specs.declared.skip.Skip.TheVariants.{Grammar}
 use Rattle.sc_tree.specs.declared.token.Token.{Token}
 use Rattle.sc_tree.specs.declared.expr.Head.{Head}
-use Rattle.sc_tree.specs.declared.decl.Decl.{Decl}
+use Rattle.sc_tree.specs.declared.unit.FileDecl.{FileDecl}
 use Rattle.sc_tree.specs.declared.stmt.Stmt.{Stmt}
 use Rattle.sc_tree.specs.declared.unit.Segment.{Segment}
 use Rattle.sc_tree.specs.declared.unit.Segment.TheVariants as segment
@@ -18,7 +18,7 @@ use Rattle.sc_tree.specs.Statements as g
 use Rattle.sc_tree.specs.Statements.{States}
 use Rattle.sc_tree.specs.Units as units
 use Rattle.sc_tree.specs.Units.{is_empty, is_braced, IsBlock, IsDeclaration, IsFunction, Fits, AllFit}
-use Rattle.sc_parse_expr.specs.Front.{front, is_left_brace}
+use Rattle.sc_parse_front.specs.Front.{front, is_left_brace}
 use Rattle.sc_parse_expr.specs.Read.{Read, read}
 use Rattle.sc_parse_unit.specs.declared.found.Outline.{Outline}
 use Rattle.sc_parse_unit.specs.declared.found.Outline.TheVariants as outline
@@ -128,12 +128,12 @@ segment_fits types ts (Some o) e = outline_fits types ts o.it o.types o.inside (
 abbrev Gives : Segmented → Segment → List NameId → Type 0
 Gives s x us = (x ≡ s.it) × (us ≡ s.types)
 
-no_outline : (types : List NameId) (ts : List Token) → ((us : List NameId) (x : Decl) → IsDeclaration types us ts x → ⊥) → ((x : Head) (inside : List Token) → IsFunction types ts x inside → ⊥)
+no_outline : (types : List NameId) (ts : List Token) → ((us : List NameId) (x : FileDecl) → IsDeclaration types us ts x → ⊥) → ((x : Head) (inside : List Token) → IsFunction types ts x inside → ⊥)
     → (x : Outline) (us : List NameId) (inside : List Token) → Outlines types ts x us inside → ⊥
 no_outline types ts no_declaration no_function (outline.Decl x) us inside d = no_declaration us x d
 no_outline types ts no_declaration no_function (outline.Function x) us inside f = no_function x inside f.0
 
-skipped_gives : (types : List NameId) (ts : List Token) → ((us : List NameId) (x : Decl) → IsDeclaration types us ts x → ⊥) → ((x : Head) (inside : List Token) → IsFunction types ts x inside → ⊥)
+skipped_gives : (types : List NameId) (ts : List Token) → ((us : List NameId) (x : FileDecl) → IsDeclaration types us ts x → ⊥) → ((x : Head) (inside : List Token) → IsFunction types ts x inside → ⊥)
     → (o : Option Outlined) → outline_of types ts ≡ o → Gives (segment_by types ts o) (segment.Skipped (Grammar (first_pos ts))) types
 unfolding segment_by
 skipped_gives types ts no_declaration no_function None e = (refl, refl)

@@ -3,7 +3,7 @@ use Rattle.std.proofs.Common.{◌≡◌, ℕ, ◌≤◌, Bool, true, List, [], �
 use Rattle.std.proofs.lemmas.List.{append-nil}
 use Rattle.sc_tree.specs.declared.token.Token.{Token}
 use Rattle.sc_tree.specs.declared.token.Punct.{Punct}
-use Rattle.sc_parse_expr.specs.Front.{front}
+use Rattle.sc_parse_front.specs.Front.{front}
 use Rattle.sc_parse_expr.specs.Read.{Read, Parse, Listed, commas, many}
 use Rattle.sc_parse_expr.specs.Reading.{with_item, never}
 use Rattle.sc_parse_expr.proofs.Tools.{Splits}

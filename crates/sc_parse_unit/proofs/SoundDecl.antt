@@ -17,7 +17,7 @@ use Rattle.sc_tree.specs.declared.grammar.Specified.{Specified}
 use Rattle.sc_tree.specs.Tokens.{punct, first_pos}
 use Rattle.sc_tree.specs.Statements.{Initialises, AnInitDeclarator, uninitialised, initialised, InitDeclarators, one_declared, more_declared, IsPlain, declaration, ADeclaration, without_declarators, with_declarators}
 use Rattle.sc_parse_expr.specs.declared.found.Declared.{Declared}
-use Rattle.sc_parse_expr.specs.Front.{front, behind, is_equals, is_semicolon}
+use Rattle.sc_parse_front.specs.Front.{front, behind, is_equals, is_semicolon}
 use Rattle.sc_parse_expr.specs.Read.{Read, read, taking, commas}
 use Rattle.sc_parse_expr.specs.Reading.{specs_at, declarator_at, with_item, never}
 use Rattle.sc_parse_expr.specs.Laws as lower

@@ -15,7 +15,7 @@ use Rattle.sc_tree.specs.declared.grammar.Level.TheVariants.{Choice, Assignment}
 use Rattle.sc_tree.specs.Tables.{◌>>=◌}
 use Rattle.sc_tree.specs.Tokens.{punct, first_pos}
 use Rattle.sc_tree.specs.Statements.{ADesignator, of_field, of_index, Designates, one_designator, more_designators, a_value, empty_braces, in_braces, InitItems, last_item, last_item_with_comma, more_items, AnInitItem, an_item, a_designated}
-use Rattle.sc_parse_expr.specs.Front.{front, front_word, behind, is_left_brace, is_right_brace, is_right_bracket, is_equals}
+use Rattle.sc_parse_front.specs.Front.{front, front_word, behind, is_left_brace, is_right_brace, is_right_bracket, is_equals}
 use Rattle.sc_parse_expr.specs.Read.{Read, read, Parse, node, taking, commas, many}
 use Rattle.sc_parse_expr.specs.Reading.{expr_at, with_item}
 use Rattle.sc_parse_expr.specs.Laws as lower

@@ -18,9 +18,10 @@ use Rattle.sc_tree.specs.Trees.{max_height}
 use Rattle.sc_tree.specs.Grammar.{Declares}
 use Rattle.sc_tree.specs.Statements.{declaration}
 use Rattle.sc_tree.specs.Units as units
-use Rattle.sc_tree.specs.Units.{with_declared, AFileDeclarator, FileDeclarators, AFileDeclaration, AFunctionHead, a_function_head, empty_declaration, is_empty, is_braced}
+use Rattle.sc_tree.specs.declared.unit.FileDecl.TheVariants as file
+use Rattle.sc_tree.specs.Units.{with_declared, AFileDeclarator, FileDeclarators, AFileDeclaration, AFunctionHead, a_function_head, is_empty, is_braced}
 use Rattle.sc_parse_expr.specs.declared.found.Declared.{Declared}
-use Rattle.sc_parse_expr.specs.Front.{front, behind, is_comma, is_semicolon, is_left_brace}
+use Rattle.sc_parse_front.specs.Front.{front, behind, is_comma, is_semicolon, is_left_brace}
 use Rattle.sc_parse_expr.specs.Read.{Read, read, Parse, taking}
 use Rattle.sc_parse_expr.specs.Reading.{specs_at, declarator_at, with_item}
 use Rattle.sc_parse_expr.specs.Laws as lower
@@ -126,12 +127,12 @@ module _ (exprs : (types : List NameId) (limit : ℕ) → lower.IsSound types li
       let close = taken is_semicolon sign.Semicolon semicolon xs.rest c.value c.is in
       let all = all_taken ts _ c.value (glue before (glue t.split close)) e.0 in
       let parts = subst (λ ys. FileDeclarators f.it.typedef types xs.it.types t.height ys t.span) (sym t.whole) t.spelled in
-      let spelled = subst (λ (p : Pos). AFileDeclaration types xs.it.types (max f.height t.height) (declaration p f.it xs.it.parts) (w.span ++ (t.span ++ punct sign.Semicolon (first_pos xs.rest) ∷ []))) (cut_begins before (specs_begin types w.spelled))
+      let spelled = subst (λ (p : Pos). AFileDeclaration types xs.it.types (max f.height t.height) (file.Full (declaration p f.it xs.it.parts)) (w.span ++ (t.span ++ punct sign.Semicolon (first_pos xs.rest) ∷ []))) (cut_begins before (specs_begin types w.spelled))
       (units.full (first_pos xs.rest) w.spelled parts) in
       let a = w.low in
       let b = t.low in
-      given (Good types ts) (outlined (outline.Decl (declaration (first_pos ts) f.it xs.it.parts)) xs.it.types []) o e.1
-      (record { height = max f.height t.height; low = omega arith; spelled = subst (λ (us : List Token). AFileDeclaration types xs.it.types (max f.height t.height) (declaration (first_pos ts) f.it xs.it.parts) us) all spelled })
+      given (Good types ts) (outlined (outline.Decl (file.Full (declaration (first_pos ts) f.it xs.it.parts))) xs.it.types []) o e.1
+      (record { height = max f.height t.height; low = omega arith; spelled = subst (λ (us : List Token). AFileDeclaration types xs.it.types (max f.height t.height) (file.Full (declaration (first_pos ts) f.it xs.it.parts)) us) all spelled })
 
   head_took : (types : List NameId) (ts : List Token) (f : Read Specified) → lower.TakesSpecs types max_height ts f → (t : Read Declared) → lower.TakesDeclarator types max_height naming.Required f.rest t
       → (o : Outlined) → function_head types (first_pos ts) f t ≡ Some o → Good types ts o
@@ -160,14 +161,14 @@ module _ (exprs : (types : List NameId) (limit : ℕ) → lower.IsSound types li
       (if_is (is_left_brace (front t.rest)) _ _ (Some o) is)
 
   bare_took : (types : List NameId) (ts : List Token) (f : Read Specified) → lower.TakesSpecs types max_height ts f → is_semicolon (front f.rest) ≡ true
-      → (o : Outlined) → (if is_empty (behind f.rest) then Some (outlined (outline.Decl (declaration (first_pos ts) f.it [])) types []) else None) ≡ Some o → Good types ts o
+      → (o : Outlined) → (if is_empty (behind f.rest) then Some (outlined (outline.Decl (file.Full (declaration (first_pos ts) f.it []))) types []) else None) ≡ Some o → Good types ts o
   bare_took types ts f w ends o is =
       let e = test_is (is_empty (behind f.rest)) _ o is in
       let before : Splits ts w.span f.rest = record { is = w.split } in
       let all = all_taken ts _ (behind f.rest) (glue before (front_is f.rest sign.Semicolon (semicolon (front f.rest) ends))) e.0 in
-      let spelled = subst (λ (p : Pos). AFileDeclaration types types f.height (declaration p f.it []) (w.span ++ punct sign.Semicolon (first_pos f.rest) ∷ [])) (cut_begins before (specs_begin types w.spelled)) (units.bare (first_pos f.rest) w.spelled) in
-      given (Good types ts) (outlined (outline.Decl (declaration (first_pos ts) f.it [])) types []) o e.1
-      (record { height = f.height; low = w.low; spelled = subst (λ (us : List Token). AFileDeclaration types types f.height (declaration (first_pos ts) f.it []) us) all spelled })
+      let spelled = subst (λ (p : Pos). AFileDeclaration types types f.height (file.Full (declaration p f.it [])) (w.span ++ punct sign.Semicolon (first_pos f.rest) ∷ [])) (cut_begins before (specs_begin types w.spelled)) (units.bare (first_pos f.rest) w.spelled) in
+      given (Good types ts) (outlined (outline.Decl (file.Full (declaration (first_pos ts) f.it []))) types []) o e.1
+      (record { height = f.height; low = w.low; spelled = subst (λ (us : List Token). AFileDeclaration types types f.height (file.Full (declaration (first_pos ts) f.it [])) us) all spelled })
 
   specified_took : (types : List NameId) (ts : List Token) (f : Read Specified) → lower.TakesSpecs types max_height ts f → (o : Outlined) → specified types (first_pos ts) f ≡ Some o → Good types ts o
   unfolding specified
@@ -177,16 +178,16 @@ module _ (exprs : (types : List NameId) (limit : ℕ) → lower.IsSound types li
       first_took types ts f w t.value ((exprs types max_height).declarator naming.Required f.rest t.value t.is) o t.gives)
       (if_is (is_semicolon (front f.rest)) _ _ (Some o) is)
 
-  lone_took : (types : List NameId) (ts : List Token) → is_lone_semicolon ts ≡ true → Good types ts (outlined (outline.Decl (empty_declaration (first_pos ts))) types [])
+  lone_took : (types : List NameId) (ts : List Token) → is_lone_semicolon ts ≡ true → Good types ts (outlined (outline.Decl (file.Empty (first_pos ts))) types [])
   lone_took types ts lone =
       let b = and_parts (is_semicolon (front ts)) (is_empty (behind ts)) lone in
       let all = all_taken ts _ (behind ts) (front_is ts sign.Semicolon (semicolon (front ts) b.0)) b.1 in
-      record { height = 0; low = omega arith; spelled = subst (λ (us : List Token). AFileDeclaration types types 0 (empty_declaration (first_pos ts)) us) all (units.empty types (first_pos ts)) }
+      record { height = 0; low = omega arith; spelled = subst (λ (us : List Token). AFileDeclaration types types 0 (file.Empty (first_pos ts)) us) all (units.empty types (first_pos ts)) }
 
   pub outline_took : (types : List NameId) (ts : List Token) (o : Outlined) → outline_of types ts ≡ Some o → Outlines types ts o.it o.types o.inside
   unfolding outline_of
   outline_took types ts o is = ⊎_elim
-      (λ a. given (Good types ts) (outlined (outline.Decl (empty_declaration (first_pos ts))) types []) o a.1 (lone_took types ts a.0))
+      (λ a. given (Good types ts) (outlined (outline.Decl (file.Empty (first_pos ts))) types []) o a.1 (lone_took types ts a.0))
       (λ a. let f = bind_some (specs_at types max_height ts) (specified types (first_pos ts)) o a.1 in
       specified_took types ts f.value ((exprs types max_height).specs ts f.value f.is) o f.gives)
       (if_is (is_lone_semicolon ts) _ _ (Some o) is)

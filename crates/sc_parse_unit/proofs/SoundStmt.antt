@@ -19,8 +19,8 @@ use Rattle.sc_tree.specs.Tables.{◌>>=◌}
 use Rattle.sc_tree.specs.Tokens.{word, punct, reserved, first_pos}
 use Rattle.sc_tree.specs.Grammar.{Spells}
 use Rattle.sc_tree.specs.Statements as g
-use Rattle.sc_tree.specs.Statements.{ADeclaration, AtMost, left_out, there, Starts, with_nothing, with_expr, with_declaration, States, AnItem, a_statement, a_declared, a_case, a_default}
-use Rattle.sc_parse_expr.specs.Front.{front, front_word, front_reserved, behind, is_left_paren, is_right_paren, is_left_brace, is_right_brace, is_colon, is_semicolon, begins_type}
+use Rattle.sc_tree.specs.Statements.{ADeclaration, for_head, AtMost, left_out, there, Starts, with_nothing, with_expr, with_declaration, States, AnItem, a_statement, a_declared, a_case, a_default}
+use Rattle.sc_parse_front.specs.Front.{front, front_word, front_reserved, behind, is_left_paren, is_right_paren, is_left_brace, is_right_brace, is_colon, is_semicolon, begins_type}
 use Rattle.sc_parse_expr.specs.Read.{Read, read, Parse, node, taking}
 use Rattle.sc_parse_expr.specs.Reading.{expr_at}
 use Rattle.sc_parse_expr.specs.Laws as lower
@@ -259,14 +259,14 @@ module _ (types : List NameId) (below : ℕ) (inner : Parse Stmt) (exprs : lower
 
   for_end_took : (ts us vs : List Token) (f : Read ForStart) (c e : Read (Option Expr)) → One ts (reserved key.For (first_pos ts)) (behind ts) → One (behind ts) (punct sign.LeftParen (first_pos (behind ts))) us
       → TookStart types below us f → TookAtMost types below f.rest c → One c.rest (punct sign.Semicolon (first_pos c.rest)) vs → TookAtMost types below vs e → (x : Read Stmt)
-      → (taking is_right_paren e.rest >>= λ closed. inner closed >>= λ y. node (suc below) (stmt.For f.it c.it e.it y.it (first_pos ts)) (max f.height (max c.height (max e.height y.height))) y.rest) ≡ Some x
+      → (taking is_right_paren e.rest >>= λ closed. inner closed >>= λ y. node (suc below) (stmt.For (for_head f.it c.it e.it) y.it (first_pos ts)) (max f.height (max c.height (max e.height y.height))) y.rest) ≡ Some x
       → TakesStmt types (suc below) ts x
   for_end_took ts us vs f c e k opens s a middle b x is =
       let q = bind_some (taking is_right_paren e.rest) _ x is in
       let y = bind_some (inner q.value) _ x q.gives in
       let closes = taken is_right_paren sign.RightParen right_paren e.rest q.value q.is in
       let w = parts q.value y.value y.is in
-      made w.is_open ts (stmt.For f.it c.it e.it y.value.it (first_pos ts)) (max f.height (max c.height (max e.height y.value.height))) y.value.rest x y.gives
+      made w.is_open ts (stmt.For (for_head f.it c.it e.it) y.value.it (first_pos ts)) (max f.height (max c.height (max e.height y.value.height))) y.value.rest x y.gives
       (glue k (glue opens (glue s.split (glue a.split (glue middle (glue b.split (glue closes (record { is = w.split }))))))))
       (g.a_for (first_pos ts) (first_pos (behind ts)) (first_pos c.rest) (first_pos e.rest) s.spelled a.spelled b.spelled w.spelled) w.closed
 

@@ -6,7 +6,7 @@ use Rattle.sc_tree.specs.declared.token.Punct.{Punct}
 use Rattle.sc_tree.specs.declared.decl.Designator.{Designator}
 use Rattle.sc_tree.specs.declared.stmt.Stmt.{Stmt}
 use Rattle.sc_tree.specs.Tables.{◌>>=◌}
-use Rattle.sc_parse_expr.specs.Front.{is_right_brace}
+use Rattle.sc_parse_front.specs.Front.{is_right_brace}
 use Rattle.sc_parse_expr.specs.Read.{read, Parse, many}
 use Rattle.sc_parse_expr.specs.Reading.{with_item}
 use Rattle.sc_parse_unit.specs.Nests.{inner_init, inner_stmt}

@@ -6,13 +6,14 @@ use Rattle.sc_tree.specs.declared.decl.Init.{Init}
 use Rattle.sc_tree.specs.declared.decl.Decl.{Decl}
 use Rattle.sc_tree.specs.declared.stmt.Stmt.{Stmt}
 use Rattle.sc_tree.specs.declared.unit.Segment.{Segment}
+use Rattle.sc_tree.specs.declared.unit.FileDecl.{FileDecl}
 use Rattle.sc_tree.specs.declared.grammar.Level.TheVariants.{Assignment}
 use Rattle.sc_tree.specs.Statements.{Initialises, ADeclaration, States}
 use Rattle.sc_tree.specs.declared.expr.Head.{Head}
 use Rattle.sc_tree.specs.Units.{Fits, AllFit, IsDeclaration, IsFunction}
 use Rattle.sc_parse_unit.specs.declared.found.Outline.{Outline}
 use Rattle.sc_parse_unit.specs.declared.found.Outline.TheVariants as outline
-use Rattle.sc_parse_expr.specs.Front.{front_reserved}
+use Rattle.sc_parse_front.specs.Front.{front_reserved}
 use Rattle.sc_parse_expr.specs.Read.{Read, read}
 use Rattle.sc_parse_expr.specs.Laws.{ends_expr}
 use Rattle.sc_parse_unit.specs.Reading.{initialiser, body_declaration, is_else, statement, Outlined, outlined, outline_of, segment_of, segments_of}
@@ -64,7 +65,7 @@ Outlines types ts (outline.Function x) behind inside = IsFunction types ts x ins
 -- what a segment is read as before its body, it is; and what it is, it is read as
 pub record IsOutline (types : List NameId) (ts : List Token) : Type 0 where
   pub sound : (o : Outlined) → outline_of types ts ≡ Some o → Outlines types ts o.it o.types o.inside
-  pub declaration : (behind : List NameId) (x : Decl) → IsDeclaration types behind ts x → outline_of types ts ≡ Some (outlined (outline.Decl x) behind [])
+  pub declaration : (behind : List NameId) (x : FileDecl) → IsDeclaration types behind ts x → outline_of types ts ≡ Some (outlined (outline.Decl x) behind [])
   pub function : (x : Head) (inside : List Token) → IsFunction types ts x inside → outline_of types ts ≡ Some (outlined (outline.Function x) types inside)
 
 -- what a segment is read as, it is; and it is nothing else

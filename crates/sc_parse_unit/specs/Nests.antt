@@ -10,7 +10,7 @@ use Rattle.sc_tree.specs.declared.stmt.Stmt.{Stmt}
 use Rattle.sc_tree.specs.declared.grammar.Level.TheVariants.{Whole}
 use Rattle.sc_tree.specs.Tables.{◌>>=◌}
 use Rattle.sc_parse_expr.specs.declared.found.Found.{Found}
-use Rattle.sc_parse_expr.specs.declared.stop.Stop.{Stop}
+use Rattle.sc_parse_front.specs.declared.stop.Stop.{Stop}
 use Rattle.sc_parse_expr.specs.Read.{Parse, read}
 use Rattle.sc_parse_expr.specs.Reading.{expr_at}
 use Rattle.sc_parse_expr.specs.Gives.{Gives}

@@ -23,6 +23,7 @@ use Rattle.sc_tree.specs.declared.stmt.Stmt.{Stmt}
 use Rattle.sc_tree.specs.declared.stmt.Stmt.TheVariants as stmt
 use Rattle.sc_tree.specs.declared.stmt.ForStart.{ForStart}
 use Rattle.sc_tree.specs.declared.stmt.ForStart.TheVariants as first
+use Rattle.sc_tree.specs.declared.unit.FileDecl.TheVariants as file
 use Rattle.sc_tree.specs.declared.unit.Segment.{Segment}
 use Rattle.sc_tree.specs.declared.unit.Segment.TheVariants as segment
 use Rattle.sc_tree.specs.declared.unit.Body.{Body}
@@ -36,11 +37,11 @@ use Rattle.sc_tree.specs.declared.grammar.BodyForm.TheVariants as form
 use Rattle.sc_tree.specs.declared.grammar.Specified.{Specified}
 use Rattle.sc_tree.specs.Tables.{◌>>=◌}
 use Rattle.sc_tree.specs.Tokens.{first_pos}
-use Rattle.sc_tree.specs.Statements.{declaration}
+use Rattle.sc_tree.specs.Statements.{declaration, for_head}
 use Rattle.sc_tree.specs.Trees.{max_height}
-use Rattle.sc_tree.specs.Units.{with_declared, empty_declaration, is_braced, is_empty}
+use Rattle.sc_tree.specs.Units.{with_declared, is_braced, is_empty}
 use Rattle.sc_parse_expr.specs.declared.found.Declared.{Declared}
-use Rattle.sc_parse_expr.specs.Front.{front, front_word, front_reserved, behind, is_left_paren, is_right_paren, is_left_bracket, is_right_bracket, is_left_brace, is_right_brace, is_comma, is_colon, is_semicolon, is_equals, begins_type}
+use Rattle.sc_parse_front.specs.Front.{front, front_word, front_reserved, behind, is_left_paren, is_right_paren, is_left_bracket, is_right_bracket, is_left_brace, is_right_brace, is_comma, is_colon, is_semicolon, is_equals, begins_type}
 use Rattle.sc_parse_expr.specs.Read.{Read, read, Parse, node, taking, commas, many}
 use Rattle.sc_parse_expr.specs.Reading.{expr_at, specs_at, declarator_at, with_item, never}
 use Rattle.sc_parse_unit.specs.declared.found.Outline.{Outline}
@@ -253,7 +254,7 @@ module _ (types : List NameId) (below : ℕ) (inner : Parse Stmt) where
   -- behind the second `;` of a `for`
   unfoldable pub for_last : Pos → Read ForStart → Read (Option Expr) → Parse Stmt
   for_last p f c ts = at_most is_right_paren ts >>= λ e. taking is_right_paren e.rest >>= λ closed. inner closed >>= λ x.
-      made (stmt.For f.it c.it e.it x.it p) (max f.height (max c.height (max e.height x.height))) x.rest
+      made (stmt.For (for_head f.it c.it e.it) x.it p) (max f.height (max c.height (max e.height x.height))) x.rest
 
   -- behind what stands in the first place of a `for`
   unfoldable pub for_rest : Pos → Read ForStart → Option (Read Stmt)
@@ -369,7 +370,7 @@ abbrev pub outlined : Outline → List NameId → List Token → Outlined
 outlined x types inside = record { it = x; types = types; inside = inside }
 
 unfoldable pub ended : Pos → Read Specified → Read FileParts → Option Outlined
-ended p f xs = taking is_semicolon xs.rest >>= λ rest. if is_empty rest then Some (outlined (outline.Decl (declaration p f.it xs.it.parts)) xs.it.types []) else None
+ended p f xs = taking is_semicolon xs.rest >>= λ rest. if is_empty rest then Some (outlined (outline.Decl (file.Full (declaration p f.it xs.it.parts))) xs.it.types []) else None
 
 abbrev pub is_function : Core → Bool
 is_function (core.Function w true) = true
@@ -388,14 +389,14 @@ first_declared types p f t = if is_left_brace (front t.rest) then function_head 
 
 unfoldable pub specified : List NameId → Pos → Read Specified → Option Outlined
 specified types p f = if is_semicolon (front f.rest)
-    then (if is_empty (behind f.rest) then Some (outlined (outline.Decl (declaration p f.it [])) types []) else None)
+    then (if is_empty (behind f.rest) then Some (outlined (outline.Decl (file.Full (declaration p f.it []))) types []) else None)
     else (declarator_at types max_height naming.Required f.rest >>= first_declared types p f)
 
 abbrev pub is_lone_semicolon : List Token → Bool
 is_lone_semicolon ts = is_semicolon (front ts) && is_empty (behind ts)
 
 unfoldable pub outline_of : List NameId → List Token → Option Outlined
-outline_of types ts = if is_lone_semicolon ts then Some (outlined (outline.Decl (empty_declaration (first_pos ts))) types [])
+outline_of types ts = if is_lone_semicolon ts then Some (outlined (outline.Decl (file.Empty (first_pos ts))) types [])
     else (specs_at types max_height ts >>= specified types (first_pos ts))
 
 abbrev pub body_by : List Token → Option (Read Stmt) → Body

@@ -7,9 +7,9 @@ use Rattle.sc_tree.specs.declared.decl.Init.{Init}
 use Rattle.sc_tree.specs.declared.decl.InitDeclarator.{InitDeclarator}
 use Rattle.sc_tree.specs.Tables.{◌>>=◌}
 use Rattle.sc_tree.specs.Units.{Turn, Opens, Closes}
-use Rattle.sc_parse_expr.specs.declared.stop.Stop.{Stop}
-use Rattle.sc_parse_expr.specs.declared.stop.Stop.TheVariants.{Memory, Not}
-use Rattle.sc_parse_expr.specs.Front.{is_right_brace}
+use Rattle.sc_parse_front.specs.declared.stop.Stop.{Stop}
+use Rattle.sc_parse_front.specs.declared.stop.Stop.TheVariants.{Memory, Not}
+use Rattle.sc_parse_front.specs.Front.{is_right_brace}
 use Rattle.sc_parse_expr.specs.Read.{read, Parse, commas}
 use Rattle.sc_parse_expr.specs.Reading.{with_item, never}
 use Rattle.sc_parse_unit.specs.declared.found.Outline.{Outline}

@@ -1,16 +1,17 @@
-// Blocks and `switch`, with the items between their braces (C11 6.8.1, 6.8.2, 6.8.4.2).
+//! Blocks, and the items between the braces of a block or a `switch` (C11 6.8.1, 6.8.2).
 
 ghost use Rattle.std.specs.Prelude.{◌≡◌, ◌-◌};
 ghost use Rattle.sc_parse_expr.specs.Gives.{Gives};
-ghost use Rattle.sc_parse_expr.specs.Front.{front_reserved};
+ghost use Rattle.sc_parse_front.specs.Front.{front_reserved};
 ghost use Rattle.sc_parse_unit.specs.Nests.{Nests, inner_stmt};
 ghost use Rattle.sc_parse_unit.specs.Reading as spec;
 
 use crate::declarations::read_declaration;
 use crate::fronts;
 use crate::parts::Statements;
-use sc_base::{Boxed, List, Pos};
-use sc_parse_expr::{Cursor, Found, Stop, TypeNames, node, read_expr};
+use sc_base::{Boxed, List};
+use sc_parse_expr::{Found, node, read_expr};
+use sc_parse_front::{Cursor, Stop, TypeNames};
 use sc_tree::Reserved;
 use sc_tree::grammar::Level;
 use sc_tree::stmt::Stmt;
@@ -28,7 +29,7 @@ impl<
     {
         let pos = tokens.first_pos();
         let found = read_declaration(self.alloc, self.types, tokens, self.limit - 1)?;
-        let stmt = Stmt::Decl(found.it.into_inner(), pos);
+        let stmt = Stmt::Decl(found.it, pos);
         node(self.limit - 1, Boxed::new(self.alloc, stmt)?, found.height)
     }
 
@@ -47,7 +48,7 @@ impl<
             Level::Choice,
         )?;
         tokens.pass_colon()?;
-        let stmt = Stmt::Case(found.it.tree.into_inner(), pos);
+        let stmt = Stmt::Case(found.it.tree, pos);
         Ok(Found {
             it: Boxed::new(self.alloc, stmt)?,
             height: found.height,
@@ -108,7 +109,11 @@ impl<
     }
 
     /// All items up to the closing brace, which is left.
-    fn items(&self, tokens: &mut Cursor<'_>, switch: bool) -> Result<Found<List<Stmt>>, Stop>
+    pub(crate) fn items(
+        &self,
+        tokens: &mut Cursor<'_>,
+        switch: bool,
+    ) -> Result<Found<List<Stmt>>, Stop>
         requires { Nests spec.statement self.now.limit (F.pre self.now.inner) (F.post self.now.inner) }
         ensures { Gives (spec.items self.now.types.now (self.now.limit - 1) (inner_stmt self.now.types.now self.now.limit) switch tokens.old) result tokens.new }
     {
@@ -139,25 +144,5 @@ impl<
         let closed = tokens.first_pos();
         tokens.advance();
         self.made(Stmt::Block(items.it, opened, closed), items.height)
-    }
-
-    /// Behind `switch`.
-    #[tactic(auto, unfolding(crate::specs::Reading::a_switch))]
-    pub(crate) fn a_switch(
-        &self,
-        tokens: &mut Cursor<'_>,
-        pos: Pos,
-    ) -> Result<Found<Boxed<Stmt>>, Stop>
-        requires { Nests spec.statement self.now.limit (F.pre self.now.inner) (F.post self.now.inner) }
-        ensures { Gives (spec.a_switch self.now.types.now (self.now.limit - 1) (inner_stmt self.now.types.now self.now.limit) pos tokens.old) result tokens.new }
-    {
-        let test = self.condition(tokens)?;
-        fronts::pass_left_brace(tokens)?;
-        let items = self.items(tokens, true)?;
-        let closed = tokens.first_pos();
-        tokens.advance();
-        let height = test.height.max(items.height);
-        let stmt = Stmt::Switch(test.it.into_inner(), items.it, pos, closed);
-        self.made(stmt, height)
     }
 }

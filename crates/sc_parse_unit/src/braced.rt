@@ -1,10 +1,10 @@
-// Whether tokens stand in braces.
+//! Whether tokens stand in braces.
 
 ghost use Rattle.std.specs.Prelude.{◌≡◌};
 ghost use Rattle.sc_tree.specs.Units.{is_braced, turn_of};
 ghost use Rattle.sc_parse_unit.specs.Steps.{is_closing, is_opening};
 
-use sc_parse_expr::Cursor;
+use sc_parse_front::Cursor;
 use sc_tree::{Kind, Punct};
 
 /// Whether a token opens a bracket.

@@ -1,5 +1,5 @@
-// Laws of the reading: what the grammar spells is read, no tokens spell two trees, and each segment of a
-// file fits one tree alone.
+//! Laws of the reading: what the grammar spells is read, no tokens spell two trees, and each segment of a
+//! file fits one tree alone.
 #![tactic(auto)]
 
 ghost use Rattle.std.specs.Prelude.{◌≡◌, ℕ, Bool, List};

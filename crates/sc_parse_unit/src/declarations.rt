@@ -1,4 +1,4 @@
-// Declarations in a body (C11 6.7).
+//! Declarations in a body (C11 6.7).
 
 ghost use Rattle.std.specs.Prelude.{◌≡◌, IfOk};
 ghost use Rattle.sc_tree.specs.Statements.{declaration};
@@ -9,7 +9,8 @@ ghost use Rattle.sc_parse_unit.specs.Reading as spec;
 
 use crate::initialisers::read_initialiser;
 use sc_base::{Boxed, List, OutOfMemory, Pos};
-use sc_parse_expr::{Cursor, Declared, Found, Stop, TypeNames, read_declarator, read_specs};
+use sc_parse_expr::{Declared, Found, read_declarator, read_specs};
+use sc_parse_front::{Cursor, Stop, TypeNames, room_for_one};
 use sc_tree::decl::{Decl, InitDeclarator};
 use sc_tree::grammar::{BodyForm, Naming, Specified};
 use std::alloc::Global;
@@ -39,7 +40,7 @@ pub(crate) fn with_init(
     Ok(Found {
         it: InitDeclarator {
             declarator: declared.it.declarator.into_inner(),
-            init: Some(init.it.into_inner()),
+            init: Some(init.it),
         },
         height: declared.height.max(init.height),
     })
@@ -67,7 +68,7 @@ fn some_declarators(
 ) -> Result<Found<List<InitDeclarator>>, Stop>
     ensures { Gives (some_declarators types.now limit tokens.old) result tokens.new }
 {
-    let mut all = List::new(alloc);
+    let mut all = room_for_one(alloc)?;
     let mut height = 0;
     for _turn in 0..tokens.len() {
         let found = init_declarator(alloc, types, tokens, limit)?;

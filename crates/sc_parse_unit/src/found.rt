@@ -1,13 +1,13 @@
-// What is read of a segment before its body, and what a statement begins with.
+//! What is read of a segment before its body, and what a statement begins with.
 
 use sc_base::Boxed;
-use sc_tree::decl::Decl;
 use sc_tree::expr::Head;
+use sc_tree::unit::FileDecl;
 
 /// What a segment spells, before the body of a function is read.
 #[derive(Debug, Drop)]
 pub enum Outline {
-    Decl(Boxed<Decl>),
+    Decl(FileDecl),
     /// The head of a function. Its body is left to read.
     Function(Boxed<Head>),
 }

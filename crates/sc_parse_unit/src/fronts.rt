@@ -1,14 +1,14 @@
-// What stands at the front of the tokens of a declaration or a statement.
+//! What stands at the front of the tokens of a declaration or a statement.
 
 ghost use Rattle.std.specs.Prelude.{◌≡◌};
-ghost use Rattle.sc_parse_expr.specs.Front.{front, front_reserved, is_equals, is_left_brace, is_left_paren};
-ghost use Rattle.sc_parse_expr.specs.Gives.{Passes};
+ghost use Rattle.sc_parse_front.specs.Front.{front, front_reserved, is_equals, is_left_brace, is_left_paren};
+ghost use Rattle.sc_parse_front.specs.Stop.{Passes};
 ghost use Rattle.sc_parse_unit.specs.Reading as spec;
 ghost use Rattle.sc_parse_unit.specs.Steps.{keyword_of};
 
 use crate::found::Keyword;
 use sc_base::NameId;
-use sc_parse_expr::{Cursor, Stop};
+use sc_parse_front::{Cursor, Stop};
 use sc_tree::{Punct, Reserved};
 
 /// Whether `.` stands at the front.

@@ -1,4 +1,4 @@
-// Initialisers (C11 6.7.9).
+//! Initialisers (C11 6.7.9).
 
 ghost use Rattle.std.specs.Prelude.{◌≡◌, ◌-◌, suc, length, []};
 ghost use Rattle.sc_tree.specs.declared.decl.InitItem.{roll-InitItem};
@@ -9,7 +9,8 @@ ghost use Rattle.sc_parse_unit.specs.Reading as spec;
 
 use crate::fronts;
 use sc_base::{Boxed, List};
-use sc_parse_expr::{Cursor, Found, Stop, TypeNames, node, read_expr};
+use sc_parse_expr::{Found, node, read_expr};
+use sc_parse_front::{Cursor, Stop, TypeNames};
 use sc_tree::decl::{Designator, Init, InitItem};
 use sc_tree::grammar::Level;
 use std::alloc::Global;
@@ -81,7 +82,7 @@ impl<
         )?;
         tokens.pass_right_bracket()?;
         Ok(Found {
-            it: Designator::Index(found.it.tree.into_inner()),
+            it: Designator::Index(found.it.tree),
             height: found.height,
         })
     }
@@ -195,7 +196,7 @@ impl<
             self.limit,
             Level::Assignment,
         )?;
-        let init = Init::One(found.it.tree.into_inner());
+        let init = Init::One(found.it.tree);
         Ok(Found {
             it: Boxed::new(self.alloc, init)?,
             height: found.height,

@@ -1,25 +1,25 @@
-// Initialisers, declarations, statements and segments: which unit the tokens of a file spell.
-//
-// `specs/Reading.antt` has the reading as functions on lists of tokens. Two laws tie it to
-// `sc_tree/specs/Statements.antt` and `sc_tree/specs/Units.antt`: what is read is spelled (`sound`), and what
-// is spelled is read (`complete`). The code gives what the functions give: `initialisers` and `declarations`
-// read what their names say, `parts`, `branches`, `loops`, `blocks` and `statements` read statements up to a
-// height over a function that reads those lower by one, `outlines` reads a segment before the body of a
-// function, and `segments` all segments of a file.
+//! Initialisers, declarations, statements and segments: which unit the tokens of a file spell.
+//!
+//! `specs/Reading.antt` has the reading as functions on lists of tokens. Two laws tie it to
+//! `sc_tree/specs/Statements.antt` and `sc_tree/specs/Units.antt`: what is read is spelled (`sound`), and what
+//! is spelled is read (`complete`). The code gives what the functions give: `initialisers` and `declarations`
+//! read what their names say, `parts`, `selection`, `iteration`, `blocks` and `statements` read statements up to a
+//! height over a function that reads those lower by one, `outlines` reads a segment before the body of a
+//! function, and `segments` all segments of a file.
 #![tactic(auto)]
 
 mod blocks;
 mod braced;
-mod branches;
 pub mod complete;
 mod declarations;
 mod found;
 mod fronts;
 mod initialisers;
-mod loops;
+mod iteration;
 mod outlines;
 mod parts;
 mod segments;
+mod selection;
 pub mod sound;
 mod statements;
 
@@ -27,6 +27,3 @@ pub use segments::unit;
 
 /// The greatest height of a tree.
 const MAX_HEIGHT: usize = 128;
-
-#[cfg(test)]
-mod tests;

@@ -1,9 +1,9 @@
-// Segments before the body of a function is read: declarations at file scope, and the heads of
-// functions (C11 6.9).
+//! Segments before the body of a function is read: declarations at file scope, and the heads of
+//! functions (C11 6.9).
 
 ghost use Rattle.std.specs.Prelude.{◌≡◌, [], length, IfOk, OnOk, OnErr};
 ghost use Rattle.sc_tree.specs.Trees.{max_height};
-ghost use Rattle.sc_tree.specs.Units.{empty_declaration, with_declared};
+ghost use Rattle.sc_tree.specs.Units.{with_declared};
 ghost use Rattle.sc_parse_expr.specs.Gives.{Gives, GivesAs};
 ghost use Rattle.sc_parse_expr.specs.Read.{read};
 ghost use Rattle.sc_parse_unit.specs.Steps.{GivesOutline, Keeps};
@@ -14,10 +14,12 @@ use crate::braced::is_braced;
 use crate::declarations::{declaration, with_init};
 use crate::found::Outline;
 use sc_base::{Boxed, List, OutOfMemory, Pos};
-use sc_parse_expr::{Cursor, Declared, Found, Stop, TypeNames, read_declarator, read_specs};
-use sc_tree::decl::{Decl, InitDeclarator};
-use sc_tree::expr::{Base, Head, Specs};
+use sc_parse_expr::{Declared, Found, read_declarator, read_specs};
+use sc_parse_front::{Cursor, Stop, TypeNames, room_for_one};
+use sc_tree::decl::InitDeclarator;
+use sc_tree::expr::Head;
 use sc_tree::grammar::{Core, Naming, Specified};
+use sc_tree::unit::FileDecl;
 use std::alloc::Global;
 
 /// The typedef names with what a declarator declares, where the flag is set in a typedef.
@@ -94,7 +96,7 @@ fn declarators(
     ensures kept { Keeps types.old types.new }
 {
     let found = file_declarator(alloc, types, tokens, typedef, first)?;
-    let mut all = List::new(alloc);
+    let mut all = room_for_one(alloc)?;
     all.push(found.it)?;
     let first = Found {
         it: all,
@@ -123,7 +125,8 @@ fn ended(
     if !tokens.is_empty() {
         return Err(Stop::Not);
     }
-    Ok(Outline::Decl(declaration(alloc, pos, specified.it, parts.it)?))
+    let decl = declaration(alloc, pos, specified.it, parts.it)?;
+    Ok(Outline::Decl(FileDecl::Full(decl)))
 }
 
 fn head_of(
@@ -211,21 +214,6 @@ fn specified(
     first_declared(alloc, types, tokens, pos, specified, declared)
 }
 
-/// The declaration of a single `;`.
-fn empty_declaration(alloc: Global, pos: Pos) -> Result<Boxed<Decl>, OutOfMemory>
-    ensures { IfOk result (λ decl. decl ≡ empty_declaration pos) }
-{
-    let decl = Decl {
-        pos,
-        specs: Specs {
-            storage: List::new(alloc),
-            base: Base::Nothing,
-        },
-        parts: List::new(alloc),
-    };
-    Boxed::new(alloc, decl)
-}
-
 /// What all the tokens are: a declaration, with its typedef names behind the others then, or the
 /// head of a function, whose body in braces is left. Where they are neither, further names may
 /// stand behind those that were there.
@@ -241,7 +229,7 @@ pub(crate) fn read_outline(
     let pos = tokens.first_pos();
     if tokens.is_semicolon() && tokens.behind().is_empty() {
         tokens.advance();
-        return Ok(Outline::Decl(empty_declaration(alloc, pos)?));
+        return Ok(Outline::Decl(FileDecl::Empty(pos)));
     }
     let found = read_specs(alloc, types, tokens, MAX_HEIGHT)?;
     specified(alloc, types, tokens, pos, found)

@@ -1,15 +1,16 @@
-// The reading of statements up to a height, over a function that reads those which are lower by one:
-// what several kinds of statements have in them.
+//! The reading of statements up to a height, over a function that reads those which are lower by one:
+//! what several kinds of statements have in them.
 
 ghost use Rattle.std.specs.Prelude.{◌≡◌, ◌-◌, suc};
-ghost use Rattle.sc_parse_expr.specs.Front.{is_right_paren, is_semicolon};
+ghost use Rattle.sc_parse_front.specs.Front.{is_right_paren, is_semicolon};
 ghost use Rattle.sc_parse_expr.specs.Gives.{Gives, Grows};
 ghost use Rattle.sc_parse_unit.specs.Nests.{Nests, inner_stmt, inner_whole};
 ghost use Rattle.sc_parse_unit.specs.Reading as spec;
 
 use crate::fronts;
 use sc_base::Boxed;
-use sc_parse_expr::{Cursor, Found, Stop, TypeNames, node, read_expr};
+use sc_parse_expr::{Found, node, read_expr};
+use sc_parse_front::{Cursor, Stop, TypeNames};
 use sc_tree::expr::Expr;
 use sc_tree::grammar::Level;
 use sc_tree::stmt::Stmt;
@@ -25,16 +26,6 @@ pub(crate) struct Statements<'t, F> {
     pub(crate) types: &'t TypeNames,
     pub(crate) limit: usize,
     pub(crate) inner: F,
-}
-
-/// An expression that may be left out, out of its box.
-pub(crate) fn unboxed(tree: Option<Boxed<Expr>>) -> Option<Expr>
-    ensures { result ≡ tree }
-{
-    match tree {
-        Some(tree) => Some(tree.into_inner()),
-        None => None,
-    }
 }
 
 impl<

@@ -1,4 +1,4 @@
-// The segments of a file (C11 6.9).
+//! The segments of a file (C11 6.9).
 
 ghost use Rattle.std.specs.Prelude.{◌≡◌, [], length, IfOk};
 ghost use Rattle.sc_tree.specs.Segments.{Cuts};
@@ -9,8 +9,8 @@ use crate::MAX_HEIGHT;
 use crate::found::Outline;
 use crate::outlines::read_outline;
 use crate::statements::read_statement;
-use sc_base::{List, OutOfMemory, Pos, Skip};
-use sc_parse_expr::{Cursor, Stop, TypeNames};
+use sc_base::{Boxed, List, OutOfMemory, Pos, Skip};
+use sc_parse_front::{Cursor, Stop, TypeNames};
 use sc_tree::Tokens;
 use sc_tree::unit::{Body, Segment, Unit};
 use std::alloc::Global;
@@ -24,7 +24,7 @@ fn body_of(alloc: Global, types: &TypeNames, tokens: &mut Cursor<'_>) -> Result<
     match read_statement(alloc, types, tokens, MAX_HEIGHT) {
         Ok(found) => {
             if tokens.is_empty() {
-                Ok(Body::Tree(found.it.into_inner()))
+                Ok(Body::Tree(found.it))
             } else {
                 Ok(Body::Skipped(Skip::Grammar { pos }))
             }
@@ -46,10 +46,10 @@ fn segment_of(
     let pos = tokens.first_pos();
     let count = types.len();
     match read_outline(alloc, types, tokens) {
-        Ok(Outline::Decl(decl)) => Ok(Segment::Decl(decl.into_inner())),
+        Ok(Outline::Decl(decl)) => Ok(Segment::Decl(decl)),
         Ok(Outline::Function(head)) => {
-            let body = body_of(alloc, types, tokens)?;
-            Ok(Segment::Function(head.into_inner(), body))
+            let body = Boxed::new(alloc, body_of(alloc, types, tokens)?)?;
+            Ok(Segment::Function(head, body))
         }
         Err(Stop::Not) => {
             types.forget_beyond(count);

@@ -1,16 +1,17 @@
-// Statements (C11 6.8): what the first tokens begin, jumps, labels and expressions.
+//! Statements (C11 6.8): what the first tokens begin, jumps, labels and expressions.
 
 ghost use Rattle.std.specs.Prelude.{◌≡◌, ◌-◌};
 ghost use Rattle.sc_parse_expr.specs.Gives.{Gives};
-ghost use Rattle.sc_parse_expr.specs.Front.{front_reserved};
+ghost use Rattle.sc_parse_front.specs.Front.{front_reserved};
 ghost use Rattle.sc_parse_unit.specs.Nests.{Nests, inner_stmt};
 ghost use Rattle.sc_parse_unit.specs.Reading as spec;
 
 use crate::found::Keyword;
 use crate::fronts;
-use crate::parts::{Statements, unboxed};
+use crate::parts::Statements;
 use sc_base::{Boxed, NameId, Pos};
-use sc_parse_expr::{Cursor, Found, Stop, TypeNames};
+use sc_parse_expr::Found;
+use sc_parse_front::{Cursor, Stop, TypeNames};
 use sc_tree::stmt::Stmt;
 use std::alloc::Global;
 
@@ -56,7 +57,7 @@ impl<
     {
         let found = self.before_semicolon(tokens)?;
         tokens.pass_semicolon()?;
-        self.made(Stmt::Return(unboxed(found.it), pos), found.height)
+        self.made(Stmt::Return(found.it, pos), found.height)
     }
 
     #[tactic(auto, unfolding(crate::specs::Reading::expression))]
@@ -67,7 +68,7 @@ impl<
         let pos = tokens.first_pos();
         let value = self.before_semicolon(tokens)?;
         tokens.pass_semicolon()?;
-        self.made(Stmt::Expr(unboxed(value.it), pos), value.height)
+        self.made(Stmt::Expr(value.it, pos), value.height)
     }
 
     /// A label with its colon, and the statement behind it.

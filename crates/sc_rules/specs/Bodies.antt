@@ -275,7 +275,7 @@ module _ (here : Here) where
   stmt_step (Stmt-F.If e x y at) = plain (λ s. scoped (if_statement at e x y s))
   stmt_step (Stmt-F.While e x at) = plain (λ s. scoped (while_statement at e x s))
   stmt_step (Stmt-F.Do x e at) = plain (λ s. scoped (do_statement at x e s))
-  stmt_step (Stmt-F.For f c n x at) = plain (λ s. scoped (for_statement at f c n x s))
+  stmt_step (Stmt-F.For h x at) = plain (λ s. scoped (for_statement at h.start h.test h.step x s))
   stmt_step (Stmt-F.Switch e xs at to) = plain (λ s. scoped (switch_statement at to e xs s))
   stmt_step (Stmt-F.Case e at) = plain (case_statement at e)
   stmt_step (Stmt-F.Default at) = plain (λ s. statement (st.Default at))

@@ -3,6 +3,9 @@
 use Rattle.std.specs.Prelude.{ℕ, nat_eq, Bool, Option, Some, None, List, [], ◌∷◌, codes}
 use Rattle.std.specs.Map.{lookup}
 use Rattle.std.specs.Cmp.Lexicographic.{pointwise}
+use Rattle.fsm_spec.specs.declared.table.Operation.{Operation}
+use Rattle.fsm_spec.specs.declared.table.Returns.{Returns}
+use Rattle.fsm_spec.specs.declared.table.Returns.TheVariants as returns
 use Rattle.sc_rules.specs.declared.walk.Builtin.{Builtin}
 use Rattle.sc_rules.specs.declared.walk.Builtin.TheVariants as b
 use Rattle.sc_rules.specs.declared.walk.Given.{Given}
@@ -47,3 +50,11 @@ same_text = pointwise nat_eq
 
 abbrev pub builtin_in : List (List ℕ × Builtin) → List ℕ → Option Builtin
 builtin_in rows text = lookup (same_text text) rows
+
+-- an operation of a machine: its function takes a pointer first, and gives nothing or an `int`
+abbrev pub operation_of : List ℕ → Returns → List ℕ × Builtin
+operation_of function returns.Nothing = (function, b.Nothing takes.Pointer)
+operation_of function returns.Zero = (function, b.Int takes.Pointer)
+
+abbrev pub operation_row : Operation → List ℕ × Builtin
+operation_row o = operation_of o.function o.returns

@@ -12,20 +12,13 @@ use Rattle.sc_tree.specs.declared.ctype.CType.{CType}
 use Rattle.sc_tree.specs.declared.ctype.CType.TheVariants as ty
 use Rattle.sc_tree.specs.declared.ctype.Signature.{Signature, out-Signature}
 use Rattle.sc_tree.specs.declared.expr.Head.{Head, out-Head}
-use Rattle.sc_tree.specs.declared.expr.Base.{Base, out-Base, Base-F}
 use Rattle.sc_tree.specs.declared.expr.Specs.{Specs, out-Specs}
-use Rattle.sc_tree.specs.declared.expr.Declarator.{Declarator}
-use Rattle.sc_tree.specs.declared.expr.Expr.{Expr}
-use Rattle.sc_tree.specs.declared.expr.Aggregate.{Aggregate}
-use Rattle.sc_tree.specs.declared.expr.EnumSpec.{EnumSpec}
-use Rattle.sc_tree.specs.declared.expr.Enumerator.{Enumerator}
-use Rattle.sc_tree.specs.declared.expr.Member.{Member}
-use Rattle.sc_tree.specs.declared.expr.Part.{Part}
 use Rattle.sc_tree.specs.declared.decl.Decl.{Decl}
 use Rattle.sc_tree.specs.declared.stmt.Stmt.{Stmt}
 use Rattle.sc_tree.specs.declared.unit.Unit as unit
 use Rattle.sc_tree.specs.declared.unit.Segment.{Segment}
 use Rattle.sc_tree.specs.declared.unit.Segment.TheVariants as segment
+use Rattle.sc_tree.specs.declared.unit.FileDecl.TheVariants as file_decl
 use Rattle.sc_tree.specs.declared.unit.Body.{Body}
 use Rattle.sc_tree.specs.declared.unit.Body.TheVariants as body
 use Rattle.sc_typed.specs.declared.program.Function.{Function}
@@ -162,14 +155,6 @@ noted globals records (Some f) notes w = (
   },
 )
 
-abbrev pub is_nothing : Base-F Base Declarator Expr Aggregate EnumSpec Enumerator Head Member Part Specs → Bool
-is_nothing Base-F.Nothing = true
-is_nothing _ = false
-
--- the empty declaration, a `;` by itself
-abbrev pub is_empty : Decl → Bool
-is_empty d = is_nothing (out-Base (out-Specs d.specs).base)
-
 abbrev pub noted_in : (globals records : ℕ) → List Skip → Walk → List Skip × Walk
 noted_in globals records notes w = noted globals records w.first notes w
 
@@ -186,10 +171,8 @@ segment_in here m (segment.Skipped s) = done (record m { notes = m.notes ++ s �
 segment_in here m (segment.Function h b) = do
   f ← function here h b
   done (record m { functions = m.functions ++ f ∷ [] })
-segment_in here m (segment.Decl d) =
-    if is_empty d
-    then done m
-    else (file_declaration here d m.notes >>= λ notes. done (record m { notes = notes }))
+segment_in here m (segment.Decl (file_decl.Empty at)) = done m
+segment_in here m (segment.Decl (file_decl.Full d)) = file_declaration here d m.notes >>= λ notes. done (record m { notes = notes })
 
 abbrev pub segments_in : Here → Made → List Segment → Check Made
 segments_in here m [] = done m

@@ -54,7 +54,7 @@ jumps_step (Stmt-F.Block xs from to) way = items_from 0 xs way
 jumps_step (Stmt-F.If e x y at) way = together (x (way ++ Part 0 ∷ [])) (part_if 1 y way)
 jumps_step (Stmt-F.While e x at) way = x (way ++ Part 0 ∷ [])
 jumps_step (Stmt-F.Do x e at) way = x (way ++ Part 0 ∷ [])
-jumps_step (Stmt-F.For f c n x at) way = x (way ++ Part 0 ∷ [])
+jumps_step (Stmt-F.For h x at) way = x (way ++ Part 0 ∷ [])
 jumps_step (Stmt-F.Switch e xs at to) way = items_from 0 xs way
 jumps_step (Stmt-F.Goto name at) way = record { labels = []; gotos = record { name = name; pos = at; way = way } ∷ [] }
 jumps_step (Stmt-F.Label name x at) way =

@@ -39,8 +39,12 @@ abbrev pub int_of_value : Widths → IntToken → Option ℕ → Place → Check
 int_of_value w t None p = unsupported u.Wide p.token
 int_of_value w t (Some n) p = int_of_kind (constant_kind w t.decimal t.unsigned t.longs n) n p
 
+-- the number of a constant, if 64 bits hold it
+abbrev pub token_value : IntToken → Option ℕ
+token_value t = if t.fits then Some t.value else None
+
 abbrev pub int_constant : Widths → IntToken → Place → Check (Option TExpr)
-int_constant w t p = int_of_value w t t.value p
+int_constant w t p = int_of_value w t (token_value t) p
 
 -- Operators before their operand (C11 6.5.3.2, 6.5.3.3).
 

@@ -23,7 +23,8 @@ use Rattle.sc_rules.specs.declared.walk.Walk.{Walk}
 use Rattle.sc_rules.specs.declared.walk.Record.{Record}
 use Rattle.sc_rules.specs.declared.walk.Builtin.{Builtin}
 use Rattle.sc_rules.specs.Walks.{Check, ◌>>=◌, done}
-use Rattle.sc_rules.specs.Builtins.{builtin_in, lock_rows, other_rows}
+use Rattle.fsm_spec.specs.declared.table.MachineSpec.{MachineSpec}
+use Rattle.sc_rules.specs.Builtins.{builtin_in, lock_rows, other_rows, operation_row}
 use Rattle.sc_rules.specs.Members.{is_there}
 use Rattle.sc_rules.specs.Here.{Here}
 use Rattle.sc_rules.specs.Typing.{heading}
@@ -36,6 +37,8 @@ pub record Sources : Type 0 where
   pub files : List NameId
   pub units : List file.Unit
   pub widths : Widths
+  -- the machine whose operations stand in place of those on locks
+  pub machine : Option MachineSpec
 
 abbrev pub no_walk : Walk
 no_walk =
@@ -55,9 +58,14 @@ no_walk =
 abbrev pub nothing_made : Made
 nothing_made = record { functions = []; notes = [] }
 
+-- The built-in functions: those on locks, or the operations of the machine; and the others.
+abbrev pub operation_rows : Option MachineSpec → List (List ℕ × Builtin)
+operation_rows None = lock_rows
+operation_rows (Some m) = map operation_row m.operations
+
 -- the built-in function that a name means
-abbrev pub builtin_named : List (List ℕ) → ℕ → Option Builtin
-builtin_named names n = builtin_in (lock_rows ++ other_rows) (slice_index_or names n [])
+abbrev pub builtin_named : Sources → ℕ → Option Builtin
+builtin_named s n = builtin_in (operation_rows s.machine ++ other_rows) (slice_index_or s.names n [])
 
 abbrev pub walk_files : (ℕ → Here) → Made → List file.Unit → Check Made
 walk_files here m [] = done m
@@ -72,7 +80,7 @@ first_here s f =
     record {
       widths = s.widths;
       file = f;
-      builtin = builtin_named s.names;
+      builtin = builtin_named s;
       body = λ n. None;
       is_local = λ n. false;
       settled = false;
@@ -173,7 +181,7 @@ second_here s v bodies f =
     record {
       widths = s.widths;
       file = f;
-      builtin = builtin_named s.names;
+      builtin = builtin_named s;
       body = body_named bodies f;
       is_local = is_local_global v.records f;
       settled = true;
@@ -189,6 +197,7 @@ program_of s (m, w) =
       names = s.names;
       files = s.files;
       widths = s.widths;
+      machine = s.machine;
       structs = w.structs;
       globals = w.globals;
       functions = m.functions;

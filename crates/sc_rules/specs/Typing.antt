@@ -50,7 +50,7 @@ use Rattle.sc_rules.specs.Assignments.{pre_increment, post_increment, assignment
 use Rattle.sc_rules.specs.Operators.{int_constant, unary, conditional, comma, cast, size_of_expression, size_of_type, index}
 use Rattle.sc_rules.specs.Here.{Here}
 use Rattle.sc_rules.specs.Members.{field, is_called, is_there}
-use Rattle.sc_rules.specs.Calls.{unknown_function, callee, call, builtin_call}
+use Rattle.sc_rules.specs.Calls.{unknown_function, callee, call, prototype, builtin_call}
 use Rattle.sc_rules.specs.Shapes.{Typing, Parameter, Own, Shape, Declaring, Heading, Naming, Adding, AddingOne, Counting}
 
 -- the value of an expression
@@ -241,7 +241,7 @@ module _ (here : Here) where
   call_by_name (Some b) name q p e es = do
     as' ← values es
     m ← name_means name
-    builtin_call here.widths name b m q p as'
+    builtin_call here.widths name b (prototype m) q p as'
 
   -- Types.
 
@@ -389,7 +389,6 @@ module _ (here : Here) where
   typedef_of at _ = ill_typed i.Name at
 
   abbrev pub base_step : Base-F Naming Declaring Typing Naming Naming Counting Heading Adding AddingOne Naming → Naming
-  base_step Base-F.Nothing alone = done None
   base_step (Base-F.Words t) alone = done (Some t)
   base_step (Base-F.Struct a) alone = a alone
   base_step (Base-F.Enum e) alone = e alone

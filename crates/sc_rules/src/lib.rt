@@ -9,6 +9,7 @@ mod assignments;
 mod binary;
 mod conversions;
 mod faults;
+mod members;
 mod operators;
 mod steps;
 mod walk;
@@ -20,6 +21,7 @@ pub use conversions::{
     to_kind, value,
 };
 pub use faults::{ill_typed_at, is_before, unsupported_at, with_fault};
+pub use members::{Meant, field, fields_of, find_member, is_called};
 pub use operators::{
     cast, comma, conditional, index, int_constant, size_of_expression, size_of_type, size_type, unary,
 };

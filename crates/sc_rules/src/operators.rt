@@ -33,6 +33,13 @@ pub fn size_type(w: Widths) -> CType
     }
 }
 
+// The number of a constant, if 64 bits hold it.
+fn token_value(t: IntToken) -> Option<u64>
+    ensures { result ≡ spec.token_value t }
+{
+    if t.fits { Some(t.value) } else { None }
+}
+
 // A constant of a kind, where a kind holds it.
 fn int_of_kind(walk: &mut Walk, kind: Option<IntKind>, n: u64, p: Place) -> Option<TExpr>
     ensures { spec.int_of_kind kind n p walk.old ≡ (result, walk.new) }
@@ -48,7 +55,7 @@ fn int_of_kind(walk: &mut Walk, kind: Option<IntKind>, n: u64, p: Place) -> Opti
 pub fn int_constant(walk: &mut Walk, w: Widths, t: IntToken, p: Place) -> Option<TExpr>
     ensures { spec.int_constant w t p walk.old ≡ (result, walk.new) }
 {
-    match t.value {
+    match token_value(t) {
         None => unsupported(walk, Unsupported::Wide, p.token),
         Some(n) => {
             let kind = constant_kind(w, t.decimal, t.unsigned, u32::from(t.longs), n);

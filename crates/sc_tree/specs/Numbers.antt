@@ -1,5 +1,5 @@
 -- Integer constants (C11 6.4.4.1): their digits, their suffix and their value.
-use Rattle.std.specs.Prelude.{ℕ, Bool, true, false, ◌+◌, ◌-◌, ◌*◌, ◌^◌, nat_lt, nat_le, ◌==◌, List, [], ◌∷◌, take, drop, Option, Some, None, codes, option_map, unwrap_or, if◌then◌else◌, ◌||◌}
+use Rattle.std.specs.Prelude.{ℕ, Bool, true, false, ◌+◌, ◌-◌, ◌*◌, ◌^◌, nat_lt, nat_le, ◌==◌, List, [], ◌∷◌, take, drop, Option, Some, None, codes, option_map, unwrap_or, is_some, if◌then◌else◌, ◌||◌}
 use Rattle.std.specs.List.{prefix_len}
 use Rattle.std.specs.Char.{is_ascii_digit, is_ascii_hexdigit}
 use Rattle.sc_tree.specs.declared.token.IntToken.{IntToken}
@@ -42,12 +42,15 @@ suffixes =
 unfoldable pub suffix_of : List ℕ → Option Suffix
 suffix_of text = named suffixes text
 
--- The integer constant of a text that begins with so many digits, one or more, and goes on with a suffix. A
--- value of more than 64 bits is none.
+-- The integer constant of a number with its suffix. A number of more than 64 bits has no value.
+abbrev pub int_token : Option ℕ → Bool → Suffix → IntToken
+int_token n decimal s = record { value = unwrap_or n 0; fits = is_some n; decimal = decimal; unsigned = s.unsigned; longs = s.longs }
+
+-- The integer constant of a text that begins with so many digits, one or more, and goes on with a suffix.
 unfoldable pub integer : Bool → ℕ → ℕ → List ℕ → Option IntToken
 integer decimal base count text =
     if count == 0 then None
-    else suffix_of (drop count text) >>= λ s. Some (record { value = fitting (number_from base 0 (take count text)); decimal = decimal; unsigned = s.unsigned; longs = s.longs })
+    else suffix_of (drop count text) >>= λ s. Some (int_token (fitting (number_from base 0 (take count text))) decimal s)
 
 -- hexadecimal behind `0x`, octal from a `0` on, else decimal
 unfoldable pub integer_of : List ℕ → Option IntToken

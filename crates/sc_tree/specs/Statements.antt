@@ -20,6 +20,7 @@ use Rattle.sc_tree.specs.declared.stmt.Stmt.{Stmt}
 use Rattle.sc_tree.specs.declared.stmt.Stmt.TheVariants as stmt
 use Rattle.sc_tree.specs.declared.stmt.ForStart.{ForStart}
 use Rattle.sc_tree.specs.declared.stmt.ForStart.TheVariants as first
+use Rattle.sc_tree.specs.declared.stmt.ForHead.{ForHead}
 use Rattle.sc_tree.specs.declared.grammar.Level.TheVariants.{Choice, Assignment, Whole}
 use Rattle.sc_tree.specs.declared.grammar.Naming.TheVariants as naming
 use Rattle.sc_tree.specs.declared.grammar.Core.{Core}
@@ -95,6 +96,10 @@ pub data AtMost (types : List NameId) : ℕ → Option Expr → List Token → T
   left_out : AtMost types 0 None []
   there : {h : ℕ} {t : Expr} {s : List Token} → Spells types Whole h t s → AtMost types h (Some t) s
 
+-- what stands between the brackets of a `for`
+abbrev pub for_head : ForStart → Option Expr → Option Expr → ForHead
+for_head f c e = record { start = f; test = c; step = e }
+
 -- what stands in the first place of a `for`, with its semicolon
 pub data Starts (types : List NameId) : ℕ → ForStart → List Token → Type 0 where
   with_nothing : (p : Pos) → Starts types 0 first.Nothing (punct sign.Semicolon p ∷ [])
@@ -123,7 +128,7 @@ mutual
         (reserved key.Do p ∷ (s ++ reserved key.While q ∷ punct sign.LeftParen o ∷ (r ++ punct sign.RightParen v ∷ punct sign.Semicolon w ∷ [])))
     a_for : {b : Bool} {h k m n : ℕ} {f : ForStart} {c e : Option Expr} {x : Stmt} {s r u v : List Token} (p q o w : Pos)
         → Starts types h f s → AtMost types k c r → AtMost types m e u → States types b n x v
-        → States types b (suc (max h (max k (max m n)))) (stmt.For f c e x p)
+        → States types b (suc (max h (max k (max m n)))) (stmt.For (for_head f c e) x p)
         (reserved key.For p ∷ punct sign.LeftParen q ∷ (s ++ (r ++ punct sign.Semicolon o ∷ (u ++ punct sign.RightParen w ∷ v))))
     a_switch : {h m : ℕ} {c : Expr} {xs : List Stmt} {s r : List Token} (p q o v w : Pos) → Spells types Whole h c s → Items types true m xs r
         → States types false (suc (max h m)) (stmt.Switch c xs p w)

@@ -11,14 +11,13 @@ use Rattle.sc_tree.specs.declared.token.Kind.{Kind}
 use Rattle.sc_tree.specs.declared.token.Kind.TheVariants as k
 use Rattle.sc_tree.specs.declared.token.Punct.TheVariants as sign
 use Rattle.sc_tree.specs.declared.expr.Head.{Head, roll-Head}
-use Rattle.sc_tree.specs.declared.expr.Specs.{roll-Specs}
-use Rattle.sc_tree.specs.declared.expr.Base.TheVariants as base
 use Rattle.sc_tree.specs.declared.expr.Declarator.{Declarator}
 use Rattle.sc_tree.specs.declared.decl.Init.{Init}
-use Rattle.sc_tree.specs.declared.decl.Decl.{Decl}
 use Rattle.sc_tree.specs.declared.decl.InitDeclarator.{InitDeclarator}
 use Rattle.sc_tree.specs.declared.stmt.Stmt.{Stmt}
 use Rattle.sc_tree.specs.declared.unit.Segment.{Segment}
+use Rattle.sc_tree.specs.declared.unit.FileDecl.{FileDecl}
+use Rattle.sc_tree.specs.declared.unit.FileDecl.TheVariants as file
 use Rattle.sc_tree.specs.declared.unit.Segment.TheVariants as segment
 use Rattle.sc_tree.specs.declared.unit.Body.TheVariants as body
 use Rattle.sc_tree.specs.declared.grammar.Naming.TheVariants as naming
@@ -60,18 +59,14 @@ pub data FileDeclarators : Bool → List NameId → List NameId → ℕ → List
       → AFileDeclarator def types between h x s → FileDeclarators def between behind m xs r
       → FileDeclarators def types behind (max h m) (x ∷ xs) (s ++ punct sign.Comma p ∷ r)
 
--- the empty declaration, a lone `;`
-abbrev pub empty_declaration : Pos → Decl
-empty_declaration p = record { pos = p; specs = roll-Specs (record { storage = []; base = base.Nothing }); parts = [] }
-
 -- A declaration at file scope: the typedef names before it, and behind it.
-pub data AFileDeclaration : List NameId → List NameId → ℕ → Decl → List Token → Type 0 where
-  empty : (types : List NameId) (p : Pos) → AFileDeclaration types types 0 (empty_declaration p) (punct sign.Semicolon p ∷ [])
+pub data AFileDeclaration : List NameId → List NameId → ℕ → FileDecl → List Token → Type 0 where
+  empty : (types : List NameId) (p : Pos) → AFileDeclaration types types 0 (file.Empty p) (punct sign.Semicolon p ∷ [])
   bare : {types : List NameId} {h : ℕ} {f : Specified} {s : List Token} (p : Pos) → Specifies types h f s
-      → AFileDeclaration types types h (declaration (first_pos s) f []) (s ++ punct sign.Semicolon p ∷ [])
+      → AFileDeclaration types types h (file.Full (declaration (first_pos s) f [])) (s ++ punct sign.Semicolon p ∷ [])
   full : {types behind : List NameId} {h m : ℕ} {f : Specified} {xs : List InitDeclarator} {s r : List Token} (p : Pos) → Specifies types h f s
       → FileDeclarators f.typedef types behind m xs r
-      → AFileDeclaration types behind (max h m) (declaration (first_pos s) f xs) (s ++ (r ++ punct sign.Semicolon p ∷ []))
+      → AFileDeclaration types behind (max h m) (file.Full (declaration (first_pos s) f xs)) (s ++ (r ++ punct sign.Semicolon p ∷ []))
 
 -- The head of a function: its parameters stand directly round its name, and each has a name.
 pub data AFunctionHead (types : List NameId) : ℕ → Head → List Token → Type 0 where
@@ -131,7 +126,7 @@ pub record IsBlock (types : List NameId) (ts : List Token) (x : Stmt) : Type 0 w
   pub low : height ≤ max_height
   pub spelled : States types false height x ts
 
-pub record IsDeclaration (types behind : List NameId) (ts : List Token) (x : Decl) : Type 0 where
+pub record IsDeclaration (types behind : List NameId) (ts : List Token) (x : FileDecl) : Type 0 where
   pub height : ℕ
   pub low : height ≤ max_height
   pub spelled : AFileDeclaration types behind height x ts
@@ -147,14 +142,14 @@ pub record IsFunction (types : List NameId) (ts : List Token) (x : Head) (inside
 
 -- A segment: what it is with the typedef names before it, and those behind it.
 pub data Fits (types : List NameId) : List NameId → List Token → Segment → Type 0 where
-  a_declaration : {behind : List NameId} {ts : List Token} {x : Decl} → IsDeclaration types behind ts x → Fits types behind ts (segment.Decl x)
+  a_declaration : {behind : List NameId} {ts : List Token} {x : FileDecl} → IsDeclaration types behind ts x → Fits types behind ts (segment.Decl x)
   a_function : {ts inside : List Token} {x : Head} {b : Stmt} → IsFunction types ts x inside → IsBlock types inside b
       → Fits types types ts (segment.Function x (body.Tree b))
   -- its body spells no block
   a_skipped_body : {ts inside : List Token} {x : Head} → IsFunction types ts x inside → ((b : Stmt) → IsBlock types inside b → ⊥)
       → Fits types types ts (segment.Function x (body.Skipped (Grammar (first_pos inside))))
   -- it spells neither
-  a_skipped : (ts : List Token) → ((behind : List NameId) (x : Decl) → IsDeclaration types behind ts x → ⊥)
+  a_skipped : (ts : List Token) → ((behind : List NameId) (x : FileDecl) → IsDeclaration types behind ts x → ⊥)
       → ((x : Head) (inside : List Token) → IsFunction types ts x inside → ⊥)
       → Fits types types ts (segment.Skipped (Grammar (first_pos ts)))
 

@@ -1,4 +1,4 @@
-// The types of C (C11 6.2.5), and the widths that a target gives them.
+//! The types of C (C11 6.2.5), and the widths that a target gives them.
 
 use sc_base::{Boxed, List};
 

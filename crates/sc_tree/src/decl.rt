@@ -1,10 +1,9 @@
-// Declarations (C11 6.7) and initialisers (C11 6.7.9).
+//! Declarations (C11 6.7) and initialisers (C11 6.7.9).
 
 use crate::expr::{Declarator, Expr, Specs};
-use sc_base::{List, NameId, Pos};
+use sc_base::{Boxed, List, NameId, Pos};
 
-/// A declaration: its specifiers, and its declarators in their order. In the empty declaration,
-/// a lone `;`, the specifiers name no type.
+/// A declaration: its specifiers, and its declarators in their order.
 #[derive(Debug, Drop)]
 pub struct Decl {
     /// Its first token.
@@ -17,14 +16,14 @@ pub struct Decl {
 #[derive(Debug, Drop)]
 pub struct InitDeclarator {
     pub declarator: Declarator,
-    pub init: Option<Init>,
+    pub init: Option<Boxed<Init>>,
 }
 
 /// An initialiser.
 #[cycle(init)]
 #[derive(Debug, Drop)]
 pub enum Init {
-    One(Expr),
+    One(Boxed<Expr>),
     /// Those in braces, in their order.
     List(List<InitItem>),
 }
@@ -43,5 +42,5 @@ pub enum Designator {
     /// `. name`
     Field(NameId),
     /// `[ length ]`
-    Index(Expr),
+    Index(Boxed<Expr>),
 }

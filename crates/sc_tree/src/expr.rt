@@ -1,5 +1,5 @@
-// Expressions (C11 6.5), and the specifiers and declarators that lead back to them: a cast and
-// `sizeof` name a type, an array has a length, a member a width, an enumerator a value.
+//! Expressions (C11 6.5), and the specifiers and declarators that lead back to them: a cast and
+//! `sizeof` name a type, an array has a length, a member a width, an enumerator a value.
 
 use crate::ctype::CType;
 use crate::op::{AssignOp, BinaryOp, Step, UnaryOp};
@@ -87,12 +87,10 @@ pub struct Specs {
 #[cycle(tree)]
 #[derive(Debug, Drop)]
 pub enum Base {
-    /// No type: in the empty declaration alone.
-    Nothing,
     /// What type words name.
     Words(CType),
-    Struct(Aggregate),
-    Enum(EnumSpec),
+    Struct(Boxed<Aggregate>),
+    Enum(Boxed<EnumSpec>),
     /// A typedef name, with its place.
     Named(NameId, Pos),
 }
@@ -121,8 +119,8 @@ pub struct Member {
 #[cycle(tree)]
 #[derive(Debug, Drop)]
 pub struct Part {
-    pub declarator: Option<Declarator>,
-    pub width: Option<Expr>,
+    pub declarator: Option<Boxed<Declarator>>,
+    pub width: Option<Boxed<Expr>>,
 }
 
 /// An `enum` with its tag, its body or both (C11 6.7.2.2).
@@ -141,7 +139,7 @@ pub struct EnumSpec {
 pub struct Enumerator {
     pub pos: Pos,
     pub name: NameId,
-    pub value: Option<Expr>,
+    pub value: Option<Boxed<Expr>>,
 }
 
 /// A declarator (C11 6.7.6), from the outside in.

@@ -1,7 +1,7 @@
-// First forms: one function of one to three parameters, each a flag or a lock, and a body of statements.
-//
-// A statement names a parameter by its number, counted from 0 in the order of the parameters. What
-// contracts say of these types they say of `form` and `seen` of `specs/Tree.antt`.
+//! First forms: one function of one to three parameters, each a flag or a lock, and a body of statements.
+//!
+//! A statement names a parameter by its number, counted from 0 in the order of the parameters. What
+//! contracts say of these types they say of `form` and `seen` of `specs/Tree.antt`.
 #![tactic(auto)]
 
 ghost use Rattle.std.specs.Prelude.{◌≡◌, map};

@@ -1,6 +1,6 @@
-// The words of the grammar that trees do not keep: levels of expressions, what a declarator may or
-// must name, what it declares, and the type words that specifiers gather. `specs/Grammar.antt`
-// defines with them which tokens spell which tree.
+//! The words of the grammar that trees do not keep: levels of expressions, what a declarator may or
+//! must name, what it declares, and the type words that specifiers gather. `specs/Grammar.antt`
+//! defines with them which tokens spell which tree.
 
 use crate::expr::{Base, Specs, Storage};
 use sc_base::{List, NameId};

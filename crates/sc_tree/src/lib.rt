@@ -1,9 +1,10 @@
-// The trees of the source language, as data that later passes share.
-//
-// `token` has the tokens of preprocessed C, and `specs/Lexed.antt` defines which tokens a file has.
-// `first` has the *first forms*: one function whose statements lock, unlock, branch on a flag and
-// return. `specs/Tree.antt` has what a contract sees of a first form: the same tree without pointers,
-// vectors and strings.
+//! The trees of the source language, as data that later passes share.
+//!
+//! `token` and `piece` have the tokens of preprocessed C; `specs/Lexed.antt` defines which a file has.
+//! `expr`, `op`, `ctype`, `grammar`, `decl`, `stmt` and `unit` have the trees of C; `specs/Grammar.antt`,
+//! `Statements.antt` and `Units.antt` define which tokens spell which tree. `first` has the *first forms*:
+//! one function whose statements lock, unlock, branch on a flag and return; `specs/Tree.antt` has what a
+//! contract sees of one: the same tree without pointers, vectors and strings.
 #![tactic(auto)]
 
 pub mod ctype;

@@ -1,4 +1,4 @@
-// The operators of expressions (C11 6.5), each by its meaning.
+//! The operators of expressions (C11 6.5), each by its meaning.
 
 /// An operator between two operands (C11 6.5.5 to 6.5.14).
 #[derive(Clone, Copy, Debug, PartialEq, Eq)]

@@ -1,4 +1,4 @@
-// The pieces that the bytes of a file are cut into, before a place and the names make tokens of them.
+//! The pieces that the bytes of a file are cut into, before a place and the names make tokens of them.
 
 use crate::Kind;
 

@@ -1,4 +1,4 @@
-// Statements (C11 6.8).
+//! Statements (C11 6.8).
 
 use crate::decl::Decl;
 use crate::expr::Expr;
@@ -10,22 +10,22 @@ use sc_base::{Boxed, List, NameId, Pos};
 pub enum Stmt {
     /// `{ items }`, with the places of both braces.
     Block(List<Stmt>, Pos, Pos),
-    /// A declaration among the items of a block.
-    Decl(Decl, Pos),
+    /// A declaration among the items of a block or a `switch`, with the place of its first token.
+    Decl(Boxed<Decl>, Pos),
     /// `e ;` or `;`
-    Expr(Option<Expr>, Pos),
+    Expr(Option<Boxed<Expr>>, Pos),
     /// `if ( e ) s`, with `else s` where it stands.
-    If(Expr, Boxed<Stmt>, Option<Boxed<Stmt>>, Pos),
+    If(Boxed<Expr>, Boxed<Stmt>, Option<Boxed<Stmt>>, Pos),
     /// `while ( e ) s`
-    While(Expr, Boxed<Stmt>, Pos),
+    While(Boxed<Expr>, Boxed<Stmt>, Pos),
     /// `do s while ( e ) ;`
-    Do(Boxed<Stmt>, Expr, Pos),
-    /// `for ( .. ; e ; e ) s`
-    For(ForStart, Option<Expr>, Option<Expr>, Boxed<Stmt>, Pos),
+    Do(Boxed<Stmt>, Boxed<Expr>, Pos),
+    /// `for ( .. ) s`
+    For(ForHead, Boxed<Stmt>, Pos),
     /// `switch ( e ) { items }`, with the places of its keyword and of its closing brace.
-    Switch(Expr, List<Stmt>, Pos, Pos),
+    Switch(Boxed<Expr>, Boxed<List<Stmt>>, Pos, Pos),
     /// `case e :`
-    Case(Expr, Pos),
+    Case(Boxed<Expr>, Pos),
     /// `default :`
     Default(Pos),
     /// `goto name ;`
@@ -35,7 +35,7 @@ pub enum Stmt {
     /// `continue ;`
     Continue(Pos),
     /// `return e ;` or `return ;`
-    Return(Option<Expr>, Pos),
+    Return(Option<Boxed<Expr>>, Pos),
     /// `name : s`
     Label(NameId, Boxed<Stmt>, Pos),
 }
@@ -44,7 +44,16 @@ pub enum Stmt {
 #[derive(Debug, Drop)]
 pub enum ForStart {
     Nothing,
-    Expr(Expr),
+    Expr(Boxed<Expr>),
     /// A declaration, with the place of its first token.
-    Decl(Decl, Pos),
+    Decl(Boxed<Decl>, Pos),
+}
+
+/// What stands between the brackets of a `for`: `.. ; e ; e`, where each may be left out. (Boxed, so
+/// that a statement is small.)
+#[derive(Debug, Drop)]
+pub struct ForHead {
+    pub start: Boxed<ForStart>,
+    pub test: Boxed<Option<Boxed<Expr>>>,
+    pub step: Boxed<Option<Boxed<Expr>>>,
 }

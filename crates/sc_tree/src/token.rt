@@ -1,9 +1,10 @@
-// The tokens of preprocessed C (C11 6.4), as the lexer gives them and every parser reads them.
-//
-// What a token is, where it stands, and which tokens a file has, is defined in `specs/`: `Bytes` and
-// `Forms` say how far each form reaches, `Words`, `Puncts`, `Numbers` and `Literals` what a form means,
-// `Pieces` how the bytes are cut, `Brackets`, `Removal` and `Segments` what is made of the pieces, and
-// `Lexed` puts these together.
+//! The tokens of preprocessed C (C11 6.4), as the lexer gives them and every parser reads them.
+//!
+//! What a token is, where it stands, and which tokens a file has, is defined in `specs/`: `Bytes` has the
+//! classes of bytes, `Words`, `Puncts`, `Numbers` and `Literals` what each form means and where literals
+//! end, `Pieces` how far each form reaches and how the bytes are cut, `Cut` and `Places` the tokens with
+//! their places, `Roles`, `Brackets`, `Removal` and `Segments` what is done with the list of tokens, and
+//! `Lexed` puts these together.
 
 use sc_base::{List, NameId, Pos};
 
@@ -34,11 +35,14 @@ pub enum Kind {
     Punct(Punct),
 }
 
-/// An integer constant: its value, how it is spelled, and its suffix.
+/// An integer constant: its value, how it is spelled, and its suffix. (An `Option<u64>` takes 16 bytes,
+/// and a file has a token for every few of its bytes: so the number stands beside its flag.)
 #[derive(Clone, Copy, Debug, PartialEq, Eq)]
 pub struct IntToken {
-    /// `None` where the number is above 2^64 - 1.
-    pub value: Option<u64>,
+    /// The number where it fits, and else 0.
+    pub value: u64,
+    /// The number is at most 2^64 - 1.
+    pub fits: bool,
     /// Neither octal nor hexadecimal.
     pub decimal: bool,
     /// The suffix has a `u`.
@@ -68,7 +72,8 @@ pub struct Tokens {
 }
 
 /// The reserved words: the keywords of C11 6.4.1, `asm` and `typeof` in their three spellings,
-/// `__builtin_va_list`, and two that never stand in a list of `Tokens`, since they leave nothing.
+/// `__builtin_va_list`, and two more. Those that `specs/Roles.antt` says leave nothing never stand in the
+/// `Tokens` of a file.
 #[derive(Clone, Copy, Debug, PartialEq, Eq)]
 pub enum Reserved {
     /// `auto`

@@ -1,9 +1,9 @@
-// What the segments of a file are (C11 6.9).
+//! What the segments of a file are (C11 6.9).
 
 use crate::decl::Decl;
 use crate::expr::Head;
 use crate::stmt::Stmt;
-use sc_base::{List, Skip};
+use sc_base::{Boxed, List, Pos, Skip};
 
 /// The segments of a file, in order.
 #[derive(Debug, Drop)]
@@ -16,14 +16,22 @@ pub struct Unit {
 /// A segment: what it spells, or why it is skipped.
 #[derive(Debug, Drop)]
 pub enum Segment {
-    Decl(Decl),
-    Function(Head, Body),
+    Decl(FileDecl),
+    Function(Boxed<Head>, Boxed<Body>),
     Skipped(Skip),
+}
+
+/// A declaration at file scope.
+#[derive(Debug, Drop)]
+pub enum FileDecl {
+    /// The empty declaration, a lone `;`, with its place.
+    Empty(Pos),
+    Full(Boxed<Decl>),
 }
 
 /// The body of a function: its block, or why it is skipped.
 #[derive(Debug, Drop)]
 pub enum Body {
-    Tree(Stmt),
+    Tree(Boxed<Stmt>),
     Skipped(Skip),
 }

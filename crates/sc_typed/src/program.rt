@@ -2,6 +2,7 @@
 // out of it.
 
 use crate::TStmt;
+use fsm_spec::MachineSpec;
 use sc_base::{List, NameId, Names, Pos, Skip};
 use sc_tree::ctype::{CType, Widths};
 
@@ -13,6 +14,8 @@ pub struct Program {
     /// The names of the files, in their order.
     pub files: List<NameId>,
     pub widths: Widths,
+    /// The machine whose operations stand in place of those on locks, where one is given.
+    pub machine: Option<MachineSpec>,
     /// Structs and unions, in the order of their first mention.
     pub structs: List<StructDef>,
     /// Globals, in the order of their first declaration.

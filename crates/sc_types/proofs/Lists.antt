@@ -1,6 +1,6 @@
 -- Two lists of types that are gone through side by side.
-use Rattle.std.proofs.Common.{◌≡◌, ℕ, ◌+◌, ◌<◌, ◌≤◌, Bool, true, false, suc, ◌&&◌, List, [], ◌∷◌, map, length, get_or, drop, min, arith, refl, ap, inl, inr}
-use Rattle.std.proofs.lemmas.List.{drop_more, drop_all}
+use Rattle.std.proofs.Common.{◌≡◌, ℕ, ◌≤◌, Bool, true, false, suc, ◌&&◌, List, [], ◌∷◌, map, length, drop, min, arith, refl, ap, inl, inr}
+use Rattle.std.proofs.lemmas.List.{drop_all}
 use Rattle.std.proofs.lemmas.Bool.{cases_lt}
 use Rattle.sc_tree.specs.declared.ctype.CType.{CType}
 use Rattle.sc_typed.specs.Types.{each_fits, with_each, Composing}
@@ -15,13 +15,6 @@ each_fits-length fit f [] [] h = absurd (h refl)
 each_fits-length fit f [] (t ∷ ts) h = refl
 each_fits-length fit f (x ∷ xs) [] h = refl
 each_fits-length fit f (x ∷ xs) (t ∷ ts) h = and_false (fit (f x) t) (each_fits fit (map f xs) ts) (each_fits-length fit f xs ts (λ e. h (ap suc e)))
-
--- the pair at a place, and those behind it
-pub each_fits_more : {A : Type 0} (fit : A → CType → Bool) (f : CType → A) (xs ts : List CType) (i : ℕ) (d e : CType) → i < length xs → i < length ts → each_fits fit (map f (drop i xs)) (drop i ts) ≡ (fit (f (get_or xs i d)) (get_or ts i e) && each_fits fit (map f (drop (i + 1) xs)) (drop (i + 1) ts))
-each_fits_more fit f xs ts i d e h k = rw (drop_more xs i d h, drop_more ts i e k)
-
-pub with_each_more : (f : CType → Composing) (xs ts : List CType) (i : ℕ) (d e : CType) → i < length xs → i < length ts → with_each (map f (drop i xs)) (drop i ts) ≡ ((f (get_or xs i d)).with (get_or ts i e) ∷ with_each (map f (drop (i + 1) xs)) (drop (i + 1) ts))
-with_each_more f xs ts i d e h k = rw (drop_more xs i d h, drop_more ts i e k)
 
 with_nothing : (cs : List Composing) → with_each cs [] ≡ []
 with_nothing [] = refl

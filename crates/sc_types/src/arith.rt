@@ -60,8 +60,8 @@ pub(crate) fn wrapped(bits: u32, n: i128) -> u64
     n.rem_euclid(power(bits) as i128) as u64
 }
 
-// The truth of a test as an `int`.
-pub(crate) fn truth(test: bool) -> u64
+/// The truth of a test as an `int`: 0 or 1.
+pub fn truth(test: bool) -> u64
     ensures value { result ≡ spec.truth test }
     ensures bound { result ≤ 1 }
 {
@@ -252,8 +252,8 @@ pub fn of_one(op: UnaryOp, bits: u32, a: u64) -> u64
     }
 }
 
-// A number of `from` bits as one of `bits` bits.
-fn resized(sign: bool, from: u32, bits: u32, n: u64) -> u64
+/// A number of `from` bits, with a sign or not, as one of `bits` bits: its low bits (C11 6.3.1.3).
+pub fn resized(sign: bool, from: u32, bits: u32, n: u64) -> u64
     requires before { from ≤ 64 }
     requires after { bits ≤ 64 }
     ensures value { result ≡ spec.resized sign from bits n }

@@ -14,8 +14,8 @@ use sc_tree::ctype::{CType, IntKind, Widths};
 use sc_tree::op::{BinaryOp, UnaryOp};
 use sc_typed::{Program, TExpr, What};
 
-// What folding makes of an expression: whether all of it is built as a constant is, and then its bits, none
-// where a division or a shift in it has no value.
+// What folding makes of an expression: whether all of it is built as a constant is, and then its bits,
+// none where a division or a shift in it has no value.
 #[derive(Clone, Copy)]
 struct Outcome {
     form: bool,
@@ -316,8 +316,9 @@ fn folded(w: Widths, e: &TExpr) -> Outcome
     }
 }
 
-/// The bits of an integer constant expression at the width of its type; `None` exactly where the expression
-/// is none (C11 6.6).
+/// The bits of an integer constant expression at the width of its type; `None` exactly where the
+/// expression is none (C11 6.6). `&&`, `||` and `? :` evaluate only what they need, but all of the
+/// expression has the form of a constant.
 pub fn constant_bits(w: Widths, e: &TExpr) -> Option<u64>
     ensures value { result ≡ spec.constant_bits w e.now }
     ensures bound { IfSome result (λ n. n < 2 ^ types.value_bits w (out-TExpr e.now).ctype) }
@@ -416,8 +417,8 @@ fn is_listed(decimal: bool, unsigned: bool, longs: u32, kind: IntKind) -> bool
         }
 }
 
-/// The kind of an integer constant (C11 6.4.4.1): `decimal` where it is written so, `unsigned` where it has
-/// a `u`, `longs` the number of its letters `l`. `None` exactly where no kind of its list holds it.
+/// The kind of an integer constant (C11 6.4.4.1): `decimal` where it is written so, `unsigned` where it
+/// has a `u`, `longs` the number of its letters `l`. `None` exactly where no kind of its list holds it.
 pub fn constant_kind(
     w: Widths,
     decimal: bool,

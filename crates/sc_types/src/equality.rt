@@ -17,15 +17,15 @@ pub fn same_length(a: Option<u32>, b: Option<u32>) -> bool
     }
 }
 
-// Whether two opaque kinds are one.
-pub(crate) fn same_opaque(a: OpaqueKind, b: OpaqueKind) -> bool
+/// Whether two opaque kinds are one.
+pub fn same_opaque(a: OpaqueKind, b: OpaqueKind) -> bool
     ensures { result ≡ spec.same_opaque a b }
 {
     a == b
 }
 
-// Whether two flags are one.
-pub(crate) fn same_flag(a: bool, b: bool) -> bool
+/// Whether two flags are one.
+pub fn same_flag(a: bool, b: bool) -> bool
     ensures { result ≡ spec.same_flag a b }
 {
     if a { b } else { !b }

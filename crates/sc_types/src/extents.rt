@@ -179,8 +179,8 @@ fn with_next(
 }
 
 /// The size and the alignment of a struct or union with these members, over a table of the structs and
-/// unions that they name (C11 6.7.2.1). `None` exactly where a member is incomplete or the whole is
-/// above 2^31 - 1 bytes at some member.
+/// unions that they name (C11 6.7.2.1). `None` exactly where a member has no extent, or the whole would
+/// be above 2^31 - 1 bytes.
 pub fn struct_extent(
     w: Widths,
     structs: &[StructDef],

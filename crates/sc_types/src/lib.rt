@@ -17,12 +17,12 @@ mod kinds;
 mod types;
 
 pub use agreement::{compatible, compatible_signature, composite, composite_signature};
-pub use arith::{computed, converted, fits, number, of_one, signed, takes};
+pub use arith::{computed, converted, fits, number, of_one, resized, signed, takes, truth};
 pub use constants::{
     constant, constant_bits, constant_kind, is_lvalue, is_null_constant, is_null_integer,
 };
 pub use copies::{copy_signature, copy_type, copy_types};
-pub use equality::{same, same_length, same_signature};
+pub use equality::{same, same_flag, same_length, same_opaque, same_signature};
 pub use extents::{extent, size, struct_extent};
 pub use kinds::{common, is_signed, kind_bits, kind_bytes, promoted, rank, same_kind, word_bytes};
 pub use types::{

@@ -1,5 +1,6 @@
 // The tables of kinds, sizes and constants, with values taken by hand from C11 and from the calling
-// conventions of i386 (ILP32) and x86-64 (LP64); and that copies and composites succeed with ample memory.
+// conventions of i386 (ILP32) and x86-64 (LP64); and that copies and composites succeed with ample
+// memory.
 
 use super::*;
 use sc_base::{Boxed, List, Names, OutOfMemory, Pos};

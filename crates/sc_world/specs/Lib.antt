@@ -1,1 +1,17 @@
+pub mod Machine
 pub mod Tree
+pub mod Build
+pub mod Source
+pub mod Gather
+pub mod Layout
+pub mod Objects
+pub mod Occurrences
+pub mod Places
+pub mod World
+pub mod Eval
+pub mod Known
+pub mod Exec
+pub mod Paths
+pub mod Shows
+pub mod Choices
+pub mod Verdict

@@ -8,6 +8,7 @@ use Rattle.sc_tree.specs.declared.op.UnaryOp.{UnaryOp}
 use Rattle.sc_tree.specs.declared.op.AssignOp.{AssignOp}
 use Rattle.sc_tree.specs.declared.op.Step.{Step}
 use Rattle.sc_tree.specs.declared.ctype.IntKind.{IntKind}
+use Rattle.sc_tree.specs.declared.ctype.IntKind.TheVariants as kind
 use Rattle.sc_tree.specs.declared.ctype.OpaqueKind.{OpaqueKind}
 use Rattle.sc_tree.specs.declared.ctype.Widths.{Widths}
 use Rattle.sc_tree.specs.declared.expr.Place.{Place}
@@ -33,9 +34,9 @@ mutual
     NoTypes : Tys
     Types : Ty → Tys → Tys
 
-mutual
+abbrev mutual
   -- whether two types are one
-  abbrev pub same_type : Ty → Ty → Bool
+  pub same_type : Ty → Ty → Bool
   same_type Void Void = true
   same_type Bool' Bool' = true
   same_type (Int k) (Int l) = same_kind k l
@@ -47,7 +48,7 @@ mutual
   same_type (Opaque k) (Opaque l) = same_opaque k l
   same_type _ _ = false
 
-  abbrev pub same_types : Tys → Tys → Bool
+  pub same_types : Tys → Tys → Bool
   same_types NoTypes NoTypes = true
   same_types (Types t ts) (Types u us) = same_type t u && same_types ts us
   same_types _ _ = false
@@ -96,17 +97,14 @@ has_sign _ = false
 -- the type in which `++` counts
 abbrev pub promoted_type : Ty → Ty
 promoted_type (Int k) = Int (promoted k)
-promoted_type t = Int promoted_bool
-  where
-    promoted_bool : IntKind
-    promoted_bool = IntKind.Int
+promoted_type t = Int kind.Int
 
 mutual
   -- Expressions (C11 6.5), each with its type at the end.
   pub data Exp : Type 0 where
     Comma : Exp → Exp → Ty → Exp
-    -- with the type in which the operator works
-    Assign : AssignOp → (works : Ty) → Exp → Exp → Ty → Exp
+    -- with the operator of `+=` and its kin, none for `=`, and the type in which it works
+    Assign : Option BinaryOp → (works : Ty) → Exp → Exp → Ty → Exp
     Cond : Exp → Exp → Exp → Ty → Exp
     Binary : BinaryOp → Exp → Exp → Ty → Exp
     Cast : Exp → Ty → Exp

@@ -1,5 +1,5 @@
 use Rattle.std.proofs.Common.{◌≡◌, Some, sym, ◌∙◌}
-use Rattle.sc_parse_expr.specs.Front.{front_string}
+use Rattle.sc_parse_front.specs.Front.{front_string}
 use Rattle.sc_parse_expr.proofs.Steps.{strings_more, strings_all, past_strings_more, past_strings_end}
 use Rattle.sc_parse_expr.proofs.primary.strings.Goals as goal
 

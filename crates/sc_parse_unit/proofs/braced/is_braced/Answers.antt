@@ -1,6 +1,6 @@
 use Rattle.std.proofs.Common.{◌≡◌, ◌+◌, ◌≤◌, List, length, Some, sym, ap, ◌∙◌, arith}
 use Rattle.sc_tree.specs.declared.token.Token.{Token}
-use Rattle.sc_parse_expr.specs.Front.{front_kind, behind}
+use Rattle.sc_parse_front.specs.Front.{front_kind, behind}
 use Rattle.sc_parse_unit.proofs.Braces.{turn_closes, behind_length}
 use Rattle.sc_parse_unit.proofs.braced.is_braced.Goals as goal
 

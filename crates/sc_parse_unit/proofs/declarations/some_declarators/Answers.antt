@@ -7,7 +7,7 @@ use Rattle.sc_parse_unit.proofs.declarations.some_declarators.Goals as goal
 
 pub returns-in_err-found : goal.returns-in_err-found
 returns-in_err-found c =
-    passed_on c.from_residual.result c.init_declarator.new.tokens c.init_declarator.new.tokens c.in_err-found.field-0.0 c.in_err-found.ensures c.from_residual.ensures.1
+    passed_on c.from_residual-in_err-found.result c.init_declarator.new.tokens c.init_declarator.new.tokens c.in_err-found.field-0.0 c.in_err-found.ensures c.from_residual-in_err-found.ensures.1
     (λ none. commas_refused (init_declarator c.args.types.now c.args.limit) with_item never items_of _ _ c.loop-turn.all c.loop-turn.height c.loop-turn.tokens c.loop-turn-test.true c.loop-turn.invariant none)
 
 pub returns-then-not-is_comma : goal.returns-then-not-is_comma

@@ -1,7 +1,7 @@
 -- What is open behind the tokens that are left is what is open behind all.
 use Rattle.std.proofs.Common.{◌≡◌, drop}
 use Rattle.sc_tree.specs.Brackets.{open_behind, nothing_open}
-use Rattle.sc_lexer.specs.Opened.{now_open}
+use Rattle.sc_lexer.specs.OpenBrackets.{now_open}
 use Rattle.sc_lexer.proofs.brackets.Open.unbalanced.Given as goal
 
 abbrev pub invariant-loop-token : goal.invariant-loop-token

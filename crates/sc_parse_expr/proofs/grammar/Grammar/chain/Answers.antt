@@ -1,7 +1,7 @@
 use Rattle.std.proofs.Common.{is_some, true, false, ap, sym, ◌∙◌}
 use Rattle.sc_parse_expr.specs.Read.{read}
 use Rattle.sc_parse_expr.specs.Nests.{below}
-use Rattle.sc_parse_expr.specs.Front.{front}
+use Rattle.sc_parse_front.specs.Front.{front}
 use Rattle.sc_parse_expr.proofs.Steps.{chain_loop, operator_step_by, loop_stops, loop_refused, loop_next, loop_out, passed_on, operator_none, operator_some, operator_there}
 use Rattle.sc_parse_expr.proofs.grammar.Grammar.chain.Goals as goal
 

@@ -2,8 +2,9 @@ use Rattle.std.proofs.Common.{◌≡◌, Some, true, false, is_some, max, sym, a
 use Rattle.sc_tree.specs.Tables.{◌>>=◌}
 use Rattle.sc_parse_expr.specs.Nests.{below}
 use Rattle.sc_parse_expr.specs.Read.{read}
-use Rattle.sc_parse_expr.specs.Starts.{start_of}
-use Rattle.sc_parse_expr.specs.Reading.{start, piece_by}
+use Rattle.sc_parse_front.specs.Start.{start_of}
+use Rattle.sc_parse_front.specs.Start.{start}
+use Rattle.sc_parse_expr.specs.Reading.{piece_by}
 use Rattle.sc_parse_expr.proofs.Steps.{gather_loop, joined_piece, loop_stops, loop_refused, loop_next, loop_out, passed_on, made_passed_on, starts_as}
 use Rattle.sc_parse_expr.proofs.grammar.Grammar.gather.Goals as goal
 

@@ -1,6 +1,6 @@
 use Rattle.std.proofs.Common.{◌++◌, ◌∷◌, [], Some, true, refl, sym, ap, ◌∙◌}
 use Rattle.sc_tree.specs.declared.grammar.Naming.TheVariants as naming
-use Rattle.sc_parse_expr.specs.Front.{is_ellipsis}
+use Rattle.sc_parse_front.specs.Front.{is_ellipsis}
 use Rattle.sc_parse_expr.specs.Reading.{params, inner_head, enrolled, listed_params}
 use Rattle.sc_parse_expr.specs.Nests.{below}
 use Rattle.sc_parse_expr.specs.Read.{read}
@@ -10,7 +10,7 @@ use Rattle.sc_parse_expr.proofs.grammar.Grammar.heads.Goals as goal
 
 pub returns-in_err-found : goal.returns-in_err-found
 returns-in_err-found g c =
-    passed_on_as params_of c.from_residual.result c.inner_head.new.tokens c.inner_head.new.tokens c.in_err-found.field-0.0 c.in_err-found.ensures c.from_residual.ensures.1
+    passed_on_as params_of c.from_residual-in_err-found.result c.inner_head.new.tokens c.inner_head.new.tokens c.in_err-found.field-0.0 c.in_err-found.ensures c.from_residual-in_err-found.ensures.1
     (λ none. commas_refused (inner_head c.args.self.now.types.now c.args.self.now.limit (below c.args.self.now.types.now c.args.self.now.limit) naming.Optional) enrolled is_ellipsis (listed_params c.args.self.now.types.now c.args.self.now.limit (below c.args.self.now.types.now c.args.self.now.limit)) _ _ (record { heads = c.loop-turn.all; named = c.loop-turn.named }) c.loop-turn.height c.loop-turn.tokens c.loop-turn-test.true c.loop-turn.invariant none)
 
 pub returns-then-not-is_comma : goal.returns-then-not-is_comma

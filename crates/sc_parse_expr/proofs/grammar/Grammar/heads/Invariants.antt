@@ -1,6 +1,6 @@
 use Rattle.std.proofs.Common.{◌≡◌, ◌-◌}
 use Rattle.sc_tree.specs.declared.grammar.Naming.TheVariants as naming
-use Rattle.sc_parse_expr.specs.Front.{is_ellipsis}
+use Rattle.sc_parse_front.specs.Front.{is_ellipsis}
 use Rattle.sc_parse_expr.specs.Reading.{inner_head, enrolled, listed_params}
 use Rattle.sc_parse_expr.specs.Steps.{some_heads}
 use Rattle.sc_parse_expr.specs.Nests.{below}

@@ -1,5 +1,5 @@
 use Rattle.std.proofs.Common.{◌≡◌, ◌-◌, [], length}
-use Rattle.sc_parse_expr.specs.Front.{is_right_brace}
+use Rattle.sc_parse_front.specs.Front.{is_right_brace}
 use Rattle.sc_parse_expr.specs.Read.{many}
 use Rattle.sc_parse_expr.specs.Reading.{member, with_item}
 use Rattle.sc_parse_expr.specs.Nests.{below}

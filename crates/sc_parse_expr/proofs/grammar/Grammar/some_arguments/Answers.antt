@@ -8,7 +8,7 @@ use Rattle.sc_parse_expr.proofs.grammar.Grammar.some_arguments.Goals as goal
 
 pub returns-in_err-found : goal.returns-in_err-found
 returns-in_err-found g c =
-    passed_on c.from_residual.result c.inner_expr.new.tokens c.inner_expr.new.tokens c.in_err-found.field-0.0 c.in_err-found.ensures c.from_residual.ensures.1
+    passed_on c.from_residual-in_err-found.result c.inner_expr.new.tokens c.inner_expr.new.tokens c.in_err-found.field-0.0 c.in_err-found.ensures c.from_residual-in_err-found.ensures.1
     (λ none. commas_refused (inner_expr c.args.self.now.types.now c.args.self.now.limit (below c.args.self.now.types.now c.args.self.now.limit) Assignment) with_tree never items_of _ _ c.loop-turn.all c.loop-turn.height c.loop-turn.tokens c.loop-turn-test.true c.loop-turn.invariant none)
 
 pub returns-then-not-is_comma : goal.returns-then-not-is_comma

@@ -7,7 +7,7 @@ use Rattle.sc_parse_expr.proofs.grammar.Grammar.some_parts.Goals as goal
 
 pub returns-in_err-found : goal.returns-in_err-found
 returns-in_err-found g c =
-    passed_on c.from_residual.result c.part.new.tokens c.part.new.tokens c.in_err-found.field-0.0 c.in_err-found.ensures c.from_residual.ensures.1
+    passed_on c.from_residual-in_err-found.result c.part.new.tokens c.part.new.tokens c.in_err-found.field-0.0 c.in_err-found.ensures c.from_residual-in_err-found.ensures.1
     (λ none. commas_refused (part c.args.self.now.types.now c.args.self.now.limit (below c.args.self.now.types.now c.args.self.now.limit)) with_item never items_of _ _ c.loop-turn.all c.loop-turn.height c.loop-turn.tokens c.loop-turn-test.true c.loop-turn.invariant none)
 
 pub returns-then-not-is_comma : goal.returns-then-not-is_comma

@@ -1,5 +1,5 @@
 use Rattle.std.proofs.Common.{◌-◌, ◌++◌, ◌∷◌, [], ap, sym, ◌∙◌}
-use Rattle.sc_parse_expr.specs.Front.{is_right_brace}
+use Rattle.sc_parse_front.specs.Front.{is_right_brace}
 use Rattle.sc_parse_expr.specs.Reading.{with_item}
 use Rattle.sc_parse_unit.specs.Nests.{inner_stmt}
 use Rattle.sc_parse_unit.specs.Reading.{an_item}

@@ -1,5 +1,0 @@
-use Rattle.sc_parse_expr.proofs.Names.{names_kept}
-use Rattle.sc_parse_expr.proofs.type_names.TypeNames.forget_beyond.Goals as goal
-
-pub returns : goal.returns
-returns c = rw (← c.self.view_is) (names_kept c.args.count c.self.inside.places.keys c.truncate.new.self.keys c.truncate.ensures.keys)

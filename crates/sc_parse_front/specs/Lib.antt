@@ -1,0 +1,4 @@
+pub mod Front
+pub mod Start
+pub mod Stop
+pub mod TypeNames
