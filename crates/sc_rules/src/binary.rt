@@ -19,7 +19,7 @@ use sc_types::{is_integer, is_null_constant, is_pointer, is_scalar, promoted_kin
 use std::alloc::Global;
 
 /// The manner in which an operator treats its operands.
-#[derive(Clone, Copy, Debug, PartialEq, Eq)]
+#[derive(Clone, Copy)]
 pub enum Manner {
     /// `&&`, `||`: numbers or pointers.
     Logical,

@@ -15,7 +15,7 @@ use sc_types::{copy_type, is_aggregate, target};
 use std::alloc::Global;
 
 /// What a member's name means in a struct or union.
-#[derive(Clone, Copy, Debug, PartialEq, Eq)]
+#[derive(Clone, Copy)]
 pub enum Meant {
     Missing,
     /// A member of its own, by its number.
@@ -152,7 +152,7 @@ fn among_unnamed(
 
 // What a name means in a type, in which bodies stand no deeper than that.
 #[cycle(member)]
-#[tactic(auto, using(sc_rules::proofs::Members::member_deeper), unfolding(sc_rules::specs::Members::member))]
+#[tactic(auto, using(crate::proofs::Deeper::member_deeper), unfolding(crate::specs::Members::member))]
 fn member(deep: u32, structs: &[StructDef], name: NameId, t: &CType) -> Meant
     ensures { result ≡ spec.member deep structs.now name t.now }
 {
