@@ -1,6 +1,6 @@
 // Calls (C11 6.5.2.2): how many arguments a function takes, and what becomes of each.
 
-ghost use Rattle.std.specs.Prelude.{◌≡◌, IfOk};
+ghost use Rattle.std.specs.Prelude.{◌≡◌, ◌∷◌, IfOk};
 ghost use Rattle.std.specs.Option.{option_copied};
 ghost use Rattle.sc_rules.specs.Gives.{Gives};
 ghost use Rattle.sc_rules.specs.Calls as spec;
@@ -16,7 +16,6 @@ use sc_types::{
     copy_signature, copy_type, copy_types, is_aggregate, is_integer, is_null_constant, is_pointer,
 };
 use std::alloc::Global;
-use std::mem;
 
 /// A function with that result of whose arguments nothing is said.
 pub fn with_result(t: CType) -> Signature
@@ -321,7 +320,7 @@ pub fn callee(alloc: Global, walk: &mut Walk, e: TExpr) -> Result<Option<TExpr>,
     }
 }
 
-/// How a built-in function takes its arguments.
+// How a built-in function takes its arguments.
 fn given_of(b: Builtin) -> Given
     ensures { result ≡ spec.given_of b }
 {
@@ -414,5 +413,181 @@ fn pointer_argument(
         Ok(Some(convert(alloc, a, t)?))
     } else {
         Ok(ill_typed(walk, IllTyped::Operand, at))
+    }
+}
+
+// The arguments behind a first one that has to be a pointer where it has a type.
+fn pointer_first(
+    alloc: Global,
+    walk: &mut Walk,
+    w: Widths,
+    at: Pos,
+    first: Option<TExpr>,
+    mut rest: Vec<Option<TExpr>>,
+) -> Result<Option<List<Option<TExpr>>>, OutOfMemory>
+    ensures { Gives (spec.first_pointer w at (first ∷ rest.items) walk.old) result walk.new }
+{
+    match first {
+        None => {
+            rest.insert(0, None)?;
+            Ok(Some(List::from_vec(rest)))
+        }
+        Some(a) => match pointer_argument(alloc, walk, w, at, a)? {
+            None => Ok(None),
+            Some(a) => {
+                rest.insert(0, Some(a))?;
+                Ok(Some(List::from_vec(rest)))
+            }
+        },
+    }
+}
+
+// The arguments, of which the first has to be a pointer where it has a type.
+#[tactic(auto, using(std::proofs::lemmas::List::drop_more))]
+fn first_pointer(
+    alloc: Global,
+    walk: &mut Walk,
+    w: Widths,
+    at: Pos,
+    given: List<Option<TExpr>>,
+) -> Result<Option<List<Option<TExpr>>>, OutOfMemory>
+    ensures { Gives (spec.first_pointer w at given walk.old) result walk.new }
+{
+    let mut rest = given.into_vec();
+    if rest.is_empty() {
+        Ok(Some(List::from_vec(rest)))
+    } else {
+        let first = rest.remove(0);
+        pointer_first(alloc, walk, w, at, first, rest)
+    }
+}
+
+// The arguments of a built-in function as it takes them.
+fn builtin_arguments(
+    alloc: Global,
+    walk: &mut Walk,
+    w: Widths,
+    takes: Given,
+    at: Pos,
+    given: List<Option<TExpr>>,
+) -> Result<Option<List<Option<TExpr>>>, OutOfMemory>
+    ensures { Gives (spec.builtin_arguments w takes at given walk.old) result walk.new }
+{
+    match takes {
+        Given::Pointer => first_pointer(alloc, walk, w, at, given),
+        Given::Any | Given::Two => Ok(Some(given)),
+    }
+}
+
+/// A name with a meaning of its own, where it is called.
+#[derive(Clone, Copy)]
+pub struct BuiltinName {
+    pub name: NameId,
+    pub meaning: Builtin,
+    /// Where the name stands.
+    pub place: Place,
+}
+
+// The built-in function as what is called.
+fn builtin_callee(alloc: Global, b: BuiltinName) -> Result<TExpr, OutOfMemory>
+    ensures { IfOk result (λ x. x ≡ spec.builtin_callee b.name b.meaning b.place) }
+{
+    let t = builtin_result(alloc, b.meaning)?;
+    let t = unknown_function(alloc, t)?;
+    Ok(node(What::Function(b.name, None), t, b.place))
+}
+
+// The call of a built-in function with arguments that are converted.
+fn finished_builtin(
+    alloc: Global,
+    b: BuiltinName,
+    p: Place,
+    all: Option<List<TExpr>>,
+) -> Result<Option<TExpr>, OutOfMemory>
+    ensures { IfOk result (λ x. x ≡ spec.finished_call p (spec.builtin_result b.meaning) (spec.builtin_callee b.name b.meaning b.place) all) }
+{
+    let t = builtin_result(alloc, b.meaning)?;
+    let f = builtin_callee(alloc, b)?;
+    finished_call(alloc, p, t, f, all)
+}
+
+// A call of a built-in function with arguments as it takes them.
+fn builtin_given(
+    alloc: Global,
+    walk: &mut Walk,
+    w: Widths,
+    b: BuiltinName,
+    s: &Signature,
+    p: Place,
+    given: Option<List<Option<TExpr>>>,
+) -> Result<Option<TExpr>, OutOfMemory>
+    ensures { Gives (spec.builtin_given w b.name b.meaning s.now b.place p given walk.old) result walk.new }
+{
+    match given {
+        None => Ok(None),
+        Some(given) => {
+            let types = builtin_params(alloc, given_of(b.meaning), s)?;
+            let all = arguments(alloc, walk, w, p.first, types.as_slice(), given)?;
+            finished_builtin(alloc, b, p, all)
+        }
+    }
+}
+
+// A call of a built-in function that has that signature.
+fn builtin_as(
+    alloc: Global,
+    walk: &mut Walk,
+    w: Widths,
+    b: BuiltinName,
+    s: &Signature,
+    p: Place,
+    given: List<Option<TExpr>>,
+) -> Result<Option<TExpr>, OutOfMemory>
+    ensures { Gives (spec.builtin_as w b.name b.meaning s.now b.place p given walk.old) result walk.new }
+{
+    let takes = given_of(b.meaning);
+    if has_count(takes, given.len()) && takes_many(s, given.len()) {
+        let given = builtin_arguments(alloc, walk, w, takes, p.first, given)?;
+        builtin_given(alloc, walk, w, b, s, p, given)
+    } else {
+        Ok(ill_typed(walk, IllTyped::Call, p.first))
+    }
+}
+
+// A call of a built-in function that is taken.
+fn builtin_taken(
+    alloc: Global,
+    walk: &mut Walk,
+    w: Widths,
+    b: BuiltinName,
+    visible: Option<Signature>,
+    p: Place,
+    given: List<Option<TExpr>>,
+) -> Result<Option<TExpr>, OutOfMemory>
+    ensures { Gives (spec.builtin_as w b.name b.meaning (spec.signature_or (spec.builtin_result b.meaning) visible) b.place p given walk.old) result walk.new }
+{
+    let t = builtin_result(alloc, b.meaning)?;
+    let s = signature_or(t, visible);
+    builtin_as(alloc, walk, w, b, &s, p, given)
+}
+
+/// A call of a built-in function. `visible` is the signature of a prototype of its name that is in sight: it
+/// limits and converts the arguments too. The arguments are values; `None` where a fault stands in one.
+pub fn builtin_call(
+    alloc: Global,
+    walk: &mut Walk,
+    w: Widths,
+    b: BuiltinName,
+    visible: Option<Signature>,
+    p: Place,
+    given: List<Option<TExpr>>,
+) -> Result<Option<TExpr>, OutOfMemory>
+    ensures { Gives (spec.builtin_call w b.name b.meaning visible b.place p given walk.old) result walk.new }
+{
+    match b.meaning {
+        Builtin::Refused => Ok(unsupported(walk, Unsupported::Call, b.place.token)),
+        Builtin::Nothing(_) | Builtin::Int(_) | Builtin::Long(_) | Builtin::Object(_) => {
+            builtin_taken(alloc, walk, w, b, visible, p, given)
+        }
     }
 }

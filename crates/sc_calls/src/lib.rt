@@ -6,4 +6,6 @@
 
 mod calls;
 
-pub use calls::{call, called_signature, callee, prototype, unknown_function, with_result};
+pub use calls::{
+    BuiltinName, builtin_call, call, called_signature, callee, prototype, unknown_function, with_result,
+};
