@@ -2,5 +2,8 @@
 #![tactic(auto)]
 
 mod scopes;
+mod stack;
+#[cfg(test)]
+mod tests;
 
 pub use scopes::{Block, Scopes};
