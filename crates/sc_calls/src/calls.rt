@@ -179,12 +179,12 @@ fn arguments(
     walk: &mut Walk,
     w: Widths,
     at: Pos,
-    types: &[CType],
+    params: &[CType],
     given: List<Option<TExpr>>,
 ) -> Result<Option<List<TExpr>>, OutOfMemory>
-    ensures { Gives (spec.arguments w at types.now given walk.old) result walk.new }
+    ensures { Gives (spec.arguments w at params.now given walk.old) result walk.new }
 {
-    let mut types = types;
+    let mut types = params;
     let mut all = Some(List::new(alloc));
     for a in given.into_vec() {
         let a = argument(alloc, walk, w, at, front(types), a)?;
