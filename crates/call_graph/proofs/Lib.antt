@@ -1,0 +1,3 @@
+pub mod Evident
+pub mod Whole
+pub mod Entries

@@ -1,0 +1,3 @@
+pub mod Evidence
+pub mod Tables
+pub mod Plans

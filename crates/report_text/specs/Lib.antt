@@ -1,0 +1,9 @@
+pub mod Names
+pub mod Paths
+pub mod Reasons
+pub mod Rows
+pub mod Shown
+pub mod Reports
+pub mod Functions
+pub mod Checks
+pub mod Replays

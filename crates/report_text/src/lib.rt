@@ -1,0 +1,22 @@
+//! The text of a check: notes, functions with their summaries and reports, totals; and the text of one run.
+//!
+//! Everything is put behind the bytes that are there already. A number that names nothing in the program, as a
+//! name, a parameter or a state, is written as no bytes.
+#![tactic(auto)]
+
+mod checks;
+mod functions;
+mod names;
+mod paths;
+mod put;
+mod reasons;
+mod replays;
+mod reports;
+mod rows;
+mod shown;
+
+pub use replays::{Ending, replay};
+pub use checks::text;
+
+#[cfg(test)]
+mod tests;
