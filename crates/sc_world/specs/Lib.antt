@@ -1,6 +1,8 @@
 pub mod Tree
 pub mod Build
 pub mod Source
+pub mod View
+pub mod Programs
 pub mod Gather
 pub mod Layout
 pub mod Objects

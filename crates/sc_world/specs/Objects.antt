@@ -127,11 +127,25 @@ members part f at (m ∷ ms) = do
 abbrev pub members_of : Source → ℕ → List Member
 members_of s n = (slice_index_or s.structs n (record { union = false; members = [] })).members
 
+-- Which parts an object of a type has: elements, of that number and type, or members.
+pub data Parts : Type 0 where
+  NoParts : Parts
+  Elements : (shown : ℕ) → Ty → Parts
+  Members : List Member → Parts
+
+abbrev pub parts_of : Source → Ty → Parts
+parts_of s (Array t n) = Elements (shown_elements n) t
+parts_of s (Struct n) = Members (members_of s n)
+parts_of s _ = NoParts
+
+abbrev pub lay_parts : Found → Layer → ℕ → Parts → Laying (Unit {0})
+lay_parts f part at NoParts = done tt
+lay_parts f part at (Elements n t) = elements part n 0 at t
+lay_parts f part at (Members ms) = members part f at ms
+
 -- the parts of the object at a location
 abbrev pub parts : Ground → Layer → ℕ → Ty → Laying (Unit {0})
-parts g part at (Array t n) = elements part (shown_elements n) 0 at t
-parts g part at (Struct n) = members part g.found at (members_of g.source n)
-parts g part at _ = done tt
+parts g part at t = lay_parts g.found part at (parts_of g.source t)
 
 -- Each level down has laid a location before, so 257 levels are beyond the limit.
 unfoldable pub object : (deep : ℕ) → Ground → Chosen → (root : Option ℕ) → Layer

@@ -88,6 +88,9 @@ trying text =
     then Some (Try 1 0)
     else (if bytes_eq (codes "pthread_mutex_trylock") text then Some (Try 0 16) else None)
 
+abbrev pub trying_if : Bool → List ℕ → Option Effect
+trying_if tries text = if tries then trying text else None
+
 abbrev pub or_else : {A : Type 0} → Option A → Option A → Option A
 or_else None b = b
 or_else (Some a) b = Some a
@@ -99,7 +102,7 @@ operation_if (Some n) = Some (Operation n)
 -- what a call of that name does, where the name has a meaning of its own
 abbrev pub effect_of_name : Source → List ℕ → Option Effect
 effect_of_name s text =
-    or_else (operation_if (find_in s.machine text)) (or_else (if s.tries then trying text else None) (built_in text))
+    or_else (operation_if (find_in s.machine text)) (or_else (trying_if s.tries text) (built_in text))
 
 abbrev pub text_of : Source → NameId → List ℕ
 text_of s n = slice_index_or s.names n.at []
