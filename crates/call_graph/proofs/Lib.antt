@@ -1,3 +1,4 @@
 pub mod Evident
 pub mod Whole
 pub mod Entries
+pub mod Edges

@@ -18,12 +18,16 @@ rising_rest x xs rising k h =
 within_from : (a b : ℕ) (xs : List ℕ) → IsStrictlyIncreasing xs → ((k : ℕ) → k < length xs → get_or xs k 0 < b)
     → (0 < length xs → a ≤ get_or xs 0 0) → Within a b xs
 within_from a b [] rising below from = tt
-within_from a b (x ∷ xs) rising below from =
-    (from (omega arith), (below 0 (omega arith),
+within_from a b (x ∷ xs) rising below from = (
+  from (omega arith),
+  (
+    below 0 (omega arith),
     within_from (x + 1) b xs
-    (rising_rest x xs rising)
-    (λ k h. below (suc k) (omega (arith, h)))
-    (λ h. omega (arith, rising 0 (omega (arith, h))))))
+        (rising_rest x xs rising)
+        (λ k h. below (suc k) (omega (arith, h)))
+        (λ h. omega (arith, rising 0 (omega (arith, h)))),
+  ),
+)
 
 -- what is below all items is none of them
 none_below : (a b g : ℕ) (xs : List ℕ) → Within a b xs → g < a → list_any (eqb g) xs ≡ false

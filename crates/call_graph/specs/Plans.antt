@@ -1,5 +1,5 @@
 -- What tells who reaches whom.
-use Rattle.std.specs.Prelude.{◌≡◌, ℕ, ◌<◌, Bool, List, length, Contains}
+use Rattle.std.specs.Prelude.{◌≡◌, ℕ, ◌<◌, nat_le, ◌&&◌, Bool, List, length, Contains}
 use Rattle.plan_core.specs.declared.plan.Edge.{Edge}
 use Rattle.plan_core.specs.Graph.{callees, reaches}
 use Rattle.call_graph.specs.declared.plans.Reaching.{Reaching}
@@ -11,6 +11,10 @@ use Rattle.call_graph.specs.Tables.{entry}
 abbrev pub is_back : Reaching → (f g : ℕ) → Bool
 is_back (Components e) f g = evidence.is_back e f g
 is_back (Table t) f g = entry t g f
+
+-- an edge is cut where its callee reaches its caller and does not stand behind it
+abbrev pub cuts : Reaching → (f g : ℕ) → Bool
+cuts r f g = is_back r f g && nat_le g f
 
 -- it tells the truth of each edge
 abbrev pub Tells : List (List ℕ) → Reaching → Type 0

@@ -13,3 +13,6 @@ mod tables;
 
 pub use evidence::{Evidence, Link};
 pub use plans::plan_of;
+
+#[cfg(test)]
+mod tests;

@@ -31,6 +31,13 @@ impl Reaching {
             Reaching::Table(table) => tables::is_back(table.as_slice(), caller, callee),
         }
     }
+
+    /// Whether an edge is cut: its callee reaches its caller, and does not stand behind it.
+    fn cuts(&self, edge: Edge) -> bool
+        ensures { result ≡ spec.cuts self.now edge.caller edge.callee }
+    {
+        self.is_back(edge.caller as usize, edge.callee as usize) && edge.callee <= edge.caller
+    }
 }
 
 /// Finds out who reaches whom.
@@ -83,10 +90,25 @@ fn kept(
             caller,
             callee: *callee,
         };
-        let is_cut = edge.is_cut(reaching.is_back(caller as usize, *callee as usize));
-        put_edge(&mut kept, cut, edge, is_cut)?;
+        put_edge(&mut kept, cut, edge, reaching.cuts(edge))?;
     }
     Ok(kept)
+}
+
+/// The plan, by what tells who reaches whom.
+fn split(alloc: Global, rows: &[List<u32>], reaching: &Reaching) -> Result<Plan, OutOfMemory>
+    requires graph { IsGraph rows.now }
+    requires ascending { (f : ℕ) → IsStrictlyIncreasing (callees rows.now f) }
+    requires tells { spec.Tells rows.now reaching.now }
+    ensures { IfOk result (λ plan. plan ≡ plan_of rows.now) }
+{
+    let mut callees = List::new(alloc);
+    let mut cut = List::new(alloc);
+    for (caller, row) in rows.iter().enumerate() {
+        let row = row.as_slice();
+        callees.push(kept(alloc, rows, reaching, caller as u32, row, &mut cut)?)?;
+    }
+    Ok(Plan { callees, cut })
 }
 
 /// The plan of a call graph: each row has the functions that a function calls, ascending, each once.
@@ -96,17 +118,5 @@ pub fn plan_of(alloc: Global, rows: &[List<u32>]) -> Result<Plan, OutOfMemory>
     ensures { IfOk result (λ plan. plan ≡ plan_of rows.now) }
 {
     let reaching = find_reaching(alloc, rows)?;
-    let mut callees = List::new(alloc);
-    let mut cut = List::new(alloc);
-    for (caller, row) in rows.iter().enumerate() {
-        callees.push(kept(
-            alloc,
-            rows,
-            &reaching,
-            caller as u32,
-            row.as_slice(),
-            &mut cut,
-        )?)?;
-    }
-    Ok(Plan { callees, cut })
+    split(alloc, rows, &reaching)
 }

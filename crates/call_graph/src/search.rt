@@ -101,11 +101,7 @@ fn go_on(
 }
 
 /// The functions in the order in which a search by depth leaves them.
-fn left_order(
-    alloc: Global,
-    rows: &[List<u32>],
-    steps: usize,
-) -> Result<Vec<usize>, OutOfMemory> {
+fn left_order(alloc: Global, rows: &[List<u32>], steps: usize) -> Result<Vec<usize>, OutOfMemory> {
     let mut seen = none(alloc, rows.len())?;
     let mut left = Vec::new(alloc);
     let mut way = Vec::new(alloc);

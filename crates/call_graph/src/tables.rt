@@ -68,6 +68,13 @@ fn first_table(alloc: Global, rows: &[List<u32>]) -> Result<List<List<bool>>, Ou
     Ok(table)
 }
 
+/// The entry behind one function more.
+fn next_entry(table: &[List<bool>], through: usize, caller: usize, callee: usize) -> bool
+    ensures { result ≡ spec.next_entry table.now through caller callee }
+{
+    entry(table, caller, callee) || (entry(table, caller, through) && entry(table, through, callee))
+}
+
 #[tactic(auto, using(crate::proofs::Entries::entry_next, crate::proofs::Entries::range_more))]
 fn next_row(
     alloc: Global,
@@ -82,10 +89,7 @@ fn next_row(
 {
     let mut row = List::new(alloc);
     for callee in 0..rows.len() {
-        row.push(
-            entry(table, caller, callee)
-                || (entry(table, caller, through) && entry(table, through, callee)),
-        )?;
+        row.push(next_entry(table, through, caller, callee))?;
     }
     Ok(row)
 }
@@ -110,10 +114,7 @@ fn next_table(
 }
 
 /// The whole table.
-pub(crate) fn table_of(
-    alloc: Global,
-    rows: &[List<u32>],
-) -> Result<List<List<bool>>, OutOfMemory>
+pub(crate) fn table_of(alloc: Global, rows: &[List<u32>]) -> Result<List<List<bool>>, OutOfMemory>
     ensures { IfOk result (λ table. table ≡ spec.table_before rows.now (length rows.now)) }
 {
     let mut table = first_table(alloc, rows)?;

@@ -84,8 +84,9 @@ pub names_more : (p : Program) (params : List Param) (i : ℕ) (x : Param) (n m 
     → (after ≡ before ++ flat_map (spaced_name p) (entry_params (take (i + 1) params))) × (m ≡ length (entry_params (take (i + 1) params)))
 names_more p params i x n m before now after inside is so_far put counted =
     let more = entry_more params i x inside n so_far.1 ∙ ap (λ y. entry_params (take i params) ++ entry_if n y) (sym is) in
-    let shown = entry_params (take i params) in
-    (put ∙ ap (λ t. t ++ flat_map (spaced_name p) (entry_if n x)) so_far.0
-    ∙ append_assoc before (flat_map (spaced_name p) shown) (flat_map (spaced_name p) (entry_if n x))
-    ∙ ap (λ t. before ++ t) (sym (flat_map-append (spaced_name p) shown (entry_if n x)) ∙ ap (flat_map (spaced_name p)) (sym more)),
-    counted ∙ ap (λ k. k + length (entry_if n x)) so_far.1 ∙ sym (length-append shown (entry_if n x)) ∙ ap length (sym more))
+    let shown = entry_params (take i params) in (
+      put ∙ ap (λ t. t ++ flat_map (spaced_name p) (entry_if n x)) so_far.0
+          ∙ append_assoc before (flat_map (spaced_name p) shown) (flat_map (spaced_name p) (entry_if n x))
+          ∙ ap (λ t. before ++ t) (sym (flat_map-append (spaced_name p) shown (entry_if n x)) ∙ ap (flat_map (spaced_name p)) (sym more)),
+      counted ∙ ap (λ k. k + length (entry_if n x)) so_far.1 ∙ sym (length-append shown (entry_if n x)) ∙ ap length (sym more),
+    )

@@ -15,8 +15,8 @@ mod reports;
 mod rows;
 mod shown;
 
-pub use replays::{Ending, replay};
 pub use checks::text;
+pub use replays::{Ending, replay};
 
 #[cfg(test)]
 mod tests;

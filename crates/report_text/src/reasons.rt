@@ -89,9 +89,7 @@ pub(crate) fn put_reason(out: &mut Vec<u8>, skip: Skip) -> Result<(), OutOfMemor
         Skip::Unsupported { kind, pos } => {
             put_placed(out, b"unsupported ", unsupported_word(kind), pos)
         }
-        Skip::IllTyped { kind, pos } => {
-            put_placed(out, b"illtyped ", ill_typed_word(kind), pos)
-        }
+        Skip::IllTyped { kind, pos } => { put_placed(out, b"illtyped ", ill_typed_word(kind), pos) }
         Skip::Limit { kind, count } => {
             put(out, b"limit ")?;
             put(out, limit_word(kind))?;
@@ -121,11 +119,7 @@ fn put_note_line(
 }
 
 /// Puts the line of a note; nothing for a limit.
-pub(crate) fn put_note(
-    out: &mut Vec<u8>,
-    program: &Program,
-    note: Skip,
-) -> Result<(), OutOfMemory>
+pub(crate) fn put_note(out: &mut Vec<u8>, program: &Program, note: Skip) -> Result<(), OutOfMemory>
     ensures { OnOk result (out.new.items ≡ out.old.items ++ spec.note_text program.now note) }
 {
     match note {

@@ -36,11 +36,7 @@ fn put_path_line(
 
 /// Puts the line of a report on a location that the caller does not know.
 #[tactic(auto, unfolding(crate::specs::Reports::report_line))]
-fn put_location_line(
-    out: &mut Vec<u8>,
-    kind: &[u8],
-    location: &[u8],
-) -> Result<(), OutOfMemory>
+fn put_location_line(out: &mut Vec<u8>, kind: &[u8], location: &[u8]) -> Result<(), OutOfMemory>
     ensures { OnOk result (out.new.items ≡ out.old.items ++ spec.report_line kind.now location.now) }
 {
     put(out, b"  report ")?;

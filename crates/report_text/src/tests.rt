@@ -79,6 +79,7 @@ fn row(given: u8, before: State, after: State) -> Row {
 }
 
 const U: State = State::At(0);
+
 const L: State = State::At(1);
 
 fn event(line: u32, col: u32, what: What) -> Event {
@@ -121,14 +122,26 @@ fn locked_twice(alloc: Global, program: &mut Program) -> Result<Verdict, OutOfMe
     let (c, l) = (name(program, "c")?, name(program, "l")?);
     let lock = What::Call(Some(name(program, "spin_lock")?));
     let params = vec![in alloc;
-        Param { name: c, ctype: CType::Bool },
-        Param { name: l, ctype: pointer(alloc)? },
+        Param {
+            name: c,
+            ctype: CType::Bool
+        },
+        Param {
+            name: l,
+            ctype: pointer(alloc)?
+        },
     ]?;
     put_function(alloc, program, "f", at(2, 6), List::from_vec(params))?;
     let exits = vec![in alloc; row(1, State::Nil, State::Nil)]?;
     let items = vec![in alloc;
-        ItemRows { item: Item::Exit, rows: List::from_vec(exits) },
-        ItemRows { item: Item::Lock(second_target(alloc)?), rows: locked_rows(alloc)? },
+        ItemRows {
+            item: Item::Exit,
+            rows: List::from_vec(exits)
+        },
+        ItemRows {
+            item: Item::Lock(second_target(alloc)?),
+            rows: locked_rows(alloc)?
+        },
     ]?;
     let first = vec![in alloc;
         event(2, 30, lock),
@@ -147,10 +160,7 @@ fn locked_twice(alloc: Global, program: &mut Program) -> Result<Verdict, OutOfMe
         items: List::from_vec(items),
         writes: List::new(alloc),
     };
-    Ok(Verdict::Done(
-        summary,
-        List::from_vec(vec![in alloc; report]?),
-    ))
+    Ok(Verdict::Done(summary, List::from_vec(vec![in alloc; report]?)))
 }
 
 const LOCKED_TWICE: &[u8] = b"\
@@ -200,7 +210,10 @@ fn losing(alloc: Global, program: &mut Program) -> Result<Verdict, OutOfMemory> 
     })?;
     let steps = vec![in alloc; Step::Deref, Step::Field(slots), Step::Deref, Step::Elem(7)]?;
     let write = Write {
-        path: Path { root: Root::Global(0), steps: List::from_vec(steps) },
+        path: Path {
+            root: Root::Global(0),
+            steps: List::from_vec(steps),
+        },
         width: 32,
     };
     let exit = Row {
@@ -221,7 +234,15 @@ fn losing(alloc: Global, program: &mut Program) -> Result<Verdict, OutOfMemory> 
         event(3, 60, What::Goto(out)),
         event(3, 70, What::End),
     ]?;
-    let leak = Report::Leak(at(3, 20), shown(alloc, vec![in alloc; false, false, false, true, true]?, trace, b"")?);
+    let leak = Report::Leak(
+        at(3, 20),
+        shown(
+            alloc,
+            vec![in alloc; false, false, false, true, true]?,
+            trace,
+            b"",
+        )?,
+    );
     let inner = Report::Inner(shown(alloc, Vec::new(alloc), Vec::new(alloc), b"s.lock")?);
     let summary = Summary {
         bits: 0,
@@ -258,11 +279,20 @@ total functions 2 skipped 1 rows 1 reports 2
 fn notes_and_a_skipped_function(rt: HostRuntime) -> Result<(), Fail> {
     let alloc = rt.alloc();
     let mut program = program(alloc)?;
-    program.notes.push(Skip::Unsupported { kind: Unsupported::VaList, pos: at(1, 2) })?;
-    program.notes.push(Skip::IllTyped { kind: IllTyped::Again, pos: at(1, 9) })?;
+    program.notes.push(Skip::Unsupported {
+        kind: Unsupported::VaList,
+        pos: at(1, 2),
+    })?;
+    program.notes.push(Skip::IllTyped {
+        kind: IllTyped::Again,
+        pos: at(1, 9),
+    })?;
     let verdict = losing(alloc, &mut program)?;
     put_function(alloc, &mut program, "h", at(4, 5), List::new(alloc))?;
-    let skipped = Verdict::Skipped(Skip::Limit { kind: LimitKind::Nodes, count: 4097 });
+    let skipped = Verdict::Skipped(Skip::Limit {
+        kind: LimitKind::Nodes,
+        count: 4097,
+    });
     let verdicts = RowList {
         list: vec![in alloc; Arc::new(alloc, verdict)?, Arc::new(alloc, skipped)?]?,
     };
@@ -288,7 +318,13 @@ fn a_run_that_is_set_aside(rt: HostRuntime) -> Result<(), Fail> {
         event(2, 61, What::Return),
     ];
     let ending = Ending::Aside(Reason::NoReturn);
-    assert_eq!(rt; replay(alloc, &program, &events, ending, b"")?.as_slice(), REPLAYED);
-    assert_eq!(rt; replay(alloc, &program, &[], Ending::Inner, b"s")?.as_slice(), b"outcome inner s\n");
+    assert_eq!(rt;
+        replay(alloc, &program, &events, ending, b"")?.as_slice(),
+        REPLAYED
+    );
+    assert_eq!(rt;
+        replay(alloc, &program, &[], Ending::Inner, b"s")?.as_slice(),
+        b"outcome inner s\n".as_slice()
+    );
     Ok(())
 }

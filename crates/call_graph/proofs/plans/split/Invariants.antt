@@ -2,8 +2,7 @@
 use Rattle.std.proofs.Common.{◌≡◌, map}
 use Rattle.std.specs.List.{flat_map, range_with_len}
 use Rattle.plan_core.specs.Graph.{kept_callees, cut_edges}
-use Rattle.call_graph.specs.Plans.{Tells}
-use Rattle.call_graph.proofs.plans.plan_of.Given as goal
+use Rattle.call_graph.proofs.plans.split.Given as goal
 
 abbrev pub invariant-loop-caller : goal.invariant-loop-caller
 invariant-loop-caller l =
