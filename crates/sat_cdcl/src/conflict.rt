@@ -13,7 +13,7 @@ use crate::held::{ClauseId, Clauses};
 use crate::reduce::reduce;
 use crate::resolvent::Resolvent;
 use crate::trail::Trail;
-use crate::watch::{Pair, Watches};
+use crate::watch::Watches;
 use sat_base::{Lit, OutOfMemory};
 use std::alloc::Global;
 
@@ -28,16 +28,17 @@ pub enum Progress {
     Exhausted,
 }
 
-/// Begins to watch a learnt clause, at the literals that became false last.
-fn attach_learnt(watches: &mut Watches, id: ClauseId, target: Target) -> Result<(), OutOfMemory> {
-    let pair = Pair {
-        first: target.asserted,
-        second: target.second,
-    };
+/// Begins to watch a learnt clause of this length, at the literals that became false last.
+fn attach_learnt(
+    watches: &mut Watches,
+    id: ClauseId,
+    target: Target,
+    len: usize,
+) -> Result<(), OutOfMemory> {
     if target.asserted == target.second {
-        watches.note_short(id, pair)
+        watches.note_short(id, Some(target.asserted))
     } else {
-        watches.watch(id, pair)
+        watches.watch(id, target.asserted, target.second, len)
     }
 }
 
@@ -63,8 +64,8 @@ fn learn_and_jump(
         return Ok(false);
     }
     let id = clauses.learn(learnt)?;
-    activity.grow_clauses()?;
-    attach_learnt(watches, id, target)?;
+    activity.note_clause(id)?;
+    attach_learnt(watches, id, target, learnt.len())?;
     reopen(trail, activity, target.cut)?;
     Ok(jump(trail, learnt, target.asserted, target.cut, id))
 }
@@ -114,7 +115,7 @@ pub fn resolve(
     activity.decay();
     let jumped = learn_from(trail, clauses, watches, activity, resolvent, conflict, last)?;
     if jumped {
-        reduce(alloc, trail, clauses, activity)?;
+        reduce(alloc, trail, clauses, watches, activity)?;
         return Ok(Progress::Rose);
     }
     reopen(trail, activity, last)?;

@@ -9,6 +9,7 @@
 mod activity;
 mod analyse;
 mod backjump;
+mod code;
 mod conflict;
 mod decide;
 mod held;

@@ -38,7 +38,7 @@ fn judge(trail: &Trail, clauses: &Clauses, assumed: &[Lit], values: Vec<bool>) -
     ensures { IsAdvance clauses.now assumed.now trail.now trail.now result }
 {
     if let Some(i) = unmet(values.as_slice(), clauses) {
-        return Advance::Clash(Some(ClauseId::Given(i)));
+        return Advance::Clash(ClauseId::given(i));
     }
     if !meets_each(values.as_slice(), assumed) {
         return Advance::Clash(None);
