@@ -2,7 +2,6 @@
 
 use Rattle.std.proofs.Common.{◌≡◌, ◌≢◌, ℕ, zero, suc, ◌+◌, ◌<◌, ◌≤◌, ◌⊎◌, inl, inr, List, [], ◌∷◌, ◌++◌, length, set, slice_get, slice_index, Option, None, Some, IsSome, refl, sym, subst, ap, ◌∙◌, arith}
 use Rattle.std.proofs.lemmas.Bool.{false≢true}
-use Rattle.std.proofs.lemmas.Option.{slice_get_within}
 use Rattle.sat_base.specs.declared.literal.Lit.{Lit}
 use Rattle.sat_pool.specs.declared.pool.Ref.{Ref}
 use Rattle.sat_pool.specs.Region.{Block, reads}

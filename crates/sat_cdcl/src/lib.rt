@@ -19,6 +19,7 @@ mod reduce;
 mod resolvent;
 mod search;
 mod solver;
+mod state;
 mod trail;
 mod turn;
 mod values;

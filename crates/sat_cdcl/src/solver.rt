@@ -10,6 +10,7 @@ use crate::code::LAST_VARIABLE;
 use crate::held::{ClauseId, Clauses};
 use crate::resolvent::Resolvent;
 use crate::search::find_model;
+use crate::state::Search;
 use crate::trail::Trail;
 use crate::watch::Watches;
 use sat_base::{Answer, Lit, OutOfMemory, Solver};
@@ -20,13 +21,8 @@ use std::marker::Model;
 /// were added, and the values that were found last.
 #[derive(Debug, Drop)]
 pub struct Cdcl {
-    alloc: Global,
     vars: usize,
-    clauses: Clauses,
-    trail: Trail,
-    watches: Watches,
-    activity: Activity,
-    resolvent: Resolvent,
+    search: Search,
     found: Vec<bool>,
 }
 
@@ -36,9 +32,9 @@ impl Model for Cdcl {
 
     ghost Value = { CdclState };
 
-    ghost view = { λ s. record { vars = s.vars; clauses = s.clauses; found = s.found.items } };
+    ghost view = { λ s. record { vars = s.vars; clauses = s.search.clauses; found = s.found.items } };
 
-    ghost invariant = { λ s. ClausesBelow s.vars s.clauses };
+    ghost invariant = { λ s. ClausesBelow s.vars s.search.clauses };
 }
 
 impl Cdcl {
@@ -47,14 +43,17 @@ impl Cdcl {
         ensures vars { result.vars ≡ 0 }
         ensures clauses { result.clauses ≡ [] }
     {
-        Cdcl {
+        let search = Search {
             alloc,
-            vars: 0,
-            clauses: Clauses::new(alloc),
             trail: Trail::empty(alloc),
+            clauses: Clauses::new(alloc),
             watches: Watches::new(alloc),
             activity: Activity::new(alloc),
             resolvent: Resolvent::new(alloc),
+        };
+        Cdcl {
+            vars: 0,
+            search,
             found: Vec::new(alloc),
         }
     }
@@ -105,34 +104,27 @@ impl Solver for Cdcl {
         if var > LAST_VARIABLE {
             return Err(OutOfMemory);
         }
-        self.watches.grow(var)?;
-        self.activity.grow()?;
-        self.resolvent.grow()?;
+        self.search.watches.grow(var)?;
+        self.search.activity.grow()?;
+        self.search.resolvent.grow()?;
         self.vars = next;
         Ok(var)
     }
 
     fn add(&mut self, clause: &[Lit]) -> Result<(), OutOfMemory> {
-        let id = self.clauses.next_id()?;
-        attach(&mut self.watches, id, clause)?;
-        self.clauses.add(clause)?;
-        self.activity.note_lits(clause);
+        let id = self.search.clauses.next_id()?;
+        attach(&mut self.search.watches, id, clause)?;
+        self.search.clauses.add(clause)?;
+        self.search.activity.note_lits(clause);
         Ok(())
     }
 
     fn solve(&mut self, assumed: &[Lit]) -> Result<Answer, OutOfMemory> {
-        self.activity.allow_for(self.clauses.count());
-        reopen(&self.trail, &mut self.activity, 0)?;
-        prepare(self.alloc, &mut self.trail, self.vars)?;
-        let found = find_model(
-            self.alloc,
-            &mut self.trail,
-            &mut self.clauses,
-            &mut self.watches,
-            &mut self.activity,
-            &mut self.resolvent,
-            assumed,
-        )?;
+        let search = &mut self.search;
+        search.activity.allow_for(search.clauses.count());
+        reopen(&search.trail, &mut search.activity, 0)?;
+        prepare(search.alloc, &mut search.trail, self.vars)?;
+        let found = find_model(search, assumed)?;
         match found {
             None => Ok(Answer::NoModel),
             Some(values) => {

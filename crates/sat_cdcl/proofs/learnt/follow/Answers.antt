@@ -1,5 +1,5 @@
 -- Each place in turn.
-use Rattle.std.proofs.Common.{◌<◌, length, slice_get, Some, sym, subst, ap, ◌∙◌, arith}
+use Rattle.std.proofs.Common.{sym, ◌∙◌, arith}
 use Rattle.sat_cdcl.proofs.LearntLemmas.{followed_more, followed_all}
 use Rattle.sat_cdcl.proofs.learnt.follow.Goals as goal
 
