@@ -7,13 +7,13 @@
 
 pub mod certificate;
 pub mod clause;
-pub mod fault;
+mod fault;
 pub mod laws;
 pub mod literal;
 pub mod plain;
-pub mod propagate;
+mod propagate;
 pub mod solver;
-pub mod split;
+mod split;
 
 pub use certificate::{ClauseList, Log, Step};
 pub use clause::Clause;

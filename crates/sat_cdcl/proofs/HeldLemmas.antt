@@ -1,6 +1,6 @@
 -- References and the clauses that they read.
 
-use Rattle.std.proofs.Common.{◌≡◌, ℕ, zero, suc, ◌+◌, ◌≤◌, ◌⊎◌, inl, inr, Bool, true, false, List, [], ◌∷◌, ◌++◌, length, take, get_or, slice_get, Option, None, Some, Result, Ok, Err, OnErr, IsSome, IfSome, MatchOption, unwrap_or, refl, sym, subst, ap, ◌∙◌, arith}
+use Rattle.std.proofs.Common.{◌≡◌, ℕ, zero, suc, ◌+◌, ◌≤◌, inl, inr, Bool, true, false, List, [], ◌∷◌, ◌++◌, length, take, get_or, slice_get, Option, None, Some, Result, Ok, Err, OnErr, IsSome, IfSome, MatchOption, unwrap_or, refl, sym, subst, ap, ◌∙◌, arith}
 use Rattle.std.proofs.lemmas.Bool.{false≢true}
 use Rattle.std.proofs.lemmas.List.Folds.{list_all-append, list_all_more, list_all_at}
 use Rattle.std.proofs.lemmas.Option.{slice_get_within, get_or_from_slice_get}
@@ -9,7 +9,7 @@ use Rattle.sat_base.specs.Logic.{some_true, all_true}
 use Rattle.sat_pool.specs.declared.pool.Ref.{Ref}
 use Rattle.sat_pool.specs.Region.{Block, reads}
 use Rattle.sat_cdcl.specs.Held.{clauses_of, AllLive, IsHeld}
-use Rattle.sat_cdcl.specs.Learned.{Thins}
+use Rattle.sat_cdcl.specs.Learnt.{Thins, Adds}
 use Rattle.sat_cdcl.specs.Steps.{Entails}
 use Rattle.sat_cdcl.proofs.TruthLemmas.{both, and_of}
 
@@ -86,26 +86,14 @@ held_given old new given learnt r c keeps is h =
           h.entailed f (ap (all_true f) (sym g.0) ∙ (both _ _ split).0);
     }
 
--- what stands in a list with one more
-pub pushed_at : {A : Type 0} (es : List (Option A)) (r : A) (i : ℕ) (s : A) → slice_get (es ++ Some r ∷ []) i ≡ Some (Some s)
-    → (slice_get es i ≡ Some (Some s)) ⊎ ((i ≡ length es) × (r ≡ s))
-pushed_at [] r zero s h = inr (refl, cc h)
-pushed_at [] r (suc i) s h = absurd (cc h)
-pushed_at (x ∷ xs) r zero s h = inl h
-pushed_at (x ∷ xs) r (suc i) s h =
-    elim (pushed_at xs r i s h) [
-      | inl k ↦ inl k
-      | inr k ↦ inr (ap suc k.0, k.1)
-    ]
-
-pub held_learnt : (bs : List Block) (given : List Ref) (learnt : List (Option (List Lit))) (c : List Lit) → IsHeld bs given learnt → Entails (clauses_of bs given) c
-    → IsHeld bs given (learnt ++ Some c ∷ [])
-held_learnt bs given learnt c h follows = record {
+pub held_learnt : (bs : List Block) (given : List Ref) (old new : List (Option (List Lit))) (c : List Lit) → IsHeld bs given old → Entails (clauses_of bs given) c → Adds old new c
+    → IsHeld bs given new
+held_learnt bs given old new c h follows adds = record {
   given_live = h.given_live;
   entailed = λ f all i d there.
-      elim (pushed_at learnt c i d there) [
-        | inl before ↦ h.entailed f all i d before
-        | inr now ↦ subst (λ x. some_true f x ≡ true) now.1 (follows f all)
+      elim (adds i d there) [
+        | inl now ↦ subst (λ x. some_true f x ≡ true) (sym now) (follows f all)
+        | inr before ↦ h.entailed f all i d before
       ];
 }
 

@@ -3,6 +3,6 @@ pub mod PlaceLemmas
 pub mod FollowLemmas
 pub mod WeightLemmas
 pub mod HeldLemmas
-pub mod LearnedLemmas
+pub mod LearntLemmas
 pub mod SearchLemmas
 pub mod ResolventLemmas

@@ -1,15 +1,16 @@
 -- The places of variables, and steps by their places.
 
-use Rattle.std.proofs.Common.{◌≡◌, ◌≢◌, ℕ, zero, suc, ◌+◌, ◌<◌, ◌≤◌, inl, inr, Bool, true, false, not, List, [], ◌∷◌, ◌++◌, length, length-set, length-take, take, drop, get_or, set, slice_get, slice_index, None, Some, refl, sym, subst, ap, ◌∙◌, arith, get_or-set_other, get_or-set_same}
+use Rattle.std.proofs.Common.{◌≡◌, ◌≢◌, ℕ, zero, suc, ◌+◌, ◌<◌, ◌≤◌, inl, inr, Bool, true, false, not, List, [], ◌∷◌, ◌++◌, length, length-append, length-set, length-take, take, drop, get_or, set, slice_get, slice_index, None, Some, refl, sym, subst, ap, ◌∙◌, arith, get_or-set_other, get_or-set_same}
 use Rattle.std.proofs.lemmas.Bool.{true≢false, false≢true}
-use Rattle.std.proofs.lemmas.List.{get_or-take, length-take-le, take_more_set}
+use Rattle.std.proofs.Math.Seq.{get_or-append_seam}
+use Rattle.std.proofs.lemmas.List.{get_or_append_left, get_or-take, length-take-le, take_more_set}
 use Rattle.std.proofs.lemmas.Option.{slice_get-get_or, slice_get_within, get_or_from_slice_get}
 use Rattle.sat_base.specs.declared.literal.Lit.{Lit}
 use Rattle.sat_base.specs.Logic.{lit_true, negation}
 use Rattle.sat_cdcl.specs.declared.trail.Step.{Step}
 use Rattle.sat_cdcl.specs.Order.{IsOrder, differs}
 use Rattle.sat_cdcl.specs.Steps.{AllTrue, Tells}
-use Rattle.sat_cdcl.proofs.TruthLemmas.{same_or_not, told, other_sign}
+use Rattle.sat_cdcl.proofs.TruthLemmas.{same_or_not, lt_or_le, told, other_sign}
 
 at_default : (order : List Step) (k : ℕ) (d e : Step) → k < length order → (get_or order k d).lit.var ≡ (get_or order k e).lit.var
 at_default [] k d e h = absurd (omega (arith, h))
@@ -94,6 +95,50 @@ order_exchanged order places k place s m o exists at before is =
                       (sym (ap (λ w. get_or (set (set order place m) k s) w d) e ∙ at_place d (λ w. absurd (ne (e ∙ w))))) y_below)
                   | inr ne2 ↦ rw len_places_2 (subst (λ t. t.lit.var < n) (sym (at_other j d ne ne2)) (o.bounded j d j_below))
                 ]
+          ];
+    }
+
+-- a new variable stands behind all others
+pub order_appended : (order : List Step) (places : List ℕ) (x : ℕ) (s : Step) → IsOrder order places → x ≡ length order → s.lit.var ≡ x
+    → IsOrder (order ++ s ∷ []) (places ++ x ∷ [])
+order_appended order places x s o is var =
+    let n = length places in
+    let same = o.same in
+    let len_order : length (order ++ s ∷ []) ≡ length order + 1 = length-append order (s ∷ []) in
+    let len_places : length (places ++ x ∷ []) ≡ n + 1 = length-append places (x ∷ []) in
+    let x_last : x ≡ n = is ∙ same in
+    let old_place : (z : ℕ) → z < n → slice_index (places ++ x ∷ []) z ≡ slice_index places z = λ z below. get_or_append_left places (x ∷ []) 0 z below in
+    let new_place : slice_index (places ++ x ∷ []) x ≡ x = ap (λ k. get_or (places ++ x ∷ []) k 0) x_last ∙ get_or-append_seam places x [] 0 in
+    let old_step : (j : ℕ) (d : Step) → j < length order → get_or (order ++ s ∷ []) j d ≡ get_or order j d = λ j d below. get_or_append_left order (s ∷ []) d j below in
+    let new_step : (d : Step) → get_or (order ++ s ∷ []) x d ≡ s = λ d. ap (λ k. get_or (order ++ s ∷ []) k d) is ∙ get_or-append_seam order s [] d in
+    record {
+      same = len_order ∙ ap (λ k. k + 1) same ∙ sym len_places;
+      inside = λ z below.
+          elim (lt_or_le z n) [
+            | inl old ↦ let i = o.inside z old in rw (old_place z old, len_places) (omega (arith, i))
+            | inr past ↦ let e : z ≡ x = omega (arith, below, past, len_places, x_last) in rw (e, new_place, len_places) (omega (arith, x_last))
+          ];
+      inverse = λ z d below.
+          elim (lt_or_le z n) [
+            | inl old ↦
+                ap (λ p. (get_or (order ++ s ∷ []) p d).lit.var) (old_place z old)
+                ∙ ap (λ t. t.lit.var) (old_step (slice_index places z) d (let i = o.inside z old in omega (arith, i, same)))
+                ∙ o.inverse z d old
+            | inr past ↦
+                let e : z ≡ x = omega (arith, below, past, len_places, x_last) in
+                ap (λ w. (get_or (order ++ s ∷ []) (slice_index (places ++ x ∷ []) w) d).lit.var) e
+                ∙ ap (λ p. (get_or (order ++ s ∷ []) p d).lit.var) new_place
+                ∙ ap (λ t. t.lit.var) (new_step d)
+                ∙ var
+                ∙ sym e
+          ];
+      bounded = λ j d below.
+          elim (lt_or_le j (length order)) [
+            | inl old ↦ let b = o.bounded j d old in rw (ap (λ t. t.lit.var) (old_step j d old), len_places) (omega (arith, b))
+            | inr past ↦
+                let e : j ≡ x = omega (arith, below, past, len_order, is) in
+                let v : (get_or (order ++ s ∷ []) j d).lit.var ≡ x = ap (λ w. (get_or (order ++ s ∷ []) w d).lit.var) e ∙ ap (λ t. t.lit.var) (new_step d) ∙ var in
+                omega (arith, v, x_last, len_places)
           ];
     }
 

@@ -7,12 +7,12 @@ use Rattle.std.proofs.lemmas.Option.{slice_get-get_or, slice_get_within, get_or_
 use Rattle.std.proofs.lemmas.List.Folds.{list_any-append, list_any_at, list_any_more}
 use Rattle.std.proofs.lemmas.List.Sorted.{IsPermutation-swap_remove, list_any-IsPermutation}
 use Rattle.sat_base.specs.declared.literal.Lit.{Lit}
-use Rattle.sat_base.specs.Logic.{lit_true, some_true, all_true, negation}
+use Rattle.sat_base.specs.Logic.{lit_true, some_true, negation}
 use Rattle.sat_cdcl.specs.declared.trail.Step.{Step}
 use Rattle.sat_cdcl.specs.Steps.{TrailState, Entails}
 use Rattle.sat_cdcl.specs.Answered.{Rises}
 use Rattle.sat_cdcl.specs.Resolvents.{Takes, TakesAll, IsAsserting}
-use Rattle.sat_cdcl.proofs.TruthLemmas.{true_or_false, not_both, true_unless, lit_false, negation_true}
+use Rattle.sat_cdcl.proofs.TruthLemmas.{true_or_false, not_both, lit_false}
 use Rattle.sat_cdcl.proofs.SearchLemmas.{rises_asserted}
 
 left_true : (a b : Bool) → a ≡ true → (a || b) ≡ true

@@ -1,7 +1,7 @@
 pub mod Steps
 pub mod Order
 pub mod Weight
-pub mod Learned
+pub mod Learnt
 pub mod Held
 pub mod Looks
 pub mod Decided

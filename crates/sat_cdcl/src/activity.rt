@@ -2,7 +2,7 @@
 // each learnt clause did. No answer rests on either.
 
 use crate::held::ClauseId;
-use sat_base::OutOfMemory;
+use sat_base::{Lit, OutOfMemory};
 use std::alloc::Global;
 
 /// The activities of the variables, and a heap of those that may be open. Where one is missing, the
@@ -13,12 +13,24 @@ pub struct Activity {
     heap: Vec<usize>,
     place: Vec<usize>,
     step: u64,
-    /// The scores of the learnt clauses, which age more slowly.
+    /// The sign with which each variable is decided.
+    phases: Vec<Phase>,
+    /// The scores of the learnt clauses by their numbers, which age more slowly.
     uses: Vec<u64>,
     use_step: u64,
     /// How many learnt clauses there are, and how many there may be.
     live: usize,
     limit: usize,
+}
+
+/// The sign of a variable: that which it had last, and before it had any, that in which most of its
+/// literals in the clauses stand.
+#[derive(Clone, Copy, Debug)]
+struct Phase {
+    neg: bool,
+    had_value: bool,
+    /// How many more of its literals are negations.
+    excess: i32,
 }
 
 /// A heap of numbers that fit into memory has no more levels than this.
@@ -33,6 +45,19 @@ const FIRST_LIMIT: usize = 1000;
 
 const LIMIT_STEP: usize = 50;
 
+impl Phase {
+    fn note(&mut self, neg: bool) {
+        self.excess = if neg {
+            self.excess.saturating_add(1)
+        } else {
+            self.excess.saturating_sub(1)
+        };
+        if !self.had_value {
+            self.neg = self.excess >= 0;
+        }
+    }
+}
+
 impl Activity {
     /// No variable. It takes no memory.
     pub fn new(alloc: Global) -> Activity {
@@ -40,6 +65,7 @@ impl Activity {
             score: Vec::new(alloc),
             heap: Vec::new(alloc),
             place: Vec::new(alloc),
+            phases: Vec::new(alloc),
             step: 1 << 10,
             uses: Vec::new(alloc),
             use_step: 1 << 20,
@@ -53,6 +79,11 @@ impl Activity {
         let var = self.score.len();
         self.score.push(0)?;
         self.place.push(usize::MAX)?;
+        self.phases.push(Phase {
+            neg: true,
+            had_value: false,
+            excess: 0,
+        })?;
         self.insert(var)?;
         Ok(())
     }
@@ -68,12 +99,31 @@ impl Activity {
         Ok(())
     }
 
-    /// Puts all variables into the heap.
-    pub fn refill(&mut self) -> Result<(), OutOfMemory> {
-        for var in 0..self.place.len() {
-            self.insert(var)?;
+    /// Notes the literals of a clause that is given: a variable that had no value yet is decided with
+    /// the sign of most of its literals.
+    pub fn note_lits(&mut self, clause: &[Lit]) {
+        for lit in clause {
+            if let Some(phase) = self.phases.get_mut(lit.var) {
+                phase.note(lit.neg);
+            }
         }
-        Ok(())
+    }
+
+    /// The sign with which a variable is decided.
+    pub fn sign(&self, var: usize) -> bool {
+        match self.phases.get(var) {
+            None => true,
+            Some(phase) => phase.neg,
+        }
+    }
+
+    /// Makes the variable of a literal that was taken back ready for a decision, with this sign.
+    pub fn reopen(&mut self, lit: Lit) -> Result<(), OutOfMemory> {
+        if let Some(phase) = self.phases.get_mut(lit.var) {
+            phase.neg = lit.neg;
+            phase.had_value = true;
+        }
+        self.insert(lit.var)
     }
 
     /// Takes the variable of the highest score out of the heap.
@@ -105,11 +155,23 @@ impl Activity {
         }
     }
 
-    /// One learnt clause more.
-    pub fn grow_clauses(&mut self) -> Result<(), OutOfMemory> {
-        self.uses.push(self.use_step)?;
-        self.live = self.live.saturating_add(1);
+    /// One learnt clause more, of this name.
+    pub fn note_clause(&mut self, clause: ClauseId) -> Result<(), OutOfMemory> {
+        if let ClauseId::Learnt(i) = clause {
+            for _missing in self.uses.len()..i as usize + 1 {
+                self.uses.push(0)?;
+            }
+            if let Some(score) = self.uses.get_mut(i as usize) {
+                *score = self.use_step;
+            }
+            self.live = self.live.saturating_add(1);
+        }
         Ok(())
+    }
+
+    /// There may be a third as many learnt clauses as there are given ones, if that is more.
+    pub fn allow_for(&mut self, given: usize) {
+        self.limit = self.limit.max(given / 3);
     }
 
     /// Whether there are so many learnt clauses that some are to be deleted.
@@ -131,10 +193,10 @@ impl Activity {
     /// Raises the score of a clause, if it is a learnt one.
     pub fn bump_clause(&mut self, clause: ClauseId) {
         if let ClauseId::Learnt(i) = clause
-            && i < self.uses.len()
+            && let Some(score) = self.uses.get_mut(i as usize)
         {
-            self.uses[i] = self.uses[i].saturating_add(self.use_step);
-            if self.uses[i] > HIGHEST {
+            *score = score.saturating_add(self.use_step);
+            if *score > HIGHEST {
                 self.rescale_uses();
             }
         }

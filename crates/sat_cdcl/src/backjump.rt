@@ -79,7 +79,7 @@ pub fn is_asserting(trail: &Trail, clause: &[Lit], lit: Lit, k: usize) -> bool
 /// Makes the variables of the steps from this place on ready for a decision.
 pub fn reopen(trail: &Trail, activity: &mut Activity, from: usize) -> Result<(), OutOfMemory> {
     for place in from..trail.len() {
-        activity.insert(trail.at(place).lit.var)?;
+        activity.reopen(trail.at(place).lit)?;
     }
     Ok(())
 }

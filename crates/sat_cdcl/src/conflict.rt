@@ -11,11 +11,10 @@ use crate::analyse::analyse;
 use crate::backjump::{Target, find_target, flip_last, is_asserting, jump, reopen};
 use crate::held::{ClauseId, Clauses};
 use crate::reduce::reduce;
-use crate::resolvent::Resolvent;
+use crate::state::Search;
 use crate::trail::Trail;
-use crate::watch::{Pair, Watches};
+use crate::watch::Watches;
 use sat_base::{Lit, OutOfMemory};
-use std::alloc::Global;
 
 /// What a turn of the search came to.
 #[derive(Debug, Drop)]
@@ -28,16 +27,17 @@ pub enum Progress {
     Exhausted,
 }
 
-/// Begins to watch a learnt clause, at the literals that became false last.
-fn attach_learnt(watches: &mut Watches, id: ClauseId, target: Target) -> Result<(), OutOfMemory> {
-    let pair = Pair {
-        first: target.asserted,
-        second: target.second,
-    };
+/// Begins to watch a learnt clause of this length, at the literals that became false last.
+fn attach_learnt(
+    watches: &mut Watches,
+    id: ClauseId,
+    target: Target,
+    len: usize,
+) -> Result<(), OutOfMemory> {
     if target.asserted == target.second {
-        watches.note_short(id, pair)
+        watches.note_short(id, Some(target.asserted))
     } else {
-        watches.watch(id, pair)
+        watches.watch(id, target.asserted, target.second, len)
     }
 }
 
@@ -63,61 +63,70 @@ fn learn_and_jump(
         return Ok(false);
     }
     let id = clauses.learn(learnt)?;
-    activity.grow_clauses()?;
-    attach_learnt(watches, id, target)?;
+    activity.note_clause(id)?;
+    attach_learnt(watches, id, target, learnt.len())?;
     reopen(trail, activity, target.cut)?;
     Ok(jump(trail, learnt, target.asserted, target.cut, id))
 }
 
 /// Learns from a conflict with a clause, where it can.
 fn learn_from(
-    trail: &mut Trail,
-    clauses: &mut Clauses,
-    watches: &mut Watches,
-    activity: &mut Activity,
-    resolvent: &mut Resolvent,
+    search: &mut Search,
     conflict: Option<ClauseId>,
     last: usize,
 ) -> Result<bool, OutOfMemory>
-    ensures given { clauses.new ≡ clauses.old }
+    ensures given { search.new.clauses ≡ search.old.clauses }
     ensures jumped { IfOk result (λ jumped. MatchBool jumped
-        ((assumed : List Lit) → Rises clauses.old assumed trail.old trail.new) (trail.new ≡ trail.old)) }
+        ((assumed : List Lit) → Rises search.old.clauses assumed search.old.trail search.new.trail) (search.new.trail ≡ search.old.trail)) }
 {
     let id = match conflict {
         None => return Ok(false),
         Some(id) => id,
     };
-    if !analyse(trail, clauses, activity, resolvent, id, last)? {
+    let is_learnt = analyse(
+        &search.trail,
+        &search.clauses,
+        &mut search.activity,
+        &mut search.resolvent,
+        id,
+        last,
+    )?;
+    if !is_learnt {
         return Ok(false);
     }
-    learn_and_jump(trail, clauses, watches, activity, resolvent.lits())
+    learn_and_jump(
+        &mut search.trail,
+        &mut search.clauses,
+        &mut search.watches,
+        &mut search.activity,
+        search.resolvent.lits(),
+    )
 }
 
 /// Goes back after a conflict, if there is a decision to go back to.
-pub fn resolve(
-    alloc: Global,
-    trail: &mut Trail,
-    clauses: &mut Clauses,
-    watches: &mut Watches,
-    activity: &mut Activity,
-    resolvent: &mut Resolvent,
-    conflict: Option<ClauseId>,
-) -> Result<Progress, OutOfMemory>
-    ensures given { clauses.new ≡ clauses.old }
+pub fn resolve(search: &mut Search, conflict: Option<ClauseId>) -> Result<Progress, OutOfMemory>
+    ensures given { search.new.clauses ≡ search.old.clauses }
     ensures progress { IfOk result (λ progress. (assumed : List Lit)
-        → Clashes clauses.old assumed trail.old.steps → IsProgress clauses.old assumed trail.old trail.new progress) }
+        → Clashes search.old.clauses assumed search.old.trail.steps
+        → IsProgress search.old.clauses assumed search.old.trail search.new.trail progress) }
 {
-    let last = match trail.last_decision() {
+    let last = match search.trail.last_decision() {
         None => return Ok(Progress::Exhausted),
         Some(last) => last,
     };
-    activity.decay();
-    let jumped = learn_from(trail, clauses, watches, activity, resolvent, conflict, last)?;
+    search.activity.decay();
+    let jumped = learn_from(search, conflict, last)?;
     if jumped {
-        reduce(alloc, trail, clauses, activity)?;
+        reduce(
+            search.alloc,
+            &search.trail,
+            &mut search.clauses,
+            &mut search.watches,
+            &mut search.activity,
+        )?;
         return Ok(Progress::Rose);
     }
-    reopen(trail, activity, last)?;
-    flip_last(trail, last);
+    reopen(&search.trail, &mut search.activity, last)?;
+    flip_last(&mut search.trail, last);
     Ok(Progress::Rose)
 }

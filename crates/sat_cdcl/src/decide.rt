@@ -20,10 +20,10 @@ pub enum Choice {
 }
 
 /// Decides a variable, with the sign that it had last, if it has no value.
-fn decide_variable(trail: &mut Trail, var: usize) -> Put
+fn decide_variable(trail: &mut Trail, activity: &Activity, var: usize) -> Put
     ensures { IsDecided trail.old trail.new var result }
 {
-    let neg = trail.last_sign(var);
+    let neg = activity.sign(var);
     let step = Step {
         lit: Lit { var, neg },
         implied: false,
@@ -34,12 +34,12 @@ fn decide_variable(trail: &mut Trail, var: usize) -> Put
 }
 
 /// The values of all variables, or a decision of one that has none.
-fn collect(alloc: Global, trail: &mut Trail) -> Result<Choice, OutOfMemory>
+fn collect(alloc: Global, trail: &mut Trail, activity: &Activity) -> Result<Choice, OutOfMemory>
     ensures { IfOk result (λ choice. IsChoice trail.old trail.new choice) }
 {
     let mut values = Vec::new(alloc);
     for var in 0..trail.vars() {
-        let value = match decide_variable(trail, var) {
+        let value = match decide_variable(trail, activity, var) {
             Put::Done => return Ok(Choice::Made),
             Put::Taken(value) => value,
             Put::Absent => false,
@@ -58,7 +58,7 @@ fn decide_active(trail: &mut Trail, activity: &mut Activity) -> bool
             None => return false,
             Some(var) => var,
         };
-        match decide_variable(trail, var) {
+        match decide_variable(trail, activity, var) {
             Put::Done => return true,
             Put::Taken(_) => {}
             Put::Absent => {}
@@ -78,6 +78,6 @@ pub fn decide(
     if decide_active(trail, activity) {
         return Ok(Choice::Made);
     }
-    let choice = collect(alloc, trail)?;
+    let choice = collect(alloc, trail, activity)?;
     Ok(choice)
 }

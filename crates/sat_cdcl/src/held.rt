@@ -11,11 +11,21 @@ use sat_pool::{Pool, Ref};
 use std::alloc::Global;
 use std::marker::Model;
 
-/// The name of a clause: its place among those given, or among those learnt.
+/// The name of a clause: its place among those given, or its number among those learnt.
 #[derive(Clone, Copy, Debug, PartialEq, Eq)]
 pub enum ClauseId {
-    Given(usize),
-    Learnt(usize),
+    Given(u32),
+    Learnt(u32),
+}
+
+impl ClauseId {
+    /// The name of the given clause at a place, which is below 2^32.
+    pub fn given(place: usize) -> Option<ClauseId> {
+        match u32::try_from(place) {
+            Ok(number) => Some(ClauseId::Given(number)),
+            Err(_) => None,
+        }
+    }
 }
 
 /// All clauses. Contracts see those given.
@@ -87,23 +97,27 @@ impl Clauses {
         ensures { IfSome result (λ c. Entails self.now c.now) }
     {
         match id {
-            ClauseId::Given(i) => clause_at(&self.pool, self.given.as_slice(), i),
-            ClauseId::Learnt(i) => self.learnt.get(i),
+            ClauseId::Given(i) => clause_at(&self.pool, self.given.as_slice(), i as usize),
+            ClauseId::Learnt(i) => self.learnt.get(i as usize),
         }
     }
 
+    /// The name of the clause that is added next. There may be 2^32 of them.
+    pub fn next_id(&self) -> Result<ClauseId, OutOfMemory> {
+        ClauseId::given(self.given.len()).ok_or(OutOfMemory)
+    }
+
     /// Adds a given clause.
-    pub fn add(&mut self, clause: &[Lit]) -> Result<ClauseId, OutOfMemory>
+    pub fn add(&mut self, clause: &[Lit]) -> Result<(), OutOfMemory>
         ensures ok { IfOk result (λ _. self.new ≡ self.old ++ clause.now ∷ []) }
         ensures err { OnErr result (self.new ≡ self.old) }
     {
-        let id = ClauseId::Given(self.given.len());
         let r = self.pool.put(clause)?;
         self.given.push(r)?;
-        Ok(id)
+        Ok(())
     }
 
-    /// How many numbers were given to learnt clauses.
+    /// The numbers of learnt clauses are below this one.
     pub fn learnt_count(&self) -> usize {
         self.learnt.count()
     }

@@ -1,10 +1,9 @@
 // The clauses that were learnt. They lie in a region of their own, which is compacted when some of
-// them are deleted. A clause keeps its number for good, and no number is used twice, so what names a
-// deleted clause finds nothing.
+// them are deleted. A clause keeps its number until it is deleted; then another may get it.
 
-ghost use Rattle.std.specs.Prelude.{◌≡◌, ◌≢◌, ◌<◌, ◌++◌, ◌∷◌, [], ℕ, Some, length, slice_get, IfOk, IfSome, IfNone, OnErr};
+ghost use Rattle.std.specs.Prelude.{◌≡◌, ◌≢◌, ◌<◌, ◌++◌, ◌∷◌, [], ℕ, Some, None, length, slice_get, slice_set, IfOk, IfSome, IfNone, OnErr};
 ghost use Rattle.sat_pool.specs.Region.{size, IsReserved};
-ghost use Rattle.sat_cdcl.specs.Learned.{entries, IsTable, Thins, moved_at};
+ghost use Rattle.sat_cdcl.specs.Learnt.{entries, IsTable, Thins, Adds, Names, moved_at};
 
 use sat_base::{Lit, OutOfMemory};
 use sat_pool::{Moves, Pool, Ref};
@@ -16,12 +15,14 @@ use std::marker::Model;
 pub struct Learnt {
     pool: Pool,
     table: Vec<Option<Ref>>,
+    /// Numbers whose clauses were deleted.
+    free: Vec<u32>,
 }
 
 impl Model for Learnt {
     ghost use Rattle.std.specs.Prelude.{List, Option};
     ghost use Rattle.sat_base.specs.declared.literal.Lit.{Lit};
-    ghost use Rattle.sat_cdcl.specs.Learned.{entries, IsTable};
+    ghost use Rattle.sat_cdcl.specs.Learnt.{entries, IsTable};
 
     ghost Value = { List (Option (List Lit)) };
 
@@ -117,6 +118,71 @@ fn thin(pool: &mut Pool, table: &mut Vec<Option<Ref>>, marked: &[bool])
     }
 }
 
+/// A number more, which has no clause.
+fn next_number(table: &mut Vec<Option<Ref>>) -> Result<u32, OutOfMemory>
+    ensures { Names table.old.items table.new.items }
+{
+    match u32::try_from(table.len()) {
+        Err(_) => Err(OutOfMemory),
+        Ok(number) => {
+            table.push(None)?;
+            Ok(number)
+        }
+    }
+}
+
+/// A number for a new clause: one whose clause was deleted, or else a number more.
+fn take_number(table: &mut Vec<Option<Ref>>, free: &mut Vec<u32>) -> Result<u32, OutOfMemory>
+    ensures { Names table.old.items table.new.items }
+{
+    match free.pop() {
+        Some(number) => Ok(number),
+        None => next_number(table),
+    }
+}
+
+/// Puts a clause into the region, and gives it a number.
+fn put_clause(
+    pool: &mut Pool,
+    table: &mut Vec<Option<Ref>>,
+    free: &mut Vec<u32>,
+    clause: &[Lit],
+) -> Result<u32, OutOfMemory>
+    requires { IsTable pool.old table.old.items }
+    ensures table { IsTable pool.new table.new.items }
+    ensures adds { Adds (entries pool.old table.old.items) (entries pool.new table.new.items) clause.now }
+{
+    let number = take_number(table, free)?;
+    let r = pool.put(clause)?;
+    set_at(table, number as usize, r);
+    Ok(number)
+}
+
+/// Gives a number this reference.
+fn set_at(table: &mut Vec<Option<Ref>>, i: usize, r: Ref)
+    ensures { table.new.items ≡ slice_set table.old.items i (Some r) }
+{
+    if i < table.len() {
+        table[i] = Some(r);
+    }
+}
+
+/// Notes a number that has no clause, if there is memory for it.
+fn note_free(table: &[Option<Ref>], free: &mut Vec<u32>, number: usize) {
+    let is_free = matches!(table.get(number), Some(None));
+    if is_free && let Ok(number) = u32::try_from(number) {
+        let _noted = free.push(number);
+    }
+}
+
+/// Notes all numbers that have no clause. Where memory is refused some are not used again.
+fn note_all_free(table: &[Option<Ref>], free: &mut Vec<u32>) {
+    free.clear();
+    for number in 0..table.len() {
+        note_free(table, free, number);
+    }
+}
+
 impl Learnt {
     /// No clause. It takes no memory.
     pub fn new(alloc: Global) -> Learnt
@@ -125,10 +191,11 @@ impl Learnt {
         Learnt {
             pool: Pool::new(alloc),
             table: Vec::new(alloc),
+            free: Vec::new(alloc),
         }
     }
 
-    /// How many numbers were given.
+    /// All numbers are below this one.
     pub fn count(&self) -> usize {
         self.table.len()
     }
@@ -143,15 +210,11 @@ impl Learnt {
         }
     }
 
-    /// Adds a clause, and gives its number.
-    pub fn push(&mut self, clause: &[Lit]) -> Result<usize, OutOfMemory>
-        ensures ok { IfOk result (λ _. self.new ≡ self.old ++ Some clause.now ∷ []) }
-        ensures err { OnErr result (self.new ≡ self.old) }
+    /// Adds a clause, and gives its number: one whose clause was deleted, if there is any.
+    pub fn push(&mut self, clause: &[Lit]) -> Result<u32, OutOfMemory>
+        ensures { Adds self.old self.new clause.now }
     {
-        let number = self.table.len();
-        let r = self.pool.put(clause)?;
-        self.table.push(Some(r))?;
-        Ok(number)
+        put_clause(&mut self.pool, &mut self.table, &mut self.free, clause)
     }
 
     /// Deletes the clauses that are marked, and lays those that are left out anew, if there is memory
@@ -160,5 +223,6 @@ impl Learnt {
         ensures { Thins self.old self.new }
     {
         thin(&mut self.pool, &mut self.table, marked);
+        note_all_free(self.table.as_slice(), &mut self.free);
     }
 }

@@ -9,6 +9,7 @@
 mod activity;
 mod analyse;
 mod backjump;
+mod code;
 mod conflict;
 mod decide;
 mod held;
@@ -18,6 +19,7 @@ mod reduce;
 mod resolvent;
 mod search;
 mod solver;
+mod state;
 mod trail;
 mod turn;
 mod values;

@@ -5,13 +5,15 @@
 ghost use Rattle.std.specs.Prelude.{◌≡◌, ◌≤◌, ◌<◌, true, false, ℕ, Bool, List, length, take, IfOk, IfNone, IfSome, IsTrue};
 ghost use Rattle.sat_base.specs.declared.literal.Lit.{Lit};
 ghost use Rattle.sat_base.specs.Logic.{lit_true};
+ghost use Rattle.sat_cdcl.specs.declared.trail.Step.{Step};
 ghost use Rattle.sat_cdcl.specs.Steps.{AllTrue, Implies, Refutes};
 ghost use Rattle.sat_cdcl.specs.Weight.{Extends};
 ghost use Rattle.sat_cdcl.specs.Looks.{OthersFalse, IsClauseLook, IsLook, look_from};
 
+use crate::code::Code;
 use crate::held::{ClauseId, Clauses};
 use crate::trail::{Put, Step, Trail};
-use crate::watch::{Pair, Watch, Watches};
+use crate::watch::{Pair, Short, Watch, Watches};
 use sat_base::{Lit, OutOfMemory};
 
 /// What a clause says under the trail.
@@ -87,32 +89,39 @@ fn look_at(trail: &Trail, clauses: &Clauses, id: ClauseId, other: Lit) -> Look
     }
 }
 
+/// Another literal of the clause than this one that is not false. Nothing rests on the answer.
+fn find_open(trail: &Trail, clause: &[Lit], other: Code) -> Option<Code> {
+    for lit in clause {
+        let code = Code::of(*lit);
+        if code != other && !trail.is_true(Code::of(lit.negated())) {
+            return Some(code);
+        }
+    }
+    None
+}
+
 /// Looks at a clause of which a watched literal became false.
-fn visit(trail: &Trail, clauses: &Clauses, watches: &mut Watches, gone: Lit, watch: Watch) -> Look
+fn visit(trail: &Trail, clauses: &Clauses, watches: &mut Watches, gone: Code, watch: Watch) -> Look
     ensures { IsLook clauses.now trail.now.steps result }
 {
     if trail.is_true(watch.blocker) {
         return Look::Keep;
     }
-    let other = match watches.pair(watch.clause) {
-        None => watch.blocker,
-        Some(pair) if pair.first == gone => pair.second,
-        Some(pair) => pair.first,
-    };
-    if trail.is_true(other) {
+    let first = watches.other(watch, gone);
+    if trail.is_true(first) {
         return Look::Keep;
     }
-    let look = look_at(trail, clauses, watch.clause, other);
-    if let Look::Move(lit) = look {
-        watches.set_pair(
-            watch.clause,
-            Pair {
-                first: other,
-                second: lit,
-            },
-        );
+    let clause = match clauses.get(watch.clause) {
+        None => return Look::Gone,
+        Some(clause) => clause,
+    };
+    match find_open(trail, clause, first) {
+        None => look_at(trail, clauses, watch.clause, first.lit()),
+        Some(second) => {
+            watches.set_pair(watch.clause, Pair { first, second });
+            Look::Move(second.lit())
+        }
     }
-    look
 }
 
 /// Puts a literal that follows, if its variable has no value.
@@ -137,7 +146,7 @@ fn visit_entry(
     watches: &mut Watches,
     list: &mut Vec<Watch>,
     i: &mut usize,
-    gone: Lit,
+    gone: Code,
 ) -> Result<Option<ClauseId>, OutOfMemory>
     ensures { IfOk result (λ conflict. Extends clauses.now trail.old trail.new
         × IfSome conflict (λ _. Refutes clauses.now trail.new.steps)) }
@@ -152,7 +161,7 @@ fn visit_entry(
             Ok(None)
         }
         Look::Move(lit) => {
-            watches.push(lit, watch)?;
+            watches.push(Code::of(lit), watch)?;
             leave(list, *i);
             Ok(None)
         }
@@ -175,7 +184,7 @@ fn visit_list(
     clauses: &Clauses,
     watches: &mut Watches,
     list: &mut Vec<Watch>,
-    gone: Lit,
+    gone: Code,
 ) -> Result<Option<ClauseId>, OutOfMemory>
     ensures { IfOk result (λ conflict. Extends clauses.now trail.old trail.new
         × IfSome conflict (λ _. Refutes clauses.now trail.new.steps)) }
@@ -201,12 +210,56 @@ fn leave(list: &mut Vec<Watch>, i: usize) {
     }
 }
 
-/// Looks at all clauses that watch a literal which became false.
-fn revise(
+/// Puts this literal of a clause, if all others of it are false.
+fn begin_with(trail: &mut Trail, clauses: &Clauses, id: ClauseId, lit: Lit) -> Option<ClauseId>
+    ensures { Extends clauses.now trail.old trail.new
+        × IfSome result (λ _. Refutes clauses.now trail.new.steps) }
+{
+    match look_at(trail, clauses, id, lit) {
+        Look::Keep => None,
+        Look::Move(_) => None,
+        Look::Forced(last) => {
+            imply(trail, last, id);
+            None
+        }
+        Look::Conflict => Some(id),
+        Look::Gone => None,
+    }
+}
+
+/// Looks at a clause of two literals of which one became false: where the other one is not true, it is
+/// implied, or the clause is a conflict.
+#[tactic(auto, using(crate::proofs::FollowLemmas::extends_refl))]
+fn visit_binary(trail: &mut Trail, clauses: &Clauses, watch: Watch) -> Option<ClauseId>
+    ensures { Extends clauses.now trail.old trail.new
+        × IfSome result (λ _. Refutes clauses.now trail.new.steps) }
+{
+    if trail.is_true(watch.blocker) {
+        return None;
+    }
+    begin_with(trail, clauses, watch.clause, watch.blocker.lit())
+}
+
+/// Goes over the clauses of two literals of which one became false.
+fn revise_binary(trail: &mut Trail, clauses: &Clauses, list: &[Watch]) -> Option<ClauseId>
+    ensures { Extends clauses.now trail.old trail.new
+        × IfSome result (λ _. Refutes clauses.now trail.new.steps) }
+{
+    for watch in list {
+        let found = visit_binary(trail, clauses, *watch);
+        if found.is_some() {
+            return found;
+        }
+    }
+    None
+}
+
+/// Looks at the longer clauses that watch a literal which became false.
+fn revise_long(
     trail: &mut Trail,
     clauses: &Clauses,
     watches: &mut Watches,
-    gone: Lit,
+    gone: Code,
 ) -> Result<Option<ClauseId>, OutOfMemory>
     ensures { IfOk result (λ conflict. Extends clauses.now trail.old trail.new
         × IfSome conflict (λ _. Refutes clauses.now trail.new.steps)) }
@@ -215,6 +268,24 @@ fn revise(
     let outcome = visit_list(trail, clauses, watches, &mut list, gone);
     watches.restore(gone, list);
     outcome
+}
+
+/// Looks at all clauses that watch a literal which became false, those of two literals first.
+fn revise(
+    trail: &mut Trail,
+    clauses: &Clauses,
+    watches: &mut Watches,
+    gone: Code,
+) -> Result<Option<ClauseId>, OutOfMemory>
+    ensures { IfOk result (λ conflict. Extends clauses.now trail.old trail.new
+        × IfSome conflict (λ _. Refutes clauses.now trail.new.steps)) }
+{
+    let begun = revise_binary(trail, clauses, watches.binary(gone));
+    if begun.is_some() {
+        return Ok(begun);
+    }
+    let found = revise_long(trail, clauses, watches, gone)?;
+    Ok(found)
 }
 
 /// Puts what the steps from this place on imply, until nothing more is implied, or a clause is a
@@ -234,7 +305,7 @@ fn propagate(
         if place >= len {
             return Ok(None);
         }
-        let gone = trail.at(place).lit.negated();
+        let gone = Code::of(trail.at(place).lit.negated());
         let found = revise(trail, clauses, watches, gone)?;
         if found.is_some() {
             return Ok(found);
@@ -243,34 +314,38 @@ fn propagate(
     }
 }
 
-/// Puts the literal of a clause of one literal.
-fn begin_with(trail: &mut Trail, clauses: &Clauses, id: ClauseId, lit: Lit) -> Option<ClauseId>
-    ensures { Extends clauses.now trail.old trail.new
-        × IfSome result (λ _. Refutes clauses.now trail.new.steps) }
+/// A conflict, if the clause of this name has no literal.
+fn conflict_if_empty(clauses: &Clauses, id: ClauseId) -> Option<ClauseId>
+    ensures { IfSome result (λ _. (steps : List Step) → Refutes clauses.now steps) }
 {
-    match look_at(trail, clauses, id, lit) {
-        Look::Keep => None,
-        Look::Move(_) => None,
-        Look::Forced(last) => {
-            imply(trail, last, id);
-            None
-        }
-        Look::Conflict => Some(id),
-        Look::Gone => None,
+    match clauses.get(id) {
+        Some(clause) if clause.is_empty() => Some(id),
+        _ => None,
     }
 }
 
-/// Puts the literals of the clauses of one literal.
+/// Puts the literal of a clause of one literal; one without a literal is a conflict.
+fn begin_short(trail: &mut Trail, clauses: &Clauses, short: Short) -> Option<ClauseId>
+    ensures { Extends clauses.now trail.old trail.new
+        × IfSome result (λ _. Refutes clauses.now trail.new.steps) }
+{
+    match short.lit {
+        None => conflict_if_empty(clauses, short.clause),
+        Some(lit) => begin_with(trail, clauses, short.clause, lit),
+    }
+}
+
+/// Puts the literals of the clauses of one literal; a clause without a literal is a conflict.
 fn begin(trail: &mut Trail, clauses: &Clauses, watches: &Watches) -> Option<ClauseId>
     ensures { Extends clauses.now trail.old trail.new
         × IfSome result (λ _. Refutes clauses.now trail.new.steps) }
 {
     for i in 0..watches.short_count() {
-        let (id, lit) = match watches.short(i) {
+        let short = match watches.short(i) {
             None => return None,
             Some(short) => short,
         };
-        let found = begin_with(trail, clauses, id, lit);
+        let found = begin_short(trail, clauses, short);
         if found.is_some() {
             return found;
         }

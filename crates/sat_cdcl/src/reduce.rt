@@ -7,6 +7,7 @@ ghost use Rattle.std.specs.Prelude.{◌≡◌, length};
 use crate::activity::Activity;
 use crate::held::{ClauseId, Clauses};
 use crate::trail::Trail;
+use crate::watch::Watches;
 use sat_base::{Lit, OutOfMemory};
 use std::alloc::Global;
 
@@ -15,12 +16,19 @@ fn is_reason(trail: &Trail, clause: &[Lit], id: ClauseId) -> bool {
     clause.iter().any(|lit| trail.reason(lit.var) == Some(id))
 }
 
-/// Whether the learnt clause of a number may be deleted.
-fn is_candidate(trail: &Trail, clauses: &Clauses, number: usize) -> bool {
-    let id = ClauseId::Learnt(number);
+/// Whether a clause may be deleted: one of three literals or more that is no reason.
+fn may_go(trail: &Trail, clauses: &Clauses, id: ClauseId) -> bool {
     match clauses.get(id) {
         None => false,
         Some(clause) => clause.len() > 2 && !is_reason(trail, clause, id),
+    }
+}
+
+/// Whether the learnt clause of a number may be deleted.
+fn is_candidate(trail: &Trail, clauses: &Clauses, number: usize) -> bool {
+    match u32::try_from(number) {
+        Err(_) => false,
+        Ok(number) => may_go(trail, clauses, ClauseId::Learnt(number)),
     }
 }
 
@@ -73,11 +81,13 @@ fn mark_half(
     Ok(marked)
 }
 
-/// Deletes learnt clauses, if there are enough of them.
+/// Deletes learnt clauses, if there are enough of them, and takes them out of the watch lists. It
+/// looks at each learnt clause and each entry of a list; the limit grows each time, so this is seldom.
 pub fn reduce(
     alloc: Global,
     trail: &Trail,
     clauses: &mut Clauses,
+    watches: &mut Watches,
     activity: &mut Activity,
 ) -> Result<(), OutOfMemory>
     ensures { clauses.new ≡ clauses.old }
@@ -89,6 +99,7 @@ pub fn reduce(
     let wanted = half.count;
     let marked = mark_half(alloc, trail, clauses, activity, &mut half)?;
     clauses.forget(marked.as_slice());
+    watches.clean(clauses);
     activity.was_reduced(wanted.saturating_sub(half.count));
     Ok(())
 }

@@ -5,15 +5,11 @@ ghost use Rattle.std.specs.Prelude.{◌≡◌, [], true, false, IfOk, MatchOptio
 ghost use Rattle.sat_base.specs.Logic.{LitsBelow, ClausesBelow};
 ghost use Rattle.sat_cdcl.specs.Answered.{IsAssumed, IsAssumedOne, assumed_from, IsModel, HasNone, AllFollow};
 
-use crate::activity::Activity;
 use crate::conflict::Progress;
-use crate::held::Clauses;
-use crate::resolvent::Resolvent;
+use crate::state::Search;
 use crate::trail::{Put, Step, Trail, differs};
 use crate::turn::proceed;
-use crate::watch::Watches;
 use sat_base::{Lit, OutOfMemory};
-use std::alloc::Global;
 
 /// Whether a literal may still be true, by what became of its step.
 fn assumed_from(put: Put, neg: bool) -> bool
@@ -57,57 +53,39 @@ fn assume(trail: &mut Trail, assumed: &[Lit]) -> bool
 
 /// Goes on from a trail of what follows until the answer: values that satisfy all, or `None` where
 /// there are none.
-fn run(
-    alloc: Global,
-    trail: &mut Trail,
-    clauses: &mut Clauses,
-    watches: &mut Watches,
-    activity: &mut Activity,
-    resolvent: &mut Resolvent,
-    assumed: &[Lit],
-) -> Result<Option<Vec<bool>>, OutOfMemory>
-    requires clauses { ClausesBelow trail.old.vars clauses.old }
-    requires assumed { LitsBelow trail.old.vars assumed.now }
-    requires follow { AllFollow clauses.old assumed.now trail.old.steps }
-    ensures given { clauses.new ≡ clauses.old }
-    ensures found { IfOk result (λ found. MatchOption found (HasNone clauses.old assumed.now)
-        (λ values. IsModel trail.old.vars clauses.old assumed.now values.items)) }
+fn run(search: &mut Search, assumed: &[Lit]) -> Result<Option<Vec<bool>>, OutOfMemory>
+    requires clauses { ClausesBelow search.old.trail.vars search.old.clauses }
+    requires assumed { LitsBelow search.old.trail.vars assumed.now }
+    requires follow { AllFollow search.old.clauses assumed.now search.old.trail.steps }
+    ensures given { search.new.clauses ≡ search.old.clauses }
+    ensures found { IfOk result (λ found. MatchOption found (HasNone search.old.clauses assumed.now)
+        (λ values. IsModel search.old.trail.vars search.old.clauses assumed.now values.items)) }
 {
     let mut from = 0;
     loop {
-        let progress = proceed(
-            alloc, trail, clauses, watches, activity, resolvent, assumed, from,
-        )?;
+        let progress = proceed(search, assumed, from)?;
         match progress {
             Progress::Rose => {}
             Progress::Found(values) => return Ok(Some(values)),
             Progress::Exhausted => return Ok(None),
         }
-        from = trail.len().saturating_sub(1);
+        from = search.trail.len().saturating_sub(1);
     }
 }
 
 /// Values that satisfy the clauses and make the assumed literals true, or `None` where there are
 /// none. The trail is empty.
-pub fn find_model(
-    alloc: Global,
-    trail: &mut Trail,
-    clauses: &mut Clauses,
-    watches: &mut Watches,
-    activity: &mut Activity,
-    resolvent: &mut Resolvent,
-    assumed: &[Lit],
-) -> Result<Option<Vec<bool>>, OutOfMemory>
-    requires empty { trail.old.steps ≡ [] }
-    requires clauses { ClausesBelow trail.old.vars clauses.old }
-    requires assumed { LitsBelow trail.old.vars assumed.now }
-    ensures given { clauses.new ≡ clauses.old }
-    ensures found { IfOk result (λ found. MatchOption found (HasNone clauses.old assumed.now)
-        (λ values. IsModel trail.old.vars clauses.old assumed.now values.items)) }
+pub fn find_model(search: &mut Search, assumed: &[Lit]) -> Result<Option<Vec<bool>>, OutOfMemory>
+    requires empty { search.old.trail.steps ≡ [] }
+    requires clauses { ClausesBelow search.old.trail.vars search.old.clauses }
+    requires assumed { LitsBelow search.old.trail.vars assumed.now }
+    ensures given { search.new.clauses ≡ search.old.clauses }
+    ensures found { IfOk result (λ found. MatchOption found (HasNone search.old.clauses assumed.now)
+        (λ values. IsModel search.old.trail.vars search.old.clauses assumed.now values.items)) }
 {
-    if !assume(trail, assumed) {
+    if !assume(&mut search.trail, assumed) {
         return Ok(None);
     }
-    let found = run(alloc, trail, clauses, watches, activity, resolvent, assumed)?;
+    let found = run(search, assumed)?;
     Ok(found)
 }

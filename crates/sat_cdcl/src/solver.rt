@@ -1,14 +1,18 @@
-// `Cdcl`: the solver. It keeps its clauses, those learnt among them, from question to question; the
-// assumptions of a question are on the trail alone, which is made anew for each.
+// `Cdcl`: the solver. From question to question it keeps its clauses, those learnt among them, the
+// order of the variables and their signs. The assumptions of a question are on the trail alone, which
+// is empty when a question begins.
 
-ghost use Rattle.std.specs.Prelude.{◌≡◌, []};
+ghost use Rattle.std.specs.Prelude.{◌≡◌, ◌≤◌, [], OnOk};
 
 use crate::activity::Activity;
+use crate::backjump::reopen;
+use crate::code::LAST_VARIABLE;
 use crate::held::{ClauseId, Clauses};
 use crate::resolvent::Resolvent;
 use crate::search::find_model;
+use crate::state::Search;
 use crate::trail::Trail;
-use crate::watch::{Pair, Watches};
+use crate::watch::Watches;
 use sat_base::{Answer, Lit, OutOfMemory, Solver};
 use std::alloc::Global;
 use std::marker::Model;
@@ -17,12 +21,8 @@ use std::marker::Model;
 /// were added, and the values that were found last.
 #[derive(Debug, Drop)]
 pub struct Cdcl {
-    alloc: Global,
     vars: usize,
-    clauses: Clauses,
-    watches: Watches,
-    activity: Activity,
-    resolvent: Resolvent,
+    search: Search,
     found: Vec<bool>,
 }
 
@@ -32,9 +32,9 @@ impl Model for Cdcl {
 
     ghost Value = { CdclState };
 
-    ghost view = { λ s. record { vars = s.vars; clauses = s.clauses; found = s.found.items } };
+    ghost view = { λ s. record { vars = s.vars; clauses = s.search.clauses; found = s.found.items } };
 
-    ghost invariant = { λ s. ClausesBelow s.vars s.clauses };
+    ghost invariant = { λ s. ClausesBelow s.vars s.search.clauses };
 }
 
 impl Cdcl {
@@ -43,33 +43,52 @@ impl Cdcl {
         ensures vars { result.vars ≡ 0 }
         ensures clauses { result.clauses ≡ [] }
     {
-        Cdcl {
+        let search = Search {
             alloc,
-            vars: 0,
+            trail: Trail::empty(alloc),
             clauses: Clauses::new(alloc),
             watches: Watches::new(alloc),
             activity: Activity::new(alloc),
             resolvent: Resolvent::new(alloc),
+        };
+        Cdcl {
+            vars: 0,
+            search,
             found: Vec::new(alloc),
         }
     }
 }
 
-/// Begins to watch the clause that is added next, at two literals of it that differ.
-fn attach(watches: &mut Watches, id: ClauseId, clause: &[Lit]) -> Result<(), OutOfMemory> {
-    if let Some(first) = clause.first().copied() {
-        match clause.iter().copied().find(|lit| *lit != first) {
-            None => watches.note_short(
-                id,
-                Pair {
-                    first,
-                    second: first,
-                },
-            )?,
-            Some(second) => watches.watch(id, Pair { first, second })?,
-        }
+/// Takes all steps back, and also all variables where there are more than so many.
+fn empty_trail(alloc: Global, trail: &mut Trail, vars: usize)
+    ensures { (trail.new.steps ≡ []) × (trail.new.vars ≤ vars) }
+{
+    trail.clear();
+    if trail.vars() > vars {
+        *trail = Trail::empty(alloc);
+    }
+}
+
+/// Makes the trail one of so many variables and no step. It takes time for new variables alone.
+fn prepare(alloc: Global, trail: &mut Trail, vars: usize) -> Result<(), OutOfMemory>
+    ensures { OnOk result (trail.new ≡ record { vars = vars; steps = [] }) }
+{
+    empty_trail(alloc, trail, vars);
+    while trail.vars() < vars {
+        trail.grow()?;
     }
     Ok(())
+}
+
+/// Begins to watch the clause that is added next, at two literals of it that differ. One that has no
+/// two such literals is noted, also the clause without a literal.
+fn attach(watches: &mut Watches, id: ClauseId, clause: &[Lit]) -> Result<(), OutOfMemory> {
+    let one = clause.first().copied();
+    let other = clause.iter().copied().find(|lit| Some(*lit) != one);
+    match (one, other) {
+        (Some(one), Some(other)) => watches.watch(id, one, other, clause.len()),
+        _ => watches.note_short(id, one),
+    }
 }
 
 impl Solver for Cdcl {
@@ -82,32 +101,30 @@ impl Solver for Cdcl {
     fn fresh(&mut self) -> Result<usize, OutOfMemory> {
         let var = self.vars;
         let next = var.checked_add(1).ok_or(OutOfMemory)?;
-        self.watches.grow()?;
-        self.activity.grow()?;
-        self.resolvent.grow()?;
+        if var > LAST_VARIABLE {
+            return Err(OutOfMemory);
+        }
+        self.search.watches.grow(var)?;
+        self.search.activity.grow()?;
+        self.search.resolvent.grow()?;
         self.vars = next;
         Ok(var)
     }
 
     fn add(&mut self, clause: &[Lit]) -> Result<(), OutOfMemory> {
-        let id = ClauseId::Given(self.clauses.count());
-        attach(&mut self.watches, id, clause)?;
-        let _id = self.clauses.add(clause)?;
+        let id = self.search.clauses.next_id()?;
+        attach(&mut self.search.watches, id, clause)?;
+        self.search.clauses.add(clause)?;
+        self.search.activity.note_lits(clause);
         Ok(())
     }
 
     fn solve(&mut self, assumed: &[Lit]) -> Result<Answer, OutOfMemory> {
-        self.activity.refill()?;
-        let mut trail = Trail::new(self.alloc, self.vars)?;
-        let found = find_model(
-            self.alloc,
-            &mut trail,
-            &mut self.clauses,
-            &mut self.watches,
-            &mut self.activity,
-            &mut self.resolvent,
-            assumed,
-        )?;
+        let search = &mut self.search;
+        search.activity.allow_for(search.clauses.count());
+        reopen(&search.trail, &mut search.activity, 0)?;
+        prepare(search.alloc, &mut search.trail, self.vars)?;
+        let found = find_model(search, assumed)?;
         match found {
             None => Ok(Answer::NoModel),
             Some(values) => {

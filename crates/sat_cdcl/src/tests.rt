@@ -270,3 +270,98 @@ fn random_formulas_with_assumptions(rt: HostRuntime) -> Result<(), Fail> {
     assert!(rt; refuted, "48 clauses leave some of the formulas no model");
     Ok(())
 }
+
+fn sixteen_variables<S: Solver>(solver: &mut S) -> Result<(), OutOfMemory>
+    ensures { OnOk result (S.vars solver.new ≡ S.vars solver.old + 16) }
+{
+    four_variables(solver)?;
+    four_variables(solver)?;
+    four_variables(solver)?;
+    four_variables(solver)
+}
+
+/// A solver of 64 variables.
+#[derive(Drop)]
+struct Large {
+    cdcl: Cdcl,
+    ghost vars: { cdcl.vars ≡ 64 },
+}
+
+impl Large {
+    fn new(alloc: Global) -> Result<Large, OutOfMemory> {
+        let mut cdcl = Cdcl::new(alloc);
+        sixteen_variables(&mut cdcl)?;
+        sixteen_variables(&mut cdcl)?;
+        sixteen_variables(&mut cdcl)?;
+        sixteen_variables(&mut cdcl)?;
+        Ok(Large { cdcl })
+    }
+
+    fn add(&mut self, rt: &impl Abort, clause: &[Lit]) -> Result<(), OutOfMemory> {
+        assert!(rt; all_below(clause, 64));
+        self.cdcl.add(clause)
+    }
+
+    fn ask(&mut self, rt: &impl Abort, assumed: &[Lit]) -> Result<Answer, OutOfMemory> {
+        assert!(rt; all_below(assumed, 64));
+        self.cdcl.solve(assumed)
+    }
+}
+
+/// The positive literals of the variables from this one on, up to another.
+fn positives(alloc: Global, from: usize, end: usize) -> Result<Vec<Lit>, OutOfMemory> {
+    let mut lits = Vec::new(alloc);
+    for var in from..end {
+        lits.push(positive(var))?;
+    }
+    Ok(lits)
+}
+
+#[test]
+fn an_empty_clause_answers_at_once(rt: HostRuntime) -> Result<(), Fail> {
+    let mut solver = Large::new(rt.alloc())?;
+    let all = positives(rt.alloc(), 0, 64)?;
+    solver.add(&rt, all.as_slice())?;
+    let free = solver.ask(&rt, &[])?;
+    assert_eq!(rt; free, Answer::Model);
+    solver.add(&rt, &[])?;
+    let without = solver.ask(&rt, &[])?;
+    assert_eq!(rt; without, Answer::NoModel);
+    let with = solver.ask(&rt, &[positive(0)])?;
+    assert_eq!(rt; with, Answer::NoModel);
+    Ok(())
+}
+
+/// One of eight pigeons sits in one of seven holes, but in none with an earlier one.
+fn add_pigeon(
+    rt: &impl Abort,
+    alloc: Global,
+    solver: &mut Large,
+    pigeon: usize,
+) -> Result<(), OutOfMemory>
+    requires { pigeon < 8 }
+{
+    let somewhere = positives(alloc, 7 * pigeon, 7 * pigeon + 7)?;
+    solver.add(rt, somewhere.as_slice())?;
+    for earlier in 0..pigeon {
+        for hole in 0..7 {
+            solver.add(
+                rt,
+                &[negative(7 * pigeon + hole), negative(7 * earlier + hole)],
+            )?;
+        }
+    }
+    Ok(())
+}
+
+/// More than a thousand conflicts, so that learnt clauses are deleted and their numbers used again.
+#[test]
+fn eight_pigeons_do_not_fit_into_seven_holes(rt: HostRuntime) -> Result<(), Fail> {
+    let mut solver = Large::new(rt.alloc())?;
+    for pigeon in 0..8 {
+        add_pigeon(&rt, rt.alloc(), &mut solver, pigeon)?;
+    }
+    let answer = solver.ask(&rt, &[])?;
+    assert_eq!(rt; answer, Answer::NoModel);
+    Ok(())
+}

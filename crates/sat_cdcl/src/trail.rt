@@ -1,13 +1,14 @@
-// The trail: the literals that are true, in the order in which they became so. Taking steps back is
-// one assignment, since the variables behind the last step keep their places until others take
-// them; there each still has the sign that it had last.
+// The trail: the literals that are true, in the order in which they became so. The variables behind
+// the last step keep their places until others take them. Beside the steps stands a table of which literals are true, for the looks that happen most;
+// no contract speaks of it.
 
-ghost use Rattle.std.specs.Prelude.{◌≡◌, ◌<◌, ◌≤◌, ◌+◌, ℕ, Bool, List, [], ◌∷◌, ◌++◌, true, false, length, take, drop, slice_get, slice_index, slice_index_or, IfOk, IfSome, MatchOption, Some, IsTrue};
+ghost use Rattle.std.specs.Prelude.{◌≡◌, ◌<◌, ◌≤◌, ◌+◌, ℕ, Bool, List, [], ◌∷◌, ◌++◌, true, false, length, take, drop, slice_get, slice_index, slice_index_or, IfSome, MatchOption, Some, IsTrue, OnOk, OnErr};
 ghost use Rattle.sat_base.specs.declared.literal.Lit.{Lit};
 ghost use Rattle.sat_base.specs.Logic.{negation, lit_true};
 ghost use Rattle.sat_cdcl.specs.Order.{IsOrder, differs};
 ghost use Rattle.sat_cdcl.specs.Steps.{AllTrue, AllImplied, Tells, IsPut};
 
+use crate::code::Code;
 use crate::held::ClauseId;
 use sat_base::{Lit, OutOfMemory};
 use std::alloc::Global;
@@ -40,6 +41,8 @@ pub struct Trail {
     order: Vec<Step>,
     places: Vec<usize>,
     len: usize,
+    /// For the code of each literal whether it is true.
+    holds: Vec<bool>,
 }
 
 impl Model for Trail {
@@ -52,34 +55,6 @@ impl Model for Trail {
     ghost view = { λ t. record { vars = length t.places.items; steps = take t.len t.order.items } };
 
     ghost invariant = { λ t. (t.len ≤ length t.order.items) × IsOrder t.order.items t.places.items };
-}
-
-/// The steps of all variables in their order, each with the sign that is tried first.
-fn first_order(alloc: Global, vars: usize) -> Result<Vec<Step>, OutOfMemory>
-    ensures { IfOk result (λ order. (length order.items ≡ vars)
-        × ((j : ℕ) (d : Step) → j < vars → (slice_index_or order.items j d).lit.var ≡ j)) }
-{
-    let mut order = Vec::new(alloc);
-    for var in 0..vars {
-        order.push(Step {
-            lit: Lit { var, neg: true },
-            implied: false,
-            reason: None,
-        })?;
-    }
-    Ok(order)
-}
-
-/// The numbers below this one, in their order.
-fn first_places(alloc: Global, vars: usize) -> Result<Vec<usize>, OutOfMemory>
-    ensures { IfOk result (λ places. (length places.items ≡ vars)
-        × ((j : ℕ) → j < vars → slice_index places.items j ≡ j)) }
-{
-    let mut places = Vec::new(alloc);
-    for place in 0..vars {
-        places.push(place)?;
-    }
-    Ok(places)
 }
 
 /// Puts a step at place k, and what stood there at the place where the step's variable was.
@@ -101,6 +76,48 @@ fn exchange(order: &mut Vec<Step>, places: &mut Vec<usize>, k: usize, step: Step
     places[var] = k;
 }
 
+/// Puts a new variable behind all others. Where memory is refused all is as before.
+fn append(order: &mut Vec<Step>, places: &mut Vec<usize>) -> Result<(), OutOfMemory>
+    requires { IsOrder order.old.items places.old.items }
+    ensures order { IsOrder order.new.items places.new.items }
+    ensures ok { OnOk result (length places.new.items ≡ length places.old.items + 1) }
+    ensures err { OnErr result (length places.new.items ≡ length places.old.items) }
+    ensures longer { length order.old.items ≤ length order.new.items }
+    ensures steps { (k : ℕ) → k ≤ length order.old.items → take k order.new.items ≡ take k order.old.items }
+{
+    let var = order.len();
+    let step = Step {
+        lit: Lit { var, neg: true },
+        implied: false,
+        reason: None,
+    };
+    order.push(step)?;
+    match places.push(var) {
+        Ok(()) => Ok(()),
+        Err(_) => {
+            order.truncate(var);
+            Err(OutOfMemory)
+        }
+    }
+}
+
+/// Notes of these steps that their literals are true, or that they are open.
+fn note_steps(holds: &mut Vec<bool>, steps: &[Step], value: bool) {
+    for step in steps {
+        let code = Code::of(step.lit).index();
+        if code < holds.len() {
+            holds[code] = value;
+        }
+    }
+}
+
+/// Notes that the steps from place k on, up to the last of the first so many, are taken back.
+fn note_open(holds: &mut Vec<bool>, order: &[Step], k: usize, len: usize) {
+    if let Some(steps) = order.get(k..len) {
+        note_steps(holds, steps, false);
+    }
+}
+
 /// The place of a variable, if there is such a variable.
 fn place_of(places: &[usize], var: usize) -> Option<usize>
     ensures { result ≡ slice_get places.now var }
@@ -116,17 +133,36 @@ pub fn differs(one: bool, other: bool) -> bool
 }
 
 impl Trail {
-    /// No step, over this many variables.
-    pub fn new(alloc: Global, vars: usize) -> Result<Trail, OutOfMemory>
-        ensures { IfOk result (λ trail. trail ≡ record { vars = vars; steps = [] }) }
+    /// No step, and no variable. It takes no memory.
+    pub fn empty(alloc: Global) -> Trail
+        ensures { result ≡ record { vars = 0; steps = [] } }
     {
-        let order = first_order(alloc, vars)?;
-        let places = first_places(alloc, vars)?;
-        Ok(Trail {
-            order,
-            places,
+        Trail {
+            order: Vec::new(alloc),
+            places: Vec::new(alloc),
             len: 0,
-        })
+            holds: Vec::new(alloc),
+        }
+    }
+
+    /// Takes all steps back.
+    pub fn clear(&mut self)
+        ensures vars { self.new.vars ≡ self.old.vars }
+        ensures steps { self.new.steps ≡ [] }
+    {
+        note_open(&mut self.holds, self.order.as_slice(), 0, self.len);
+        self.len = 0;
+    }
+
+    /// One variable more, which has no value. Where memory is refused the trail is as before.
+    pub fn grow(&mut self) -> Result<(), OutOfMemory>
+        ensures steps { self.new.steps ≡ self.old.steps }
+        ensures ok { OnOk result (self.new.vars ≡ self.old.vars + 1) }
+        ensures err { OnErr result (self.new.vars ≡ self.old.vars) }
+    {
+        self.holds.push(false)?;
+        self.holds.push(false)?;
+        append(&mut self.order, &mut self.places)
     }
 
     /// The number of steps.
@@ -176,12 +212,9 @@ impl Trail {
         }
     }
 
-    /// Whether a literal is true. Nothing rests on the answer.
-    pub fn is_true(&self, lit: Lit) -> bool {
-        match self.places.get(lit.var).copied() {
-            None => false,
-            Some(place) => place < self.len && self.order[place].lit.neg == lit.neg,
-        }
+    /// Whether the literal of a code is true. Nothing rests on the answer.
+    pub fn is_true(&self, code: Code) -> bool {
+        self.holds.get(code.index()).copied() == Some(true)
     }
 
     /// The clause that gave a variable its value, if one did. Nothing rests on the answer.
@@ -189,14 +222,6 @@ impl Trail {
         match self.places.get(var).copied() {
             Some(place) if place < self.len => self.order[place].reason,
             _ => None,
-        }
-    }
-
-    /// The sign that a variable has or had last. Nothing rests on the answer.
-    pub fn last_sign(&self, var: usize) -> bool {
-        match self.places.get(var).copied() {
-            None => true,
-            Some(place) => self.order[place].lit.neg,
         }
     }
 
@@ -212,6 +237,8 @@ impl Trail {
             None => Put::Absent,
             Some(place) if place < k => Put::Taken(!self.order[place].lit.neg),
             Some(_) => {
+                note_open(&mut self.holds, self.order.as_slice(), k, self.len);
+                note_steps(&mut self.holds, &[step], true);
                 exchange(&mut self.order, &mut self.places, k, step);
                 self.len = k + 1;
                 Put::Done
@@ -227,11 +254,14 @@ impl Trail {
             → self.new.steps ≡ take k self.old.steps ++ record { lit = negation s.lit; implied = true; reason = None } ∷ [] }
     {
         let lit = self.order[k].lit.negated();
-        self.order[k] = Step {
+        note_open(&mut self.holds, self.order.as_slice(), k, self.len);
+        let step = Step {
             lit,
             implied: true,
             reason: None,
         };
+        note_steps(&mut self.holds, &[step], true);
+        self.order[k] = step;
         self.len = k + 1;
     }
 

@@ -7,17 +7,14 @@ ghost use Rattle.sat_cdcl.specs.Decided.{Agrees};
 ghost use Rattle.sat_cdcl.specs.Answered.{IsAdvance};
 ghost use Rattle.sat_cdcl.specs.Progressed.{IsProgress};
 
-use crate::activity::Activity;
 use crate::conflict::{Progress, resolve};
 use crate::decide::{Choice, decide};
 use crate::held::{ClauseId, Clauses};
 use crate::propagate::settle;
-use crate::resolvent::Resolvent;
+use crate::state::Search;
 use crate::trail::Trail;
 use crate::values::{meets_each, unmet};
-use crate::watch::Watches;
 use sat_base::{Lit, OutOfMemory};
-use std::alloc::Global;
 
 /// What a turn of the search came to.
 #[derive(Debug, Drop)]
@@ -38,7 +35,7 @@ fn judge(trail: &Trail, clauses: &Clauses, assumed: &[Lit], values: Vec<bool>) -
     ensures { IsAdvance clauses.now assumed.now trail.now trail.now result }
 {
     if let Some(i) = unmet(values.as_slice(), clauses) {
-        return Advance::Clash(Some(ClauseId::Given(i)));
+        return Advance::Clash(ClauseId::given(i));
     }
     if !meets_each(values.as_slice(), assumed) {
         return Advance::Clash(None);
@@ -47,52 +44,39 @@ fn judge(trail: &Trail, clauses: &Clauses, assumed: &[Lit], values: Vec<bool>) -
 }
 
 /// One turn: propagation from this place on, and then a decision or the answer.
-fn take_turn(
-    alloc: Global,
-    trail: &mut Trail,
-    clauses: &Clauses,
-    watches: &mut Watches,
-    activity: &mut Activity,
-    assumed: &[Lit],
-    from: usize,
-) -> Result<Advance, OutOfMemory>
-    requires clauses { ClausesBelow trail.old.vars clauses.now }
-    requires assumed { LitsBelow trail.old.vars assumed.now }
-    ensures { IfOk result (λ turn. IsAdvance clauses.now assumed.now trail.old trail.new turn) }
+fn take_turn(search: &mut Search, assumed: &[Lit], from: usize) -> Result<Advance, OutOfMemory>
+    requires clauses { ClausesBelow search.old.trail.vars search.old.clauses }
+    requires assumed { LitsBelow search.old.trail.vars assumed.now }
+    ensures given { search.new.clauses ≡ search.old.clauses }
+    ensures turn { IfOk result (λ turn. IsAdvance search.old.clauses assumed.now search.old.trail search.new.trail turn) }
 {
-    let conflict = settle(trail, clauses, watches, from)?;
+    let conflict = settle(
+        &mut search.trail,
+        &search.clauses,
+        &mut search.watches,
+        from,
+    )?;
     if conflict.is_some() {
         return Ok(Advance::Clash(conflict));
     }
-    let choice = decide(alloc, trail, activity)?;
+    let choice = decide(search.alloc, &mut search.trail, &mut search.activity)?;
     match choice {
         Choice::Made => Ok(Advance::Decided),
-        Choice::Full(values) => Ok(judge(trail, clauses, assumed, values)),
+        Choice::Full(values) => Ok(judge(&search.trail, &search.clauses, assumed, values)),
     }
 }
 
 /// One turn, and where it ends in a conflict the way back.
-pub fn proceed(
-    alloc: Global,
-    trail: &mut Trail,
-    clauses: &mut Clauses,
-    watches: &mut Watches,
-    activity: &mut Activity,
-    resolvent: &mut Resolvent,
-    assumed: &[Lit],
-    from: usize,
-) -> Result<Progress, OutOfMemory>
-    requires clauses { ClausesBelow trail.old.vars clauses.old }
-    requires assumed { LitsBelow trail.old.vars assumed.now }
-    ensures given { clauses.new ≡ clauses.old }
-    ensures progress { IfOk result (λ progress. IsProgress clauses.old assumed.now trail.old trail.new progress) }
+pub fn proceed(search: &mut Search, assumed: &[Lit], from: usize) -> Result<Progress, OutOfMemory>
+    requires clauses { ClausesBelow search.old.trail.vars search.old.clauses }
+    requires assumed { LitsBelow search.old.trail.vars assumed.now }
+    ensures given { search.new.clauses ≡ search.old.clauses }
+    ensures progress { IfOk result (λ progress. IsProgress search.old.clauses assumed.now search.old.trail search.new.trail progress) }
 {
-    let turn = take_turn(alloc, trail, clauses, watches, activity, assumed, from)?;
+    let turn = take_turn(search, assumed, from)?;
     match turn {
         Advance::Decided => Ok(Progress::Rose),
         Advance::Found(values) => Ok(Progress::Found(values)),
-        Advance::Clash(conflict) => resolve(
-            alloc, trail, clauses, watches, activity, resolvent, conflict,
-        ),
+        Advance::Clash(conflict) => resolve(search, conflict),
     }
 }

@@ -1,7 +1,10 @@
 // Watched literals. Each clause of two literals or more is in the lists of two of its literals, and
-// a list is looked at where its literal becomes false. No answer rests on these lists.
+// a list is looked at where its literal becomes false. Clauses of two literals have lists of their
+// own: an entry has the other literal, so that the clause is read only where it implies something. No
+// answer rests on these lists.
 
-use crate::held::ClauseId;
+use crate::code::{Code, LAST_VARIABLE};
+use crate::held::{ClauseId, Clauses};
 use sat_base::{Lit, OutOfMemory};
 use std::alloc::Global;
 use std::mem;
@@ -11,26 +14,38 @@ use std::mem;
 #[derive(Clone, Copy, Debug)]
 pub struct Watch {
     pub clause: ClauseId,
-    pub blocker: Lit,
+    pub blocker: Code,
 }
 
 /// The two literals of a clause that are watched.
 #[derive(Clone, Copy, Debug)]
 pub struct Pair {
-    pub first: Lit,
-    pub second: Lit,
+    pub first: Code,
+    pub second: Code,
 }
 
-/// The lists of all literals, the pairs of all clauses, and the clauses that are too short to be
-/// watched.
+/// A clause that is too short to be watched: of one literal, or of none.
+#[derive(Clone, Copy, Debug)]
+pub struct Short {
+    pub clause: ClauseId,
+    pub lit: Option<Lit>,
+}
+
+/// The lists of a literal: clauses of two literals, whose other one is the blocker, and longer ones.
+#[derive(Debug, Drop)]
+struct Lists {
+    binary: Vec<Watch>,
+    long: Vec<Watch>,
+}
+
+/// The lists of all literals by their codes, the pairs of all clauses, and the short clauses.
 #[derive(Debug, Drop)]
 pub struct Watches {
     alloc: Global,
-    positive: Vec<Vec<Watch>>,
-    negative: Vec<Vec<Watch>>,
+    lists: Vec<Lists>,
     given: Vec<Pair>,
     learnt: Vec<Pair>,
-    short: Vec<(ClauseId, Lit)>,
+    short: Vec<Short>,
 }
 
 impl Watches {
@@ -38,89 +53,116 @@ impl Watches {
     pub fn new(alloc: Global) -> Watches {
         Watches {
             alloc,
-            positive: Vec::new(alloc),
-            negative: Vec::new(alloc),
+            lists: Vec::new(alloc),
             given: Vec::new(alloc),
             learnt: Vec::new(alloc),
             short: Vec::new(alloc),
         }
     }
 
-    /// Makes the lists of one variable more.
-    pub fn grow(&mut self) -> Result<(), OutOfMemory> {
-        self.positive.push(Vec::new(self.alloc))?;
-        self.negative.push(Vec::new(self.alloc))?;
+    /// Makes the lists of all variables up to this one.
+    pub fn grow(&mut self, var: usize) -> Result<(), OutOfMemory> {
+        let wanted = 2 * var.min(LAST_VARIABLE) + 2;
+        for _missing in self.lists.len()..wanted {
+            self.lists.push(Lists {
+                binary: Vec::new(self.alloc),
+                long: Vec::new(self.alloc),
+            })?;
+        }
         Ok(())
     }
 
-    /// The list of a literal, which is empty afterwards.
-    pub fn take(&mut self, lit: Lit) -> Vec<Watch> {
+    /// The clauses of two literals that watch this one, lent.
+    pub fn binary(&self, lit: Code) -> &[Watch] {
+        match self.lists.get(lit.index()) {
+            None => &[],
+            Some(lists) => lists.binary.as_slice(),
+        }
+    }
+
+    /// The list of the longer clauses that watch a literal, which is empty afterwards.
+    pub fn take(&mut self, lit: Code) -> Vec<Watch> {
         let empty = Vec::new(self.alloc);
-        if lit.neg {
-            taken(&mut self.negative, lit.var, empty)
-        } else {
-            taken(&mut self.positive, lit.var, empty)
+        match self.lists.get_mut(lit.index()) {
+            None => empty,
+            Some(lists) => mem::replace(&mut lists.long, empty),
         }
     }
 
-    /// Gives a literal its list.
-    pub fn restore(&mut self, lit: Lit, list: Vec<Watch>) {
-        let _empty = if lit.neg {
-            taken(&mut self.negative, lit.var, list)
-        } else {
-            taken(&mut self.positive, lit.var, list)
+    /// Gives a literal the list of its longer clauses.
+    pub fn restore(&mut self, lit: Code, list: Vec<Watch>) {
+        if let Some(lists) = self.lists.get_mut(lit.index()) {
+            lists.long = list;
+        }
+    }
+
+    /// Adds an entry to the list of the longer clauses of a literal.
+    pub fn push(&mut self, lit: Code, watch: Watch) -> Result<(), OutOfMemory> {
+        if let Some(lists) = self.lists.get_mut(lit.index()) {
+            lists.long.push(watch)?;
+        }
+        Ok(())
+    }
+
+    fn push_binary(&mut self, lit: Code, watch: Watch) -> Result<(), OutOfMemory> {
+        if let Some(lists) = self.lists.get_mut(lit.index()) {
+            lists.binary.push(watch)?;
+        }
+        Ok(())
+    }
+
+    /// The other watched literal of the clause of an entry in the list of this literal.
+    pub fn other(&self, watch: Watch, gone: Code) -> Code {
+        let pair = match watch.clause {
+            ClauseId::Given(i) => self.given.get(i as usize).copied(),
+            ClauseId::Learnt(i) => self.learnt.get(i as usize).copied(),
         };
-    }
-
-    /// Adds an entry to the list of a literal.
-    pub fn push(&mut self, lit: Lit, watch: Watch) -> Result<(), OutOfMemory> {
-        if lit.neg {
-            push_to(&mut self.negative, lit.var, watch)
-        } else {
-            push_to(&mut self.positive, lit.var, watch)
-        }
-    }
-
-    /// The pair of a clause.
-    pub fn pair(&self, clause: ClauseId) -> Option<Pair> {
-        match clause {
-            ClauseId::Given(i) => self.given.get(i).copied(),
-            ClauseId::Learnt(i) => self.learnt.get(i).copied(),
+        match pair {
+            None => watch.blocker,
+            Some(pair) if pair.first == gone => pair.second,
+            Some(pair) => pair.first,
         }
     }
 
     /// Gives a clause another pair.
     pub fn set_pair(&mut self, clause: ClauseId, pair: Pair) {
         match clause {
-            ClauseId::Given(i) => set_pair(&mut self.given, i, pair),
-            ClauseId::Learnt(i) => set_pair(&mut self.learnt, i, pair),
+            ClauseId::Given(i) => set_pair(&mut self.given, i as usize, pair),
+            ClauseId::Learnt(i) => set_pair(&mut self.learnt, i as usize, pair),
         }
     }
 
-    /// Begins to watch a new clause at this pair.
-    pub fn watch(&mut self, clause: ClauseId, pair: Pair) -> Result<(), OutOfMemory> {
-        self.note_pair(clause, pair)?;
-        self.push(
-            pair.first,
-            Watch {
-                clause,
-                blocker: pair.second,
-            },
-        )?;
-        self.push(
-            pair.second,
-            Watch {
-                clause,
-                blocker: pair.first,
-            },
-        )?;
-        Ok(())
+    /// Begins to watch a clause of this length at these two literals of it, which differ.
+    pub fn watch(
+        &mut self,
+        clause: ClauseId,
+        one: Lit,
+        other: Lit,
+        len: usize,
+    ) -> Result<(), OutOfMemory> {
+        let first = Code::of(one);
+        let second = Code::of(other);
+        self.note_pair(clause, Pair { first, second })?;
+        let from_first = Watch {
+            clause,
+            blocker: second,
+        };
+        let from_second = Watch {
+            clause,
+            blocker: first,
+        };
+        if len == 2 {
+            self.push_binary(first, from_first)?;
+            self.push_binary(second, from_second)
+        } else {
+            self.push(first, from_first)?;
+            self.push(second, from_second)
+        }
     }
 
-    /// Notes a new clause of one literal or none.
-    pub fn note_short(&mut self, clause: ClauseId, pair: Pair) -> Result<(), OutOfMemory> {
-        self.note_pair(clause, pair)?;
-        self.short.push((clause, pair.first))?;
+    /// Notes a clause of one literal or none.
+    pub fn note_short(&mut self, clause: ClauseId, lit: Option<Lit>) -> Result<(), OutOfMemory> {
+        self.short.push(Short { clause, lit })?;
         Ok(())
     }
 
@@ -129,32 +171,32 @@ impl Watches {
         self.short.len()
     }
 
-    /// A clause of one literal or none, by its number among these, and its literal if it has one.
-    pub fn short(&self, i: usize) -> Option<(ClauseId, Lit)> {
+    /// A clause of one literal or none, by its number among these.
+    pub fn short(&self, i: usize) -> Option<Short> {
         self.short.get(i).copied()
+    }
+
+    /// Takes the entries of learnt clauses that were deleted out of the lists. It looks at each entry
+    /// once.
+    pub fn clean(&mut self, clauses: &Clauses) {
+        for lists in self.lists.iter_mut() {
+            clean(&mut lists.long, clauses);
+        }
     }
 
     fn note_pair(&mut self, clause: ClauseId, pair: Pair) -> Result<(), OutOfMemory> {
         match clause {
-            ClauseId::Given(i) => note_at(&mut self.given, i, pair),
-            ClauseId::Learnt(i) => note_at(&mut self.learnt, i, pair),
+            ClauseId::Given(i) => note_at(&mut self.given, i as usize, pair),
+            ClauseId::Learnt(i) => note_at(&mut self.learnt, i as usize, pair),
         }
     }
 }
 
-/// What stood at a place, for which this list is left; the list itself where there is no such place.
-fn taken(lists: &mut Vec<Vec<Watch>>, var: usize, list: Vec<Watch>) -> Vec<Watch> {
-    match lists.get_mut(var) {
-        None => list,
-        Some(slot) => mem::replace(slot, list),
-    }
-}
-
-fn push_to(lists: &mut Vec<Vec<Watch>>, var: usize, watch: Watch) -> Result<(), OutOfMemory> {
-    if let Some(list) = lists.get_mut(var) {
-        list.push(watch)?;
-    }
-    Ok(())
+fn clean(list: &mut Vec<Watch>, clauses: &Clauses) {
+    list.retain(|watch| match watch.clause {
+        ClauseId::Given(_) => true,
+        ClauseId::Learnt(_) => clauses.get(watch.clause).is_some(),
+    });
 }
 
 fn set_pair(pairs: &mut Vec<Pair>, i: usize, pair: Pair) {
@@ -163,8 +205,7 @@ fn set_pair(pairs: &mut Vec<Pair>, i: usize, pair: Pair) {
     }
 }
 
-/// Keeps the pair of clause i. Where pairs of earlier clauses are missing, since memory was refused
-/// after these were added, they get this one.
+/// Keeps the pair of clause i. Earlier clauses that have no pair yet, as short ones, get this one.
 fn note_at(pairs: &mut Vec<Pair>, i: usize, pair: Pair) -> Result<(), OutOfMemory> {
     while pairs.len() <= i {
         pairs.push(pair)?;

@@ -3,7 +3,7 @@
 // is dropped stays where it is until the region is compacted, which gives the live blocks new places.
 #![tactic(auto)]
 
-pub mod layout;
+mod layout;
 pub mod moves;
 pub mod pool;
 

@@ -1,6 +1,6 @@
 -- Each place in turn.
-use Rattle.std.proofs.Common.{◌<◌, length, slice_get, Some, sym, subst, ap, ◌∙◌, arith}
-use Rattle.sat_cdcl.proofs.LearnedLemmas.{followed_more, followed_all}
+use Rattle.std.proofs.Common.{sym, ◌∙◌, arith}
+use Rattle.sat_cdcl.proofs.LearntLemmas.{followed_more, followed_all}
 use Rattle.sat_cdcl.proofs.learnt.follow.Goals as goal
 
 pub follow_one-requires : goal.follow_one-requires

@@ -1,5 +1,5 @@
 use Rattle.std.proofs.Common.{◌≡◌, ◌<◌, ◌≤◌, ℕ, length, slice_get}
-use Rattle.sat_cdcl.specs.Learned.{moved_at}
+use Rattle.sat_cdcl.specs.Learnt.{moved_at}
 use Rattle.sat_cdcl.proofs.learnt.follow.Given as goal
 
 abbrev pub invariant-loop-i : goal.invariant-loop-i

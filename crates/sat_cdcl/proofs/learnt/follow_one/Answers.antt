@@ -1,6 +1,6 @@
 -- One reference, or none.
 use Rattle.std.proofs.Common.{Some, slice_get, length-set, ap, sym, ◌∙◌}
-use Rattle.sat_cdcl.proofs.LearnedLemmas.{followed_some, get-set_other}
+use Rattle.sat_cdcl.proofs.LearntLemmas.{followed_some, get-set_other}
 use Rattle.sat_cdcl.proofs.learnt.follow_one.Goals as goal
 
 pub returns-in-Some : goal.returns-in-Some

@@ -1,6 +1,6 @@
 use Rattle.std.proofs.Common.{◌≡◌}
 use Rattle.sat_pool.specs.Region.{size}
-use Rattle.sat_cdcl.specs.Learned.{entries, IsTable, Thins}
+use Rattle.sat_cdcl.specs.Learnt.{entries, IsTable, Thins}
 use Rattle.sat_cdcl.proofs.learnt.forget_marked.Given as goal
 
 abbrev pub invariant-loop-i : goal.invariant-loop-i

@@ -1,6 +1,6 @@
 -- No other reference names the clause that is dropped.
 use Rattle.std.proofs.Common.{slice_get, ap, sym, ◌∙◌}
-use Rattle.sat_cdcl.proofs.LearnedLemmas.{thins_one}
+use Rattle.sat_cdcl.proofs.LearntLemmas.{thins_one}
 use Rattle.sat_cdcl.proofs.learnt.forget_one.Goals as goal
 
 pub returns-in-Some-clause-thins : goal.returns-in-Some-clause-thins

@@ -1,7 +1,7 @@
 -- Each live clause is read at its new place.
-use Rattle.std.proofs.Common.{◌<◌, subst, sym, arith}
+use Rattle.std.proofs.Common.{arith}
 use Rattle.sat_cdcl.proofs.HeldLemmas.{some_of}
-use Rattle.sat_cdcl.proofs.LearnedLemmas.{table-moved, thins_moved}
+use Rattle.sat_cdcl.proofs.LearntLemmas.{table-moved, thins_moved}
 use Rattle.sat_cdcl.proofs.learnt.lay_out.Goals as goal
 
 pub follow-requires : goal.follow-requires

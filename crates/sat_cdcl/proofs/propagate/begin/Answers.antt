@@ -6,7 +6,7 @@ pub loop-i-init : goal.loop-i-init
 loop-i-init c = extends_refl c.args.clauses.now c.args.trail.now
 
 pub returns-then-is_some : goal.returns-then-is_some
-returns-then-is_some c = (extends_trans _ _ _ _ c.loop-i.invariant c.begin_with-found.ensures.0, c.begin_with-found.ensures.1)
+returns-then-is_some c = (extends_trans _ _ _ _ c.loop-i.invariant c.begin_short-found.ensures.0, c.begin_short-found.ensures.1)
 
 pub loop-i-preserved : goal.loop-i-preserved
-loop-i-preserved c = extends_trans _ _ _ _ c.loop-i.invariant c.begin_with-found.ensures.0
+loop-i-preserved c = extends_trans _ _ _ _ c.loop-i.invariant c.begin_short-found.ensures.0

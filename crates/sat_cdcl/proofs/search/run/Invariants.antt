@@ -5,10 +5,10 @@ use Rattle.sat_cdcl.proofs.search.run.Given as goal
 
 abbrev pub invariant-loop-progress : goal.invariant-loop-progress
 invariant-loop-progress l = record {
-  vars : l.trail.vars ≡ l.fn.trail.vars;
-  given : l.clauses ≡ l.fn.clauses;
-  follow : AllFollow l.clauses l.assumed l.trail.steps;
+  vars : l.search.trail.vars ≡ l.fn.search.trail.vars;
+  given : l.search.clauses ≡ l.fn.search.clauses;
+  follow : AllFollow l.search.clauses l.assumed l.search.trail.steps;
 }
 
 abbrev pub decreases-loop-progress : goal.decreases-loop-progress
-decreases-loop-progress l = numbers l.trail.vars - trail_weight l.trail
+decreases-loop-progress l = numbers l.search.trail.vars - trail_weight l.search.trail

@@ -1,6 +1,6 @@
 -- The clause that the reference reads.
 use Rattle.std.proofs.Common.{slice_get, ap, sym, ◌∙◌}
-use Rattle.sat_cdcl.proofs.LearnedLemmas.{read_at}
+use Rattle.sat_cdcl.proofs.LearntLemmas.{read_at}
 use Rattle.sat_cdcl.proofs.learnt.Learnt.get.Goals as goal
 
 pub returns-in-Some : goal.returns-in-Some

@@ -2,12 +2,11 @@
 
 use Rattle.std.proofs.Common.{◌≡◌, ◌≢◌, ℕ, zero, suc, ◌+◌, ◌<◌, ◌≤◌, ◌⊎◌, inl, inr, List, [], ◌∷◌, ◌++◌, length, set, slice_get, slice_index, Option, None, Some, IsSome, refl, sym, subst, ap, ◌∙◌, arith}
 use Rattle.std.proofs.lemmas.Bool.{false≢true}
-use Rattle.std.proofs.lemmas.Option.{slice_get_within}
 use Rattle.sat_base.specs.declared.literal.Lit.{Lit}
 use Rattle.sat_pool.specs.declared.pool.Ref.{Ref}
 use Rattle.sat_pool.specs.Region.{Block, reads}
-use Rattle.sat_cdcl.specs.Learned.{entries, IsTable, Thins, moved_at}
-use Rattle.sat_cdcl.proofs.HeldLemmas.{Keeps, some_of, is_some, pushed_at}
+use Rattle.sat_cdcl.specs.Learnt.{entries, IsTable, Thins, Adds, Names, moved_at}
+use Rattle.sat_cdcl.proofs.HeldLemmas.{Keeps, some_of, is_some}
 use Rattle.sat_cdcl.proofs.TruthLemmas.{same_or_not, lt_or_le}
 
 -- what a place of the table reads
@@ -41,20 +40,6 @@ pub read_at : (bs : List Block) (es : List (Option Ref)) (j : ℕ) (r : Ref) (c 
     → slice_get (entries bs es) j ≡ Some (Some c)
 read_at bs es j r c is read = entries-at bs es j ∙ ap (entry_of bs) is ∙ ap Some read
 
-pub entries-push : (bs : List Block) (es : List (Option Ref)) (r : Ref) → entries bs (es ++ Some r ∷ []) ≡ entries bs es ++ reads bs r.at ∷ []
-entries-push bs [] r = refl
-entries-push bs (None ∷ es) r = ap (λ t. None ∷ t) (entries-push bs es r)
-entries-push bs (Some s ∷ es) r = ap (λ t. reads bs s.at ∷ t) (entries-push bs es r)
-
-pub entries-kept : (old new : List Block) (es : List (Option Ref)) → ((i : ℕ) (r : Ref) → slice_get es i ≡ Some (Some r) → IsSome (reads old r.at)) → Keeps old new
-    → entries new es ≡ entries old es
-entries-kept old new [] live keeps = refl
-entries-kept old new (None ∷ es) live keeps = ap (λ t. None ∷ t) (entries-kept old new es (λ i r h. live (suc i) r h) keeps)
-entries-kept old new (Some s ∷ es) live keeps =
-    let t = some_of (reads old s.at) (live 0 s refl) in
-    let same : reads new s.at ≡ reads old s.at = keeps s.at t.0 t.1 ∙ sym t.1 in
-    ap (λ x. x ∷ entries new es) same ∙ ap (λ x. reads old s.at ∷ x) (entries-kept old new es (λ i r h. live (suc i) r h) keeps)
-
 pub table-kept : (old new : List Block) (es : List (Option Ref)) → IsTable old es → Keeps old new → IsTable new es
 table-kept old new es t keeps = record {
   live = λ i r h. let l = some_of (reads old r.at) (t.live i r h) in is_some (reads new r.at) l.0 (keeps r.at l.0 l.1);
@@ -64,31 +49,80 @@ table-kept old new es t keeps = record {
 not_live : (bs : List Block) (s r : Ref) → IsSome (reads bs s.at) → s.at ≡ r.at → reads bs r.at ≡ None → ⊥
 not_live bs s r live same none = absurd (false≢true (subst IsSome (ap (reads bs) same ∙ none) live))
 
+-- what a table has after a number got a reference
+set_found : (es : List (Option Ref)) (i j : ℕ) (r s : Ref) → slice_get (set es i (Some r)) j ≡ Some (Some s)
+    → ((j ≡ i) × (r ≡ s)) ⊎ (slice_get es j ≡ Some (Some s))
+set_found [] i j r s h = inr h
+set_found (x ∷ xs) zero zero r s h = inl (refl, cc h)
+set_found (x ∷ xs) zero (suc j) r s h = inr h
+set_found (x ∷ xs) (suc i) zero r s h = inr h
+set_found (x ∷ xs) (suc i) (suc j) r s h =
+    elim (set_found xs i j r s h) [
+      | inl k ↦ inl (ap suc k.0, k.1)
+      | inr k ↦ inr k
+    ]
+
+-- a number more has no clause
+pub names-push : (es : List (Option Ref)) → Names es (es ++ None ∷ [])
+names-push [] zero s h = absurd (cc h)
+names-push [] (suc j) s h = absurd (cc h)
+names-push (x ∷ xs) zero s h = h
+names-push (x ∷ xs) (suc j) s h = names-push xs j s h
+
+pub table-names : (bs : List Block) (es fs : List (Option Ref)) → IsTable bs es → Names es fs → IsTable bs fs
+table-names bs es fs t names = record {
+  live = λ i r h. t.live i r (names i r h);
+  apart = λ i j r s h k same. t.apart i j r s (names i r h) (names j s k) same;
+}
+
 -- a clause more
-pub table-push : (old new : List Block) (es : List (Option Ref)) (r : Ref) (c : List Lit) → IsTable old es → Keeps old new → reads old r.at ≡ None → reads new r.at ≡ Some c
-    → IsTable new (es ++ Some r ∷ [])
-table-push old new es r c t keeps fresh read =
+pub table-set : (old new : List Block) (es : List (Option Ref)) (i : ℕ) (r : Ref) (c : List Lit) → IsTable old es → Keeps old new → reads old r.at ≡ None → reads new r.at ≡ Some c
+    → IsTable new (set es i (Some r))
+table-set old new es i r c t keeps fresh read =
     let before = table-kept old new es t keeps in
     record {
-      live = λ i s h.
-          elim (pushed_at es r i s h) [
-            | inl k ↦ before.live i s k
-            | inr k ↦ subst (λ x. IsSome (reads new x.at)) k.1 (is_some (reads new r.at) c read)
+      live = λ j s h.
+          elim (set_found es i j r s h) [
+            | inl k ↦ subst (λ x. IsSome (reads new x.at)) k.1 (is_some (reads new r.at) c read)
+            | inr k ↦ before.live j s k
           ];
-      apart = λ i j s u h k same.
-          elim (pushed_at es r i s h) [
+      apart = λ j k s u h g same.
+          elim (set_found es i j r s h) [
             | inl a ↦
-                elim (pushed_at es r j u k) [
-                  | inl b ↦ t.apart i j s u a b same
-                  | inr b ↦ absurd (not_live old s r (t.live i s a) (same ∙ ap (λ x. x.at) (sym b.1)) fresh)
+                elim (set_found es i k r u g) [
+                  | inl b ↦ a.0 ∙ sym b.0
+                  | inr b ↦ absurd (not_live old u r (t.live k u b) (sym same ∙ ap (λ x. x.at) (sym a.1)) fresh)
                 ]
             | inr a ↦
-                elim (pushed_at es r j u k) [
-                  | inl b ↦ absurd (not_live old u r (t.live j u b) (sym same ∙ ap (λ x. x.at) (sym a.1)) fresh)
-                  | inr b ↦ a.0 ∙ sym b.0
+                elim (set_found es i k r u g) [
+                  | inl b ↦ absurd (not_live old s r (t.live j s a) (same ∙ ap (λ x. x.at) (sym b.1)) fresh)
+                  | inr b ↦ t.apart j k s u a b same
                 ]
           ];
     }
+
+-- a clause that is read through a reference that was there, was read through it before
+read_before : (old new : List Block) (es : List (Option Ref)) (j : ℕ) (r : Ref) (d : List Lit) → IsTable old es → Keeps old new
+    → slice_get es j ≡ Some (Some r) → reads new r.at ≡ Some d → slice_get (entries old es) j ≡ Some (Some d)
+read_before old new es j r d t keeps there read =
+    let l = some_of (reads old r.at) (t.live j r there) in
+    let same : l.0 ≡ d = cc (sym (keeps r.at l.0 l.1) ∙ read) in
+    read_at old es j r d there (l.1 ∙ ap Some same)
+
+pub adds-none : (old new : List Block) (es fs : List (Option Ref)) (c : List Lit) → IsTable old es → Names es fs → Keeps old new
+    → Adds (entries old es) (entries new fs) c
+adds-none old new es fs c t names keeps j d h =
+    let f = found_at new fs j d h in
+    inr (read_before old new es j f.r d t keeps (names j f.r f.is) f.read)
+
+pub adds-one : (old new : List Block) (es fs : List (Option Ref)) (i : ℕ) (r : Ref) (c : List Lit) → IsTable old es → Names es fs → Keeps old new → reads new r.at ≡ Some c
+    → Adds (entries old es) (entries new (set fs i (Some r))) c
+adds-one old new es fs i r c t names keeps read j d h =
+    let f = found_at new (set fs i (Some r)) j d h in
+    elim (set_found fs i j r f.r f.is) [
+      | inl k ↦ let now : reads new f.r.at ≡ Some c = ap (λ x. reads new x.at) (sym k.1) ∙ read in inl (cc (sym f.read ∙ now))
+      | inr k ↦ inr (read_before old new es j f.r d t keeps (names j f.r k) f.read)
+    ]
 
 pub get-set_same : {A : Type 0} (xs : List A) (i : ℕ) (a b : A) → slice_get xs i ≡ Some b → slice_get (set xs i a) i ≡ Some a
 get-set_same [] i a b h = absurd (cc h)

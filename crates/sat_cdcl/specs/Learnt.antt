@@ -1,7 +1,7 @@
--- The clauses that were learnt, as references into a region. Each has its number for good; one that
--- was deleted reads nothing any more.
+-- The clauses that were learnt, as references into a region. Each keeps its number until it is deleted;
+-- then its number reads nothing, until another clause gets it.
 
-use Rattle.std.specs.Prelude.{◌≡◌, ℕ, List, [], ◌∷◌, Option, None, Some, IsSome, slice_get, slice_index}
+use Rattle.std.specs.Prelude.{◌≡◌, ◌⊎◌, ℕ, List, [], ◌∷◌, Option, None, Some, IsSome, slice_get, slice_index}
 use Rattle.sat_base.specs.declared.literal.Lit.{Lit}
 use Rattle.sat_pool.specs.declared.pool.Ref.{Ref}
 use Rattle.sat_pool.specs.Region.{Block, reads}
@@ -20,6 +20,14 @@ pub record IsTable (bs : List Block) (table : List (Option Ref)) : Type 0 where
 -- each clause that is there was there before
 abbrev pub Thins : List (Option (List Lit)) → List (Option (List Lit)) → Type 0
 Thins old new = (j : ℕ) (c : List Lit) → slice_get new j ≡ Some (Some c) → slice_get old j ≡ Some (Some c)
+
+-- each clause that is there is the new one, or was there before under its number
+abbrev pub Adds : List (Option (List Lit)) → List (Option (List Lit)) → List Lit → Type 0
+Adds old new c = (j : ℕ) (d : List Lit) → slice_get new j ≡ Some (Some d) → (d ≡ c) ⊎ (slice_get old j ≡ Some (Some d))
+
+-- each reference that is there was there before
+abbrev pub Names : List (Option Ref) → List (Option Ref) → Type 0
+Names old new = (j : ℕ) (r : Ref) → slice_get new j ≡ Some (Some r) → slice_get old j ≡ Some (Some r)
 
 -- a reference, if there is one, after the clauses moved to these places
 abbrev pub moved_at : List ℕ → Option (Option Ref) → Option (Option Ref)

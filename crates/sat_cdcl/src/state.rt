@@ -1,0 +1,20 @@
+// All that a search reads and changes, in one struct: the trail and the clauses, of which contracts
+// speak, and beside them what steers the search.
+
+use crate::activity::Activity;
+use crate::held::Clauses;
+use crate::resolvent::Resolvent;
+use crate::trail::Trail;
+use crate::watch::Watches;
+use std::alloc::Global;
+
+/// The state of a search. It stays from question to question.
+#[derive(Debug, Drop)]
+pub struct Search {
+    pub alloc: Global,
+    pub trail: Trail,
+    pub clauses: Clauses,
+    pub watches: Watches,
+    pub activity: Activity,
+    pub resolvent: Resolvent,
+}
