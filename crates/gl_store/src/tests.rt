@@ -79,7 +79,8 @@ fn marks_where_the_pointer_leads(rt: HostRuntime) -> Result<(), Fail> {
     let first = Set::one(&net, 1);
     let null = Set::one(&net, 0);
     let pointer = join(&mut net, input, &first, &null)?;
-    store.mark_where(&mut net, net.constant(true), &pointer, Flag::Freed)?;
+    let always = net.constant(true);
+    store.mark_where(&mut net, always, &pointer, Flag::Freed)?;
     let same = store.try_clone(&net)?;
     assert_eq!(rt; same.flag_anywhere(&net, 0, Flag::Freed), input);
     assert_eq!(rt;
