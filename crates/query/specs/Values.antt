@@ -1,7 +1,8 @@
 -- The values that literals have in models. A list of values comes before another in lexicographic
 -- order, false before true.
 
-use Rattle.std.specs.Prelude.{◌≡◌, ◌↔◌, ℕ, ◌+◌, ◌*◌, Bool, true, false, if◌then◌else◌, List, [], ◌∷◌, map, Contains}
+use Rattle.std.specs.Prelude.{◌≡◌, ◌↔◌, ℕ, ◌+◌, ◌*◌, Bool, true, false, if◌then◌else◌, List, [], ◌∷◌, map, Contains, Option, Some, None, Vec}
+use Rattle.std.specs.declared.alloc.Global.{Global}
 use Rattle.std.specs.List.Sorted.{IsStrictlyIncreasing}
 use Rattle.sat_base.specs.declared.literal.Lit.{Lit}
 use Rattle.sat_base.specs.Logic.{negation, lit_true, all_true, satisfied}
@@ -27,6 +28,21 @@ fixed_to false bit = negation bit
 -- some assignment satisfies the clauses and makes these literals true
 abbrev pub CanHold : List (List Lit) → List Lit → Type 0
 CanHold clauses lits = (f : ℕ → Bool) × (satisfied f clauses lits ≡ true)
+
+-- some model in which the fixed literals hold gives the bits these values
+pub record IsSeen (clauses : List (List Lit)) (fixed bits : List Lit) (values : List Bool) : Type 0 where
+  pub model : ℕ → Bool
+  pub holds : satisfied model clauses fixed ≡ true
+  pub values_are : values_of model bits ≡ values
+
+-- the values that some such model gives, or none where no model has the fixed literals
+abbrev pub IsFound : List (List Lit) → (bits fixed : List Lit) → Option (Vec Bool Global) → Type 0
+IsFound clauses bits fixed (Some values) = IsSeen clauses fixed bits values.items
+IsFound clauses bits fixed None = (f : ℕ → Bool) → satisfied f clauses fixed ≡ false
+
+-- the same of a part of the models
+pub record IsPart (clauses : List (List Lit)) (bits fixed : List Lit) (model : Option (Vec Bool Global)) : Type 0 where
+  pub found : IsFound clauses bits fixed model
 
 -- a model in which the goal holds
 pub record Hits (f : ℕ → Bool) (clauses : List (List Lit)) (goal : Lit) : Type 0 where

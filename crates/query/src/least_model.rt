@@ -1,11 +1,11 @@
-// The least values that some literals have in a model in which a goal holds.
-
+//! The least values that some literals have in a model in which a goal holds. A bit that is false in the model found last is
+//! fixed without a question.
 ghost use Rattle.std.specs.Prelude.{◌≡◌, ◌<◌, [], ◌∷◌, MatchOption, IfOk};
 ghost use Rattle.sat_base.specs.Logic.{LitsBelow};
-ghost use Rattle.query.specs.Values.{CanHold, HasNone, IsLeast};
+ghost use Rattle.query.specs.Values.{HasNone, IsSeen, IsLeast};
 
-use crate::fixing::fix_low;
-use sat_base::{Answer, Lit, OutOfMemory, Solver};
+use crate::fixing::{fix_low, model_of};
+use sat_base::{Lit, OutOfMemory, Solver};
 use std::alloc::Global;
 
 /// The values of the bits in the first model in which the goal holds: first in lexicographic
@@ -26,34 +26,35 @@ pub fn least<S: Solver>(
 {
     let mut fixed = Vec::new(alloc);
     fixed.push(goal)?;
-    match s.solve(fixed.as_slice())? {
-        Answer::NoModel => Ok(None),
-        Answer::Model => {
-            let values = least_values(alloc, s, bits, goal, fixed)?;
+    match model_of(alloc, s, bits, fixed.as_slice())? {
+        None => Ok(None),
+        Some(last) => {
+            let values = least_values(alloc, s, bits, goal, fixed, last)?;
             Ok(Some(values))
         }
     }
 }
 
-/// Fixes one bit after the other, as low as a model allows.
+/// Fixes one bit after the other, as low as a model allows. `last` has the values of the bits in a model in which the goal holds.
 fn least_values<S: Solver>(
     alloc: Global,
     s: &mut S,
     bits: &[Lit],
     goal: Lit,
     mut fixed: Vec<Lit>,
+    mut last: Vec<bool>,
 ) -> Result<Vec<bool>, OutOfMemory>
     requires bits { LitsBelow (S.vars s.old) bits.now }
     requires below { LitsBelow (S.vars s.old) fixed.items }
     requires goal { fixed.items ≡ goal ∷ [] }
-    requires some { CanHold (S.clauses s.old) fixed.items }
+    requires last { IsSeen (S.clauses s.old) fixed.items bits.now last.items }
     ensures vars { S.vars s.new ≡ S.vars s.old }
     ensures clauses { S.clauses s.new ≡ S.clauses s.old }
     ensures least { IfOk result (λ values. IsLeast (S.clauses s.old) bits.now goal values.items) }
 {
     let mut values = Vec::new(alloc);
-    for bit in bits {
-        let value = fix_low(s, &mut fixed, *bit)?;
+    for place in 0..bits.len() {
+        let value = fix_low(alloc, s, &mut fixed, bits, place, bits[place], &mut last)?;
         values.push(value)?;
     }
     Ok(values)
