@@ -97,7 +97,6 @@ marks_push vars bits lits l m low =
           (lit_cases q l);
     }
 
-
 fewer_bits : (bits : List Bool) (l : Lit) → place l < length bits → bit bits l ≡ false → count_by (λ b. not b) (set bits (place l) true) < count_by (λ b. not b) bits
 unfolding bit
 fewer_bits bits l inside empty =

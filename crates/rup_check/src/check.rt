@@ -37,7 +37,12 @@ fn two_lits(marks: &Marks, clause: &[Lit]) -> Option<(Lit, Lit)>
 }
 
 /// Adds a clause, and notes where it is to be found.
-fn add_clause(store: &mut Store, marks: &mut Marks, hints: &mut Hints, clause: &[Lit]) -> Result<(), OutOfMemory>
+fn add_clause(
+    store: &mut Store,
+    marks: &mut Marks,
+    hints: &mut Hints,
+    clause: &[Lit],
+) -> Result<(), OutOfMemory>
     requires stored { StoredBelow marks.old.vars store.old }
     requires clause { LitsBelow marks.old.vars clause.now }
     ensures vars { marks.new.vars ≡ marks.old.vars }
@@ -54,7 +59,12 @@ fn add_clause(store: &mut Store, marks: &mut Marks, hints: &mut Hints, clause: &
 }
 
 /// Adds a clause if it is RUP.
-fn add_step(store: &mut Store, marks: &mut Marks, hints: &mut Hints, clause: &[Lit]) -> Result<bool, OutOfMemory>
+fn add_step(
+    store: &mut Store,
+    marks: &mut Marks,
+    hints: &mut Hints,
+    clause: &[Lit],
+) -> Result<bool, OutOfMemory>
     requires stored { StoredBelow marks.old.vars store.old }
     requires clause { LitsBelow marks.old.vars clause.now }
     ensures vars { marks.new.vars ≡ marks.old.vars }
@@ -69,7 +79,12 @@ fn add_step(store: &mut Store, marks: &mut Marks, hints: &mut Hints, clause: &[L
 }
 
 /// Takes out one clause with these literals, if there is one.
-fn drop_step(store: &mut Store, marks: &mut Marks, hints: &mut Hints, clause: &[Lit]) -> Result<bool, OutOfMemory>
+fn drop_step(
+    store: &mut Store,
+    marks: &mut Marks,
+    hints: &mut Hints,
+    clause: &[Lit],
+) -> Result<bool, OutOfMemory>
     requires stored { StoredBelow marks.old.vars store.old }
     requires clause { LitsBelow marks.old.vars clause.now }
     ensures vars { marks.new.vars ≡ marks.old.vars }
@@ -86,7 +101,12 @@ fn drop_step(store: &mut Store, marks: &mut Marks, hints: &mut Hints, clause: &[
 }
 
 /// Does a step, if it is allowed.
-fn take_step(store: &mut Store, marks: &mut Marks, hints: &mut Hints, step: &Step) -> Result<bool, OutOfMemory>
+fn take_step(
+    store: &mut Store,
+    marks: &mut Marks,
+    hints: &mut Hints,
+    step: &Step,
+) -> Result<bool, OutOfMemory>
     requires stored { StoredBelow marks.old.vars store.old }
     requires step { LitsBelow marks.old.vars (step_lits step.now) }
     ensures vars { marks.new.vars ≡ marks.old.vars }
@@ -100,7 +120,12 @@ fn take_step(store: &mut Store, marks: &mut Marks, hints: &mut Hints, step: &Ste
 }
 
 /// Adds the clauses of a formula.
-fn add_clauses(store: &mut Store, marks: &mut Marks, hints: &mut Hints, clauses: &[Clause]) -> Result<(), OutOfMemory>
+fn add_clauses(
+    store: &mut Store,
+    marks: &mut Marks,
+    hints: &mut Hints,
+    clauses: &[Clause],
+) -> Result<(), OutOfMemory>
     requires empty { store.old ≡ [] }
     requires below { ClausesBelow marks.old.vars clauses.now }
     ensures vars { marks.new.vars ≡ marks.old.vars }
@@ -149,7 +174,12 @@ fn end_of(steps: &[Step]) -> Checked
 ///
 /// The time for a step that adds a clause is that of unit propagation; the time for a step that takes a
 /// clause out is that of a look-up.
-pub fn check_proof(alloc: Global, vars: usize, clauses: &ClauseList, steps: &Vec<Step>) -> Result<Checked, OutOfMemory>
+pub fn check_proof(
+    alloc: Global,
+    vars: usize,
+    clauses: &ClauseList,
+    steps: &Vec<Step>,
+) -> Result<Checked, OutOfMemory>
     requires clauses { ClausesBelow vars clauses.now }
     requires steps { StepsBelow vars steps.now.items }
     ensures { IfOk result (IsChecked clauses.now steps.now.items) }

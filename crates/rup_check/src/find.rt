@@ -27,7 +27,12 @@ fn has_same_lits(marks: &mut Marks, one: &[Lit], other: &[Lit]) -> Result<bool, 
 }
 
 /// Whether the clause of this number is there and has the same set of literals as this one.
-fn is_found(store: &Store, marks: &mut Marks, id: usize, clause: &[Lit]) -> Result<bool, OutOfMemory>
+fn is_found(
+    store: &Store,
+    marks: &mut Marks,
+    id: usize,
+    clause: &[Lit],
+) -> Result<bool, OutOfMemory>
     requires stored { StoredBelow marks.old.vars store.now }
     requires clause { LitsBelow marks.old.vars clause.now }
     ensures vars { marks.new.vars ≡ marks.old.vars }
@@ -41,7 +46,11 @@ fn is_found(store: &Store, marks: &mut Marks, id: usize, clause: &[Lit]) -> Resu
 
 /// A clause with the same set of literals, sought among all clauses. It is linear in all of them. It
 /// runs before a No alone, since what is there is found by its hash.
-fn find_among_all(store: &Store, marks: &mut Marks, clause: &[Lit]) -> Result<Option<usize>, OutOfMemory>
+fn find_among_all(
+    store: &Store,
+    marks: &mut Marks,
+    clause: &[Lit],
+) -> Result<Option<usize>, OutOfMemory>
     requires stored { StoredBelow marks.old.vars store.now }
     requires clause { LitsBelow marks.old.vars clause.now }
     ensures vars { marks.new.vars ≡ marks.old.vars }
@@ -56,7 +65,12 @@ fn find_among_all(store: &Store, marks: &mut Marks, clause: &[Lit]) -> Result<Op
 }
 
 /// A clause with the same set of literals among those of the same hash, from the newest on.
-fn find_by_hash(store: &Store, marks: &mut Marks, hints: &Hints, clause: &[Lit]) -> Result<Option<usize>, OutOfMemory>
+fn find_by_hash(
+    store: &Store,
+    marks: &mut Marks,
+    hints: &Hints,
+    clause: &[Lit],
+) -> Result<Option<usize>, OutOfMemory>
     requires stored { StoredBelow marks.old.vars store.now }
     requires clause { LitsBelow marks.old.vars clause.now }
     ensures vars { marks.new.vars ≡ marks.old.vars }
@@ -77,7 +91,12 @@ fn find_by_hash(store: &Store, marks: &mut Marks, hints: &Hints, clause: &[Lit])
 }
 
 /// A clause with the same set of literals, if one is there.
-pub fn find(store: &Store, marks: &mut Marks, hints: &Hints, clause: &[Lit]) -> Result<Option<usize>, OutOfMemory>
+pub fn find(
+    store: &Store,
+    marks: &mut Marks,
+    hints: &Hints,
+    clause: &[Lit],
+) -> Result<Option<usize>, OutOfMemory>
     requires stored { StoredBelow marks.old.vars store.now }
     requires clause { LitsBelow marks.old.vars clause.now }
     ensures vars { marks.new.vars ≡ marks.old.vars }

@@ -21,7 +21,13 @@ fn is_settled(marks: &Marks, hints: &Hints, id: usize, list: Option<Lit>) -> boo
 }
 
 /// Lets a clause be watched at one of these open literals in place of the one of this list.
-fn move_watch(hints: &mut Hints, id: usize, list: Option<Lit>, one: Lit, other: Lit) -> Result<(), OutOfMemory> {
+fn move_watch(
+    hints: &mut Hints,
+    id: usize,
+    list: Option<Lit>,
+    one: Lit,
+    other: Lit,
+) -> Result<(), OutOfMemory> {
     let first = hints.other(id, list).unwrap_or(one);
     let second = if one == first { other } else { one };
     hints.move_to(id, first, second)
@@ -29,7 +35,14 @@ fn move_watch(hints: &mut Hints, id: usize, list: Option<Lit>, one: Lit, other: 
 
 /// Looks at entry i of a list. It leaves the list where its clause was taken out or gets another literal
 /// to watch, and else i becomes the next one. Whether its clause is falsified.
-fn visit_entry(store: &Store, marks: &mut Marks, hints: &mut Hints, list: Option<Lit>, ids: &mut Vec<usize>, i: &mut usize) -> Result<bool, OutOfMemory>
+fn visit_entry(
+    store: &Store,
+    marks: &mut Marks,
+    hints: &mut Hints,
+    list: Option<Lit>,
+    ids: &mut Vec<usize>,
+    i: &mut usize,
+) -> Result<bool, OutOfMemory>
     requires { StoredBelow marks.old.vars store.now }
     ensures extends { Extends (present store.now) marks.old marks.new }
     ensures conflict { IfOk result (IsPropagated (present store.now) marks.new.lits) }
@@ -66,7 +79,12 @@ fn visit_entry(store: &Store, marks: &mut Marks, hints: &mut Hints, list: Option
 }
 
 /// Looks at each clause of a list, up to one that is falsified.
-fn visit_list(store: &Store, marks: &mut Marks, hints: &mut Hints, list: Option<Lit>) -> Result<bool, OutOfMemory>
+fn visit_list(
+    store: &Store,
+    marks: &mut Marks,
+    hints: &mut Hints,
+    list: Option<Lit>,
+) -> Result<bool, OutOfMemory>
     requires { StoredBelow marks.old.vars store.now }
     ensures extends { Extends (present store.now) marks.old marks.new }
     ensures conflict { IfOk result (IsPropagated (present store.now) marks.new.lits) }

@@ -14,7 +14,12 @@ use crate::watch::Hints;
 use sat_base::{Lit, OutOfMemory};
 
 /// Whether the clause is RUP for the clauses that are there. The marks are used up.
-pub fn is_rup(store: &Store, marks: &mut Marks, hints: &mut Hints, clause: &[Lit]) -> Result<bool, OutOfMemory>
+pub fn is_rup(
+    store: &Store,
+    marks: &mut Marks,
+    hints: &mut Hints,
+    clause: &[Lit],
+) -> Result<bool, OutOfMemory>
     requires stored { StoredBelow marks.old.vars store.now }
     requires clause { LitsBelow marks.old.vars clause.now }
     ensures vars { marks.new.vars ≡ marks.old.vars }

@@ -64,7 +64,12 @@ impl Hints {
     }
 
     /// Notes the next clause: its hash, and two different literals of it if it has these.
-    pub fn note(&mut self, id: usize, hash: u64, watched: Option<(Lit, Lit)>) -> Result<(), OutOfMemory> {
+    pub fn note(
+        &mut self,
+        id: usize,
+        hash: u64,
+        watched: Option<(Lit, Lit)>,
+    ) -> Result<(), OutOfMemory> {
         let before = self.newest.insert(hash, id)?;
         self.older.push(before)?;
         match watched {

@@ -8,7 +8,7 @@ pub returns-then-not-has_all-clause-same : goal.returns-then-not-has_all-clause-
 returns-then-not-has_all-clause-same c = (
   (λ yes. absurd (false≢true yes)),
   (λ h. absurd (same_fails c.args.one.now c.args.other.now c.set_to.new.self.lits c.has_all.result c.in_ok-set_to.ensures.set c.has_all.ensures
-  c.if-not-has_all.true h)),
+      c.if-not-has_all.true h)),
 )
 
 pub returns-clause-same : goal.returns-clause-same

@@ -14,8 +14,8 @@ close-requires c = subst (λ n. StoredBelow n c.args.store.now) (sym (c.in_ok-pr
 pub returns-then-branch-clause-rup : goal.returns-then-branch-clause-rup
 returns-then-branch-clause-rup c = (
   (λ yes. rup_found (present c.args.store.now) c.args.clause.now c.set_to_negations.new.self c.propagate.new.marks
-  (λ l. (c.in_ok-set_to_negations.ensures.set l).0) c.in_ok-propagate.ensures.extends
-  (subst (λ (b : Bool). IsPropagated (present c.args.store.now) c.propagate.new.marks.lits b) c.if-branch.true c.in_ok-propagate.ensures.conflict)),
+      (λ l. (c.in_ok-set_to_negations.ensures.set l).0) c.in_ok-propagate.ensures.extends
+      (subst (λ (b : Bool). IsPropagated (present c.args.store.now) c.propagate.new.marks.lits b) c.if-branch.true c.in_ok-propagate.ensures.conflict)),
   (λ rup. refl),
 )
 

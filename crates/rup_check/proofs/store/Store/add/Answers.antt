@@ -24,8 +24,8 @@ returns c =
     let len = c.len-id.ensures in (
       omega (arith, size, same, len, c.self.inside.table.ok.0),
       ap (λ (es : List (Option Ref)). entries c.put.new.self es) c.in_ok-push.ensures.items
-      ∙ entries-push c.put.new.self c.self.inside.table.items c.in_ok-r.r
-      ∙ ap (λ (o : Option (List Lit)). entries c.put.new.self c.self.inside.table.items ++ o ∷ []) c.in_ok-r.ensures.read
-      ∙ ap (λ (es : List (Option (List Lit))). es ++ Some c.args.clause.now ∷ [])
-      (entries-kept c.self.inside.pool c.put.new.self c.self.inside.table.items c.self.invariant c.put.ensures.kept ∙ c.self.view_is),
+          ∙ entries-push c.put.new.self c.self.inside.table.items c.in_ok-r.r
+          ∙ ap (λ (o : Option (List Lit)). entries c.put.new.self c.self.inside.table.items ++ o ∷ []) c.in_ok-r.ensures.read
+          ∙ ap (λ (es : List (Option (List Lit))). es ++ Some c.args.clause.now ∷ [])
+          (entries-kept c.self.inside.pool c.put.new.self c.self.inside.table.items c.self.invariant c.put.ensures.kept ∙ c.self.view_is),
     )
