@@ -1,14 +1,14 @@
 -- Which of several clauses with the same set of literals is taken out does not matter. Lists of clauses
 -- are alike where each set of literals is there equally often. Alike lists allow the same steps.
 
-use Rattle.std.proofs.Common.{◌≡◌, ℕ, zero, suc, ◌+◌, ◌<◌, ◌≤◌, ◌⊎◌, inl, inr, Bool, true, false, List, [], ◌∷◌, ◌++◌, map, length, take, slice_get, Option, None, Some, refl, sym, subst, ap, ◌∙◌, ⊎_elim, arith}
+use Rattle.std.proofs.Common.{◌≡◌, ℕ, zero, suc, ◌+◌, ◌≤◌, ◌⊎◌, inl, inr, false, List, [], ◌∷◌, ◌++◌, map, length, take, slice_get, None, Some, refl, sym, subst, ap, ◌∙◌, ⊎_elim, arith}
 use Rattle.std.specs.List.{Contains}
 use Rattle.std.proofs.lemmas.List.Elements.{Contains-append_right}
 use Rattle.sat_base.specs.declared.literal.Lit.{Lit}
 use Rattle.sat_base.specs.declared.certificate.Step.{Step}
 use Rattle.sat_base.specs.declared.certificate.Step.TheVariants.{Add, Drop}
 use Rattle.sat_base.specs.Logic.{negation}
-use Rattle.sat_base.specs.Certificates.{Forced, by_assumption, by_clause, Falsifies, IsRup, HasSameLits, TakesOut, IsStep, IsCertificate}
+use Rattle.sat_base.specs.Certificates.{Forced, by_assumption, by_clause, IsRup, HasSameLits, TakesOut, IsStep, IsCertificate}
 use Rattle.rup_check.specs.Checked.{Reaches, ends_empty, IsRefusal}
 use Rattle.rup_check.proofs.MarkingLemmas.{lit_cases}
 use Rattle.rup_check.proofs.StoredLemmas.{head_in, tail_in, cons_cases}

@@ -1,11 +1,11 @@
 -- Two clauses with the same set of literals, and what is found by them.
 
-use Rattle.std.proofs.Common.{◌≡◌, ℕ, Bool, true, false, List, slice_get, Option, Some, Result, Ok, Err, IfOk, OnOk, MatchOption, refl, sym, subst, ap, ◌∙◌}
+use Rattle.std.proofs.Common.{◌≡◌, ℕ, Bool, true, false, List, slice_get, Option, Some, Result, Ok, Err, IfOk, OnOk, sym, subst, ◌∙◌}
 use Rattle.std.specs.List.{Contains}
 use Rattle.std.proofs.lemmas.Bool.{false≢true}
 use Rattle.sat_base.specs.declared.literal.Lit.{Lit}
 use Rattle.sat_base.specs.Certificates.{HasSameLits}
-use Rattle.rup_check.specs.Stored.{IsFound, IsNowhere}
+use Rattle.rup_check.specs.Stored.{IsFound}
 
 -- the second clause has a literal that the first has not
 pub same_fails : (one other lits : List Lit) (b : Bool) → ((l : Lit) → (Contains lits l → Contains one l) × (Contains one l → Contains lits l))

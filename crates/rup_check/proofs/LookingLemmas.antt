@@ -1,6 +1,6 @@
 -- Open literals of a clause, and what they say of it.
 
-use Rattle.std.proofs.Common.{◌≡◌, ◌≢◌, ℕ, zero, suc, ◌+◌, ◌<◌, ◌≤◌, ◌⊎◌, List, [], ◌∷◌, ◌++◌, length, take, take_all, drop, get_or, refl, sym, subst, ap, ◌∙◌, ⊎_elim}
+use Rattle.std.proofs.Common.{◌≡◌, ◌≢◌, ℕ, zero, suc, ◌+◌, ◌<◌, ◌≤◌, List, [], ◌∷◌, ◌++◌, length, take, take_all, drop, get_or, refl, sym, subst, ap, ◌∙◌, ⊎_elim}
 use Rattle.std.specs.List.{Contains}
 use Rattle.std.proofs.lemmas.List.{take_more}
 use Rattle.std.proofs.lemmas.List.Elements.{Contains-push, Contains-append_left, Contains-push_cases}
@@ -8,7 +8,7 @@ use Rattle.sat_base.specs.declared.literal.Lit.{Lit}
 use Rattle.sat_base.specs.Logic.{negation}
 use Rattle.rup_check.specs.declared.look.OpenLits.{OpenLits}
 use Rattle.rup_check.specs.declared.look.OpenLits.TheVariants.{Nothing, One, Two}
-use Rattle.rup_check.specs.Looking.{AllFalse, OthersFalse, IsOpen, AreOpen, IsClosed}
+use Rattle.rup_check.specs.Looking.{IsOpen, AreOpen, IsClosed}
 use Rattle.rup_check.proofs.MarkingLemmas.{lit_cases, nothing_in}
 
 widen : (lits front : List Lit) (x l : Lit) → IsOpen lits front l → IsOpen lits (front ++ x ∷ []) l

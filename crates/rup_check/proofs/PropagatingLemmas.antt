@@ -1,6 +1,6 @@
 -- What propagation marks is forced, and where nothing is left to mark, all that is forced is marked.
 
-use Rattle.std.proofs.Common.{◌≡◌, ◌≢◌, ℕ, ◌+◌, ◌<◌, ◌≤◌, ◌⊎◌, Bool, true, false, List, [], ◌∷◌, ◌++◌, map, length, slice_get, Option, Some, Result, Ok, Err, IfOk, refl, sym, subst, ap, ◌∙◌, ⊎_elim, arith}
+use Rattle.std.proofs.Common.{◌≡◌, ℕ, ◌+◌, ◌<◌, ◌≤◌, Bool, true, false, List, map, length, slice_get, Option, Some, Result, Ok, Err, IfOk, refl, sym, subst, ◌∙◌, ⊎_elim, arith}
 use Rattle.std.specs.List.{Contains}
 use Rattle.std.proofs.lemmas.Bool.{cases_eq}
 use Rattle.std.proofs.lemmas.Option.{slice_get_within}
@@ -10,11 +10,10 @@ use Rattle.sat_base.specs.Certificates.{Forced, by_assumption, by_clause, Falsif
 use Rattle.rup_check.specs.declared.visit.Visited.{Visited}
 use Rattle.rup_check.specs.declared.closing.Pass.{Pass}
 use Rattle.rup_check.specs.Marking.{MarksState, IsMarked}
-use Rattle.rup_check.specs.declared.look.OpenLits.{OpenLits}
-use Rattle.rup_check.specs.declared.look.OpenLits.TheVariants.{Nothing, One, Two}
+use Rattle.rup_check.specs.declared.look.OpenLits.TheVariants.{One}
 use Rattle.rup_check.specs.Looking.{AllFalse, OthersFalse, AreOpen, IsClosed}
-use Rattle.rup_check.specs.Stored.{present, StoredBelow}
-use Rattle.rup_check.specs.Propagating.{IsSound, IsConflict, Extends, AllClosed, IsPass, IsStill, IsVisit, joined, IsClosing, IsPropagated}
+use Rattle.rup_check.specs.Stored.{present}
+use Rattle.rup_check.specs.Propagating.{IsConflict, Extends, AllClosed, IsPass, IsStill, IsVisit, joined, IsClosing}
 use Rattle.rup_check.proofs.StoredLemmas.{present_has, has_present}
 
 pub extends_refl : (clauses : List (List Lit)) (m : MarksState) → Extends clauses m m

@@ -1,12 +1,12 @@
 -- Steps one after the other, and the end.
 
-use Rattle.std.proofs.Common.{◌≡◌, ℕ, zero, suc, ◌+◌, ◌-◌, ◌<◌, ◌≤◌, Bool, true, false, List, [], ◌∷◌, ◌++◌, length, take, take_all, get_or, slice_get, if◌then◌else◌, ◌==◌, Option, None, Some, refl, sym, subst, ap, ◌∙◌, arith}
+use Rattle.std.proofs.Common.{◌≡◌, ℕ, zero, suc, ◌+◌, ◌-◌, ◌<◌, ◌≤◌, Bool, true, false, List, [], ◌∷◌, ◌++◌, length, take, take_all, get_or, slice_get, if◌then◌else◌, None, Some, refl, sym, subst, ap, ◌∙◌, arith}
 use Rattle.std.proofs.lemmas.List.{take_more}
-use Rattle.std.proofs.lemmas.Option.{slice_get_past, slice_get-get_or, slice_get_within}
+use Rattle.std.proofs.lemmas.Option.{slice_get-get_or, slice_get_within}
 use Rattle.sat_base.specs.declared.literal.Lit.{Lit}
 use Rattle.sat_base.specs.declared.certificate.Step.{Step}
 use Rattle.sat_base.specs.declared.certificate.Step.TheVariants.{Add, Drop}
-use Rattle.sat_base.specs.Certificates.{IsRup, TakesOut, IsStep, IsCertificate}
+use Rattle.sat_base.specs.Certificates.{IsStep, IsCertificate}
 use Rattle.rup_check.specs.declared.check.Checked.{Checked}
 use Rattle.rup_check.specs.declared.check.Checked.TheVariants.{Yes, No}
 use Rattle.rup_check.specs.Checked.{Reaches, adds_empty, ends_empty, IsRefusal, IsChecked}

@@ -1,6 +1,6 @@
 -- What a clause says under marked literals. A literal of it is open where its negation is not marked.
 
-use Rattle.std.specs.Prelude.{◌≡◌, ◌≢◌, List}
+use Rattle.std.specs.Prelude.{◌≢◌, List}
 use Rattle.std.specs.List.{Contains}
 use Rattle.sat_base.specs.declared.literal.Lit.{Lit}
 use Rattle.sat_base.specs.Logic.{negation}

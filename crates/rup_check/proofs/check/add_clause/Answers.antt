@@ -1,5 +1,5 @@
 -- A clause more.
-use Rattle.std.proofs.Common.{◌≡◌, List, Option, sym, subst, ap, ◌∙◌}
+use Rattle.std.proofs.Common.{List, Option, sym, subst, ap, ◌∙◌}
 use Rattle.sat_base.specs.declared.literal.Lit.{Lit}
 use Rattle.rup_check.specs.Stored.{present, StoredBelow}
 use Rattle.rup_check.proofs.StoredLemmas.{present-push, below_push}

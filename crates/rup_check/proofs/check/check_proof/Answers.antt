@@ -1,5 +1,5 @@
 -- One step after the other, and the end.
-use Rattle.std.proofs.Common.{◌≡◌, ◌+◌, ◌<◌, ◌≤◌, ℕ, Bool, length, sym, subst, ap, ◌∙◌, arith}
+use Rattle.std.proofs.Common.{◌<◌, ◌≤◌, ℕ, Bool, length, sym, subst, ap, ◌∙◌, arith}
 use Rattle.sat_base.specs.declared.certificate.Step.{Step}
 use Rattle.sat_base.specs.Certificates.{IsStep}
 use Rattle.rup_check.specs.Stored.{present, StoredBelow}

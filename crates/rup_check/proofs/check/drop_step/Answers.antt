@@ -1,5 +1,5 @@
 -- The clause that was found, or none.
-use Rattle.std.proofs.Common.{◌≡◌, List, Option, MatchOption, sym, subst, ap}
+use Rattle.std.proofs.Common.{List, Option, sym, subst}
 use Rattle.sat_base.specs.declared.literal.Lit.{Lit}
 use Rattle.sat_base.specs.Certificates.{TakesOut}
 use Rattle.rup_check.specs.Stored.{present, StoredBelow, IsFound, IsNowhere}

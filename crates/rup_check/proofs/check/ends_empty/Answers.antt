@@ -1,6 +1,6 @@
 -- The last step, or none.
-use Rattle.std.proofs.Common.{◌≡◌, sym, ◌∙◌}
-use Rattle.rup_check.proofs.SteppingLemmas.{ends_some, ends_none}
+use Rattle.std.proofs.Common.{sym, ◌∙◌}
+use Rattle.rup_check.proofs.SteppingLemmas.{ends_some}
 use Rattle.rup_check.proofs.check.ends_empty.Goals as goal
 
 pub returns-in-Some : goal.returns-in-Some

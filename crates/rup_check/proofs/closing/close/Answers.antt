@@ -1,5 +1,5 @@
 -- One pass after the other.
-use Rattle.std.proofs.Common.{◌≡◌, sym, subst}
+use Rattle.std.proofs.Common.{sym, subst}
 use Rattle.rup_check.specs.declared.closing.Pass.{Pass}
 use Rattle.rup_check.specs.Stored.{present, StoredBelow}
 use Rattle.rup_check.specs.Propagating.{IsPass}

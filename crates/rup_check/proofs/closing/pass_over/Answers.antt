@@ -1,8 +1,6 @@
 -- One clause after the other.
-use Rattle.std.proofs.Common.{◌≡◌, ◌+◌, length, sym, subst, ap, ◌∙◌, arith, rules}
-use Rattle.rup_check.specs.Marking.{MarksState}
+use Rattle.std.proofs.Common.{◌+◌, sym, subst, arith, rules}
 use Rattle.rup_check.specs.Stored.{StoredBelow}
-use Rattle.rup_check.specs.Propagating.{Extends}
 use Rattle.rup_check.proofs.PropagatingLemmas.{IsSoFar, extends_refl, extends_trans, so_far_none, so_far_more, so_far_all, so_far_conflict}
 use Rattle.rup_check.proofs.closing.pass_over.Goals as goal
 

@@ -1,5 +1,5 @@
 -- One number after the other.
-use Rattle.std.proofs.Common.{◌≡◌, length, sym, ◌∙◌, arith}
+use Rattle.std.proofs.Common.{sym, ◌∙◌, arith}
 use Rattle.std.proofs.lemmas.Bool.{false≢true}
 use Rattle.rup_check.proofs.StoredLemmas.{nowhere_more, nowhere_all}
 use Rattle.rup_check.proofs.find.find_among_all.Goals as goal

@@ -1,5 +1,4 @@
 -- Each is within the other.
-use Rattle.std.proofs.Common.{◌≡◌, false}
 use Rattle.std.proofs.lemmas.Bool.{false≢true}
 use Rattle.rup_check.proofs.FindingLemmas.{same_fails, same_holds}
 use Rattle.rup_check.proofs.find.has_same_lits.Goals as goal

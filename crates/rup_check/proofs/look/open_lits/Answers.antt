@@ -1,5 +1,5 @@
 -- One literal after the other.
-use Rattle.std.proofs.Common.{◌≡◌, ◌+◌, ◌<◌, false, true, take, sym, subst, ◌∙◌, arith}
+use Rattle.std.proofs.Common.{◌+◌, ◌<◌, false, take, sym, subst, ◌∙◌, arith}
 use Rattle.std.specs.List.{Contains}
 use Rattle.std.proofs.lemmas.Bool.{false≢true}
 use Rattle.sat_base.specs.declared.literal.Lit.{Lit}

@@ -1,6 +1,5 @@
 -- One open literal more.
-use Rattle.std.proofs.Common.{◌≡◌, sym, subst, rules}
-use Rattle.sat_base.specs.declared.literal.Lit.{Lit}
+use Rattle.std.proofs.Common.{◌≡◌, subst, rules}
 use Rattle.rup_check.specs.declared.look.OpenLits.{OpenLits}
 use Rattle.rup_check.specs.Looking.{AreOpen}
 use Rattle.rup_check.proofs.LookingLemmas.{open_first, open_again, open_second, open_still}

@@ -1,5 +1,5 @@
 -- One bit after the other.
-use Rattle.std.proofs.Common.{◌≡◌, ◌+◌, ℕ, false, List, set, get_or, sym, subst, arith}
+use Rattle.std.proofs.Common.{◌+◌, ℕ, false, set, get_or, sym, subst, arith}
 use Rattle.rup_check.proofs.MarkingLemmas.{IsClearing, low_at, place_below, clearing_none, clearing_more, clearing_all}
 use Rattle.rup_check.proofs.marks.clear_bits.Goals as goal
 

@@ -1,5 +1,5 @@
 -- Propagation with watches, and then the passes.
-use Rattle.std.proofs.Common.{◌≡◌, Bool, sym, subst, refl, ◌∙◌}
+use Rattle.std.proofs.Common.{Bool, sym, subst, refl, ◌∙◌}
 use Rattle.rup_check.specs.Stored.{present, StoredBelow}
 use Rattle.rup_check.specs.Propagating.{IsPropagated}
 use Rattle.rup_check.proofs.PropagatingLemmas.{extends_trans, rup_found, rup_by}

@@ -1,5 +1,5 @@
 -- One step after the other.
-use Rattle.std.proofs.Common.{◌≡◌, List, take, take_all, sym, subst, arith}
+use Rattle.std.proofs.Common.{List, take_all, subst, arith}
 use Rattle.std.proofs.lemmas.List.Elements.{All-more}
 use Rattle.sat_base.specs.declared.literal.Lit.{Lit}
 use Rattle.sat_base.specs.declared.certificate.Step.{Step}

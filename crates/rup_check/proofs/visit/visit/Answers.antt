@@ -1,14 +1,9 @@
 -- What the open literals of the clause say.
-use Rattle.std.proofs.Common.{◌≡◌, ◌<◌, List, sym, subst, ◌∙◌}
-use Rattle.std.proofs.lemmas.Bool.{false≢true}
-use Rattle.std.specs.List.{Contains}
+use Rattle.std.proofs.Common.{◌<◌}
 use Rattle.std.proofs.lemmas.List.Elements.{All-contains}
 use Rattle.sat_base.specs.declared.literal.Lit.{Lit}
-use Rattle.rup_check.specs.Marking.{MarksState}
-use Rattle.rup_check.specs.Stored.{present}
-use Rattle.rup_check.specs.Propagating.{Extends}
 use Rattle.rup_check.proofs.LookingLemmas.{closed_one, closed_two}
-use Rattle.rup_check.proofs.PropagatingLemmas.{extends_refl, extends_same, still_gone, still_closed, visit_forced, visit_falsified}
+use Rattle.rup_check.proofs.PropagatingLemmas.{extends_refl, still_gone, still_closed, visit_forced, visit_falsified}
 use Rattle.rup_check.proofs.visit.visit.Goals as goal
 
 pub has-requires : goal.has-requires

@@ -1,8 +1,6 @@
 -- One literal after the other.
-use Rattle.std.proofs.Common.{◌≡◌, false, true, refl, sym, ◌∙◌, arith}
+use Rattle.std.proofs.Common.{false, refl, arith}
 use Rattle.std.specs.List.{Contains}
-use Rattle.std.proofs.lemmas.Bool.{false≢true}
-use Rattle.std.proofs.lemmas.List.Elements.{Contains-get_or}
 use Rattle.sat_base.specs.declared.literal.Lit.{Lit}
 use Rattle.rup_check.proofs.MarkingLemmas.{none_before, all_more, all_before}
 use Rattle.rup_check.proofs.marks.Marks.has_all.Goals as goal

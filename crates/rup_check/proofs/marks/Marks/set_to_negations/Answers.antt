@@ -1,10 +1,9 @@
 -- One literal after the other.
-use Rattle.std.proofs.Common.{◌≡◌, ◌+◌, ◌<◌, false, List, take, map, sym, subst, ap, ◌∙◌, arith}
-use Rattle.std.specs.List.{Contains}
+use Rattle.std.proofs.Common.{false, subst, ap, ◌∙◌, arith}
 use Rattle.sat_base.specs.declared.literal.Lit.{Lit}
 use Rattle.sat_base.specs.Logic.{negation}
 use Rattle.rup_check.specs.Marking.{MarksState, IsMarked}
-use Rattle.rup_check.proofs.MarkingLemmas.{setting_none, setting_more, setting_all, map-same}
+use Rattle.rup_check.proofs.MarkingLemmas.{setting_none, setting_more, setting_all}
 use Rattle.rup_check.proofs.marks.Marks.set_to_negations.Goals as goal
 
 pub mark-requires : goal.mark-requires

@@ -1,5 +1,5 @@
 -- A reference more, or one that is not noted.
-use Rattle.std.proofs.Common.{◌≡◌, ◌++◌, ◌∷◌, [], List, Option, Some, length, sym, subst, ap, ◌∙◌, arith}
+use Rattle.std.proofs.Common.{◌++◌, ◌∷◌, [], List, Option, Some, length, sym, subst, ap, ◌∙◌, arith}
 use Rattle.sat_base.specs.declared.literal.Lit.{Lit}
 use Rattle.sat_pool.specs.declared.pool.Ref.{Ref}
 use Rattle.rup_check.specs.Stored.{entries, AllLive}

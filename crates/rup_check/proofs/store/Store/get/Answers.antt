@@ -1,5 +1,5 @@
 -- The clause that the reference reads.
-use Rattle.std.proofs.Common.{◌≡◌, List, Option, Some, slice_get, ap, sym, subst, ◌∙◌}
+use Rattle.std.proofs.Common.{List, Option, slice_get, ap, sym, ◌∙◌}
 use Rattle.sat_base.specs.declared.literal.Lit.{Lit}
 use Rattle.sat_pool.specs.declared.pool.Ref.{Ref}
 use Rattle.rup_check.proofs.StoredLemmas.{entries-some, entries-none}

@@ -1,5 +1,5 @@
 -- The reference is gone.
-use Rattle.std.proofs.Common.{◌≡◌, List, Option, None, set, length, sym, ap, ◌∙◌, arith}
+use Rattle.std.proofs.Common.{List, Option, None, set, length, ap, ◌∙◌, arith}
 use Rattle.sat_base.specs.declared.literal.Lit.{Lit}
 use Rattle.rup_check.proofs.StoredLemmas.{length-entries, live-set, entries-set}
 use Rattle.rup_check.proofs.store.Store.take_out.Goals as goal
