@@ -1,5 +1,5 @@
 -- Arguments agree with no list of parameters of another length.
-use Rattle.std.proofs.Common.{◌≡◌, Bool, true, false, suc, ◌&&◌, List, [], ◌∷◌, map, length, refl, ap}
+use Rattle.std.proofs.Common.{◌≡◌, Bool, true, false, suc, ◌&&◌, List, [], ◌∷◌, length, refl, ap}
 use Rattle.sc_typed.specs.declared.expr.TExpr.{TExpr}
 use Rattle.sc_typed.specs.declared.program.Param.{Param}
 use Rattle.sc_world.specs.Tree.{type_of}

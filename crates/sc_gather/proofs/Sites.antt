@@ -1,5 +1,5 @@
 -- A call goes among calls that stand in order at the place that its definition says.
-use Rattle.std.proofs.Common.{◌≡◌, ℕ, zero, suc, Bool, true, false, List, [], ◌∷◌, ◌++◌, map, take, drop, refl, ap}
+use Rattle.std.proofs.Common.{◌≡◌, zero, suc, Bool, true, false, List, [], ◌∷◌, map, refl, ap}
 use Rattle.std.specs.Prelude.{if◌then◌else◌, insert}
 use Rattle.sc_gather.specs.declared.found.Site.{Site}
 use Rattle.sc_gather.specs.Seen.{call, calls_before}

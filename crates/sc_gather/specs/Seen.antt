@@ -13,7 +13,7 @@ use Rattle.sc_gather.specs.declared.found.Stands.{Stands}
 use Rattle.sc_gather.specs.declared.found.Stands.TheVariants as stands
 use Rattle.sc_gather.specs.declared.found.Round.{Round}
 use Rattle.sum_rows.specs.declared.row.Summary.{Summary}
-use Rattle.sc_world.specs.Tree.{Ty, Stm, Stms, Exp, Exps}
+use Rattle.sc_world.specs.Tree.{Ty, Stm, Stms, Exps}
 use Rattle.sc_world.specs.Source.{Source, Struct, Effect as Meaning, Operation, Try, Allocate, Release, Ends, Expect, Known, Unknown}
 use Rattle.sc_world.specs.View.{type, exp, exps, stm, stms}
 use Rattle.sc_world.specs.Programs.{source_by, no_body}

@@ -1,7 +1,7 @@
 -- A lock that is taken twice where the first parameter holds.
 --     typedef struct{int v;}spinlock_t;
 --     void f(_Bool c,spinlock_t*l){spin_lock(l);if(c)spin_lock(l);}
-use Rattle.std.specs.Prelude.{ℕ, Bool, true, false, Some, None, List, [], ◌∷◌, Result, Ok, Err, codes, pos}
+use Rattle.std.specs.Prelude.{ℕ, Bool, true, false, Some, None, List, [], ◌∷◌, Result, Ok, Err, codes}
 use Rattle.run_store.specs.Concrete.{Cell, Nothing}
 use Rattle.sc_tree.specs.declared.ctype.IntKind.TheVariants as kind
 use Rattle.sc_tree.specs.declared.ctype.Widths.TheVariants as widths

@@ -1,6 +1,6 @@
 -- A goto that leaves an object behind.
 --     void f(int n){char*p=kmalloc(8,0);if(n)goto out;kfree(p);out:;}
-use Rattle.std.specs.Prelude.{ℕ, Bool, true, false, Some, None, List, [], ◌∷◌, Result, Ok, codes, pos}
+use Rattle.std.specs.Prelude.{ℕ, Bool, true, false, Some, None, List, [], ◌∷◌, Result, Ok, codes}
 use Rattle.run_store.specs.Concrete.{Cell, Nothing}
 use Rattle.sc_tree.specs.declared.ctype.IntKind.TheVariants as kind
 use Rattle.sc_tree.specs.declared.ctype.Widths.TheVariants as widths

@@ -1,7 +1,7 @@
 -- A lock of a local that is taken twice.
 --     typedef struct{int v;}spinlock_t;
 --     void f(void){spinlock_t s;spin_lock(&s);spin_lock(&s);}
-use Rattle.std.specs.Prelude.{ℕ, true, false, Some, None, List, [], ◌∷◌, codes, pos}
+use Rattle.std.specs.Prelude.{ℕ, true, false, Some, None, List, [], ◌∷◌, codes}
 use Rattle.sc_tree.specs.declared.op.UnaryOp.TheVariants as unary
 use Rattle.sc_tree.specs.declared.ctype.IntKind.TheVariants as kind
 use Rattle.sc_tree.specs.declared.ctype.Widths.TheVariants as widths

@@ -1,7 +1,7 @@
 -- A signed long against an unsigned int, where long has 64 bits.
 --     typedef struct{int v;}spinlock_t;
 --     void f(spinlock_t*l){spin_lock(l);if((long)-1<1u)spin_lock(l);}
-use Rattle.std.specs.Prelude.{ℕ, Bool, true, false, Some, None, List, [], ◌∷◌, Result, Err, codes, pos}
+use Rattle.std.specs.Prelude.{ℕ, Bool, true, false, Some, None, List, [], ◌∷◌, Result, Err, codes}
 use Rattle.run_store.specs.Concrete.{Cell}
 use Rattle.sc_tree.specs.declared.op.BinaryOp.TheVariants as binary
 use Rattle.sc_tree.specs.declared.op.UnaryOp.TheVariants as unary

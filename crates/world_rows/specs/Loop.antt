@@ -1,7 +1,7 @@
 -- A loop of two turns.
 --     typedef struct{int v;}spinlock_t;
 --     void f(spinlock_t*l,int n){int i;spin_lock(l);for(i=0;i<n;i++)if(i==2)spin_lock(l);}
-use Rattle.std.specs.Prelude.{ℕ, Bool, true, false, Some, None, List, [], ◌∷◌, Result, Err, codes, pos}
+use Rattle.std.specs.Prelude.{ℕ, Bool, true, false, Some, None, List, [], ◌∷◌, Result, Err, codes}
 use Rattle.run_store.specs.Concrete.{Cell}
 use Rattle.sc_tree.specs.declared.op.BinaryOp.TheVariants as binary
 use Rattle.sc_tree.specs.declared.op.Step.TheVariants as steps

@@ -1,7 +1,7 @@
 -- An object that a callee gives through a parameter, and that is lost.
 --     void mk(_Bool**o){*o=kmalloc(1,0);}
 --     void use(_Bool c){_Bool*p;mk(&p);if(c)kfree(p);}
-use Rattle.std.specs.Prelude.{ℕ, Bool, true, false, Some, None, List, [], ◌∷◌, Result, Ok, Err, codes, pos}
+use Rattle.std.specs.Prelude.{ℕ, Bool, true, false, Some, None, List, [], ◌∷◌, Result, Ok, Err, codes}
 use Rattle.run_store.specs.Concrete.{Cell, Nothing}
 use Rattle.sc_tree.specs.declared.op.UnaryOp.TheVariants as unary
 use Rattle.sc_tree.specs.declared.ctype.Widths.TheVariants as widths

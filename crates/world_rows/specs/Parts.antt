@@ -2,7 +2,7 @@
 --     struct e{int a;char b[3];int c;};struct e g;int k(int);
 --     int*q(char*);
 --     int f(struct e*p,int n){int i;char*s="x";int(*h)(int)=k;for(i=0;i<n;i++)if(p->b[i]==g.c)return h(k(i));return*q(s)+p->a;}
-use Rattle.std.specs.Prelude.{ℕ, Bool, true, false, Some, None, List, [], ◌∷◌, Result, Ok, Err, codes, pos}
+use Rattle.std.specs.Prelude.{ℕ, Bool, true, false, Some, None, List, [], ◌∷◌, Result, Ok, Err, codes}
 use Rattle.run_store.specs.Concrete.{Cell, Number}
 use Rattle.sc_tree.specs.declared.op.BinaryOp.TheVariants as binary
 use Rattle.sc_tree.specs.declared.op.UnaryOp.TheVariants as unary

@@ -1,7 +1,7 @@
 -- A machine of three states.
 --     struct h{int x;};
 --     void f(struct h*p){irq_on(p);irq_on(p);}
-use Rattle.std.specs.Prelude.{ℕ, Bool, true, false, Some, None, List, [], ◌∷◌, Result, Err, codes, pos}
+use Rattle.std.specs.Prelude.{ℕ, Bool, true, false, Some, None, List, [], ◌∷◌, Result, Err, codes}
 use Rattle.run_store.specs.Concrete.{Cell}
 use Rattle.sc_tree.specs.declared.ctype.IntKind.TheVariants as kind
 use Rattle.sc_tree.specs.declared.ctype.Widths.TheVariants as widths

@@ -1,7 +1,7 @@
 -- A lock that is tried, and a result that does not tell it.
 --     typedef struct{int v;}spinlock_t;
 --     int f(spinlock_t*l){if(spin_trylock(l))return 0;return 0;}
-use Rattle.std.specs.Prelude.{ℕ, true, false, Some, None, List, [], ◌∷◌, codes, pos}
+use Rattle.std.specs.Prelude.{ℕ, true, false, Some, None, List, [], ◌∷◌, codes}
 use Rattle.sc_tree.specs.declared.ctype.IntKind.TheVariants as kind
 use Rattle.sc_tree.specs.declared.ctype.Widths.TheVariants as widths
 use Rattle.sum_rows.specs.declared.path.Root.TheVariants as root

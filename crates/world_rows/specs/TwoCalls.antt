@@ -2,7 +2,7 @@
 --     typedef struct{int v;}spinlock_t;
 --     void g(spinlock_t*l){spin_lock(l);}
 --     void h(spinlock_t*l){g(l);g(l);}
-use Rattle.std.specs.Prelude.{ℕ, true, false, Some, None, List, [], ◌∷◌, codes, pos}
+use Rattle.std.specs.Prelude.{ℕ, true, false, Some, None, List, [], ◌∷◌, codes}
 use Rattle.sc_tree.specs.declared.ctype.IntKind.TheVariants as kind
 use Rattle.sc_tree.specs.declared.ctype.Widths.TheVariants as widths
 use Rattle.sum_rows.specs.declared.path.Root.TheVariants as root

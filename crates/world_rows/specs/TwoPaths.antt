@@ -2,7 +2,7 @@
 --     typedef struct{int v;}spinlock_t;
 --     void g(spinlock_t*a,spinlock_t*b){spin_lock(a);spin_lock(b);}
 --     void h(spinlock_t*p){g(p,p);}
-use Rattle.std.specs.Prelude.{ℕ, Bool, true, false, Some, None, List, [], ◌∷◌, Result, Err, codes, pos}
+use Rattle.std.specs.Prelude.{ℕ, Bool, true, false, Some, None, List, [], ◌∷◌, Result, Err, codes}
 use Rattle.run_store.specs.Concrete.{Cell}
 use Rattle.sc_tree.specs.declared.ctype.IntKind.TheVariants as kind
 use Rattle.sc_tree.specs.declared.ctype.Widths.TheVariants as widths
