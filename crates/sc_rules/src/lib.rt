@@ -1,8 +1,7 @@
 //! The rules of typing (C11 6.5, 6.7, 6.8): what stays the same over a file, what changes on the way through
 //! it, and what each rule makes of operands that have their types.
 //!
-//! `specs/Typed.antt` defines which program the trees of all files are; the files below it have one subject
-//! each.
+//! `specs/` has the rules, one subject a file. Which program the trees of all files are is defined in `sc_check`.
 #![tactic(auto)]
 
 mod conversions;

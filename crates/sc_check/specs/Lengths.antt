@@ -28,9 +28,9 @@ use Rattle.sc_typed.specs.Constants.{constant}
 use Rattle.sc_rules.specs.declared.walk.Walk.{Walk}
 use Rattle.sc_rules.specs.Walks.{Check, ◌>>=◌, done, given}
 use Rattle.sc_rules.specs.Members.{Body, body_of, is_called, is_there}
-use Rattle.sc_rules.specs.Here.{Here}
-use Rattle.sc_rules.specs.Typing.{typing, valued, in_range, bytes_of}
-use Rattle.sc_rules.specs.Initialisers.{is_char_array, members_given, is_char_kind, char_layer}
+use Rattle.sc_check.specs.Here.{Here}
+use Rattle.sc_check.specs.Typing.{typing, valued, in_range, bytes_of}
+use Rattle.sc_check.specs.Initialisers.{is_char_array, members_given, is_char_kind, char_layer}
 
 -- A way to a part of an object: at each level the number of the part, the outermost first.
 abbrev pub Way : Type 0

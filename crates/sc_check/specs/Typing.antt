@@ -31,8 +31,7 @@ use Rattle.sc_typed.specs.declared.expr.What.TheVariants as what
 use Rattle.sc_typed.specs.declared.program.FieldDef.{FieldDef}
 use Rattle.sc_typed.specs.declared.program.StructDef.{StructDef}
 use Rattle.sc_typed.specs.declared.program.Global.{Global}
-use Rattle.sc_typed.specs.Types.{is_integer, is_aggregate, is_function, is_array, is_void}
-use Rattle.sc_typed.specs.Extents.{size, struct_extent, struct_at, no_struct}
+use Rattle.sc_typed.specs.Types.{is_integer, is_aggregate, is_function, is_array}
 use Rattle.sc_typed.specs.Arith.{converted as number_converted}
 use Rattle.sc_typed.specs.Constants.{constant, constant_bits}
 use Rattle.sc_rules.specs.declared.walk.Walk.{Walk}
@@ -42,14 +41,18 @@ use Rattle.sc_rules.specs.declared.walk.Tag.{Tag}
 use Rattle.sc_rules.specs.declared.walk.TagKind.{TagKind}
 use Rattle.sc_rules.specs.declared.walk.TagKind.TheVariants as tag
 use Rattle.sc_rules.specs.declared.walk.Builtin.{Builtin}
-use Rattle.sc_rules.specs.Walks.{Check, ◌>>=◌, done, given, both, unsupported, ill_typed, holds_or, name_means, name_here, declare, tag_means, tag_here, declare_tag, Scope, no_scope, open_scope, close_scope}
+use Rattle.sc_rules.specs.Walks.{Check, ◌>>=◌, done, given, both, unsupported, ill_typed, holds_or, name_means, declare, Scope, no_scope, open_scope, close_scope}
 use Rattle.sc_rules.specs.Faults.{ill_typed_at}
 use Rattle.sc_rules.specs.Conversions.{node, type_of, place_of, value, decayed, decayed_type}
 use Rattle.sc_rules.specs.Operators.{int, made, int_constant, binary, unary, pre_increment, post_increment, assignment, conditional, comma, cast, size_of_expression, size_of_type, index}
-use Rattle.sc_rules.specs.Here.{Here}
+use Rattle.sc_names.specs.Names.{new_here, declare_if}
+use Rattle.sc_names.specs.Structs.{complete_if, size_now, object_at}
+use Rattle.sc_names.specs.Tags.{tag_of, begin_body}
+use Rattle.sc_declare.specs.declared.functions.Parameter.{Parameter}
+use Rattle.sc_check.specs.Here.{Here}
 use Rattle.sc_rules.specs.Members.{field, is_called, is_there}
 use Rattle.sc_rules.specs.Calls.{unknown_function, callee, call, builtin_call}
-use Rattle.sc_rules.specs.Shapes.{Typing, Parameter, Own, Shape, Declaring, Heading, Naming, Adding, AddingOne, Counting}
+use Rattle.sc_check.specs.Shapes.{Typing, Own, Shape, Declaring, Heading, Naming, Adding, AddingOne, Counting}
 
 -- the value of an expression
 abbrev pub valued : Typing → Check (Option TExpr)
@@ -69,117 +72,6 @@ string ss p =
     if is_wide ss
     then unsupported u.Odd p.token
     else made (what.Str (bytes_of ss)) (ty.Array (ty.Int kind.Char) (Some (bytes_of ss + 1))) p
-
--- Structs (C11 6.7.2.1). A struct is met where its tag is new or where it has none. It is complete behind its
--- body, if nothing in the body is refused.
-
-abbrev pub put_at : List StructDef → ℕ → StructDef → List StructDef
-put_at structs n s = if nat_lt n (length structs) then slice_set structs n s else structs ++ s ∷ []
-
-abbrev pub new_struct : (union : Bool) → Check ℕ
-new_struct union w =
-    (w.met, record w { structs = put_at w.structs w.met (record no_struct { union = union }); met = w.met + 1 })
-
-abbrev pub complete : Widths → ℕ → List FieldDef → Check (Unit {0})
-complete ws n fields w = (
-  tt,
-  record w {
-    structs = slice_set w.structs n (record {
-      union = (struct_at w.structs n).union;
-      fields = Some fields;
-      extent = struct_extent ws w.structs (struct_at w.structs n).union fields;
-    });
-    completed = w.completed ++ n ∷ [];
-  },
-)
-
-abbrev pub complete_if : Widths → ℕ → Option (List FieldDef) → Check (Unit {0})
-complete_if ws n None = done tt
-complete_if ws n (Some fields) = complete ws n fields
-
--- the size of a type now
-abbrev pub size_now : Widths → CType → Check (Option ℕ)
-size_now ws t w = (size ws w.structs t, w)
-
--- an object needs a type that has a size and is no function and not `void` (C11 6.7, 7)
-abbrev pub is_object : CType → Option ℕ → Bool
-is_object t n = is_there n && not (is_void t || is_function t)
-
-abbrev pub object_at : Widths → Pos → CType → Check Bool
-object_at ws at t = do
-  n ← size_now ws t
-  holds_or (is_object t n) (ill_typed_at i.Incomplete at)
-
--- Tags (C11 6.7.2.3). A specifier with a body, and one alone before `;`, speaks of the innermost scope, any other
--- one of all scopes. A tag of another kind further out is hidden.
-
-abbrev pub same_tag : TagKind → TagKind → Bool
-same_tag tag.Struct tag.Struct = true
-same_tag tag.Union tag.Union = true
-same_tag tag.Enum tag.Enum = true
-same_tag _ _ = false
-
--- whether a specifier clashes with what its tag means in the innermost scope: another kind, or a second body
-abbrev pub clashes : TagKind → (body : Bool) → Option Tag → Bool
-clashes k body None = false
-clashes k body (Some t) = not (same_tag k t.kind) || (body && t.done)
-
-abbrev pub of_kind : TagKind → Option Tag → Option Tag
-of_kind k None = None
-of_kind k (Some t) = if same_tag k t.kind then Some t else None
-
-abbrev pub new_tag : TagKind → (make : Check ℕ) → Check Tag
-new_tag k make = do
-  n ← make
-  done (record { kind = k; number = n; done = false })
-
-abbrev pub declared_tag : NameId → TagKind → (make : Check ℕ) → Check Tag
-declared_tag name k make = do
-  t ← new_tag k make
-  _ ← declare_tag name t
-  done t
-
-abbrev pub found_tag : NameId → TagKind → (make : Check ℕ) → Option Tag → Check Tag
-found_tag name k make None = declared_tag name k make
-found_tag name k make (Some t) = done t
-
--- what the tag means to a specifier that does not clash
-abbrev pub tag_for : NameId → TagKind → (inner : Bool) → (make : Check ℕ) → Check Tag
-tag_for name k true make = tag_here name >>= λ t. found_tag name k make (of_kind k t)
-tag_for name k false make = tag_means name >>= λ t. found_tag name k make (of_kind k t)
-
-abbrev pub tag_unless : Bool → Pos → NameId → TagKind → (inner : Bool) → (make : Check ℕ) → Check Tag
-tag_unless true at name k inner make = do
-  _ ← holds_or false (ill_typed_at i.Again at)
-  new_tag k make
-tag_unless false at name k inner make = tag_for name k inner make
-
--- the tag of a specifier; one without a tag is a type by itself
-abbrev pub tag_of : Pos → Option NameId → TagKind → (body alone : Bool) → (make : Check ℕ) → Check Tag
-tag_of at None k body alone make = new_tag k make
-tag_of at (Some name) k body alone make = do
-  h ← tag_here name
-  tag_unless (clashes k body h) at name k (body || alone) make
-
--- a tag whose body begins
-abbrev pub begun : Tag → Tag
-begun t = record t { done = true }
-
-abbrev pub begin_body : Option NameId → Tag → Check (Unit {0})
-begin_body None t = done tt
-begin_body (Some name) t = declare_tag name (begun t)
-
--- Names and what they are declared as.
-
--- the fault `again` where a name stands in the innermost scope already
-abbrev pub new_here : NameId → Pos → Check Bool
-new_here name at = do
-  e ← name_here name
-  holds_or (not (is_there e)) (ill_typed_at i.Again at)
-
-abbrev pub declare_if : Bool → NameId → Entity → Check (Unit {0})
-declare_if true name e = declare name e
-declare_if false name e = done tt
 
 abbrev pub global_at : List Global → ℕ → CType → CType
 global_at gs n t = (slice_index_or gs n (record { name = record { at = 0 }; ctype = t; file = None })).ctype
@@ -484,7 +376,7 @@ module _ (here : Here) where
 
   abbrev pub aggregate_step : Aggregate-F Naming Declaring Typing Naming Naming Counting Heading Adding AddingOne Naming → Naming
   aggregate_step a alone = do
-    t ← tag_of a.pos a.tag (aggregate_kind a.union) (is_there a.body) alone (new_struct a.union)
+    t ← tag_of a.pos a.tag (aggregate_kind a.union) (is_there a.body) alone
     _ ← body_of a.tag t a.body
     done (Some (aggregate_type a.union t.number))
 
@@ -524,7 +416,7 @@ module _ (here : Here) where
 
   abbrev pub enum_step : EnumSpec-F Naming Declaring Typing Naming Naming Counting Heading Adding AddingOne Naming → Naming
   enum_step e alone = do
-    t ← tag_of e.pos e.tag tag.Enum (is_there e.body) alone (done 0)
+    t ← tag_of e.pos e.tag tag.Enum (is_there e.body) alone
     _ ← enumeration_of e.tag t e.body
     done (Some int)
 

@@ -23,9 +23,9 @@ use Rattle.sc_typed.specs.Constants.{constant_bits}
 use Rattle.sc_rules.specs.Faults.{ill_typed_at}
 use Rattle.sc_rules.specs.Walks.{Check, ◌>>=◌, done, given, both, ill_typed, holds_or, scoped}
 use Rattle.sc_rules.specs.Conversions.{type_of, promote, converted}
-use Rattle.sc_rules.specs.Here.{Here}
-use Rattle.sc_rules.specs.Typing.{typing, valued}
-use Rattle.sc_rules.specs.Declarations.{declaration}
+use Rattle.sc_check.specs.Here.{Here}
+use Rattle.sc_check.specs.Typing.{typing, valued}
+use Rattle.sc_check.specs.Declarations.{declaration}
 
 -- What stands round a statement.
 pub record Inside : Type 0 where

@@ -1,7 +1,6 @@
 -- One file (C11 6.9): its declarations and functions in their order. A declaration that is refused leaves a note
 -- and nothing else; a function that is refused keeps its name, and what its head declares.
 use Rattle.std.specs.Prelude.{ℕ, ◌+◌, nat_lt, Bool, true, false, not, ◌&&◌, ◌||◌, Option, Some, None, List, [], ◌∷◌, ◌++◌, take, length, slice_set, if◌then◌else◌}
-use Rattle.std.specs.List.{list_any}
 use Rattle.sc_base.specs.declared.pos.Pos.{Pos}
 use Rattle.sc_base.specs.declared.pos.NameId.{NameId}
 use Rattle.sc_base.specs.declared.skip.Skip.{Skip}
@@ -34,13 +33,16 @@ use Rattle.sc_rules.specs.declared.walk.Walk.{Walk}
 use Rattle.sc_rules.specs.declared.walk.Fault.{Fault}
 use Rattle.sc_rules.specs.Faults.{unsupported_at, with_fault}
 use Rattle.sc_rules.specs.Walks.{Check, ◌>>=◌, done, fault, holds_or, open_scope, close_scope}
-use Rattle.sc_rules.specs.Calls.{called_signature, result_of}
-use Rattle.sc_rules.specs.Here.{Here}
-use Rattle.sc_rules.specs.Shapes.{Parameter, Own, Shape, Heading}
-use Rattle.sc_rules.specs.Typing.{heading}
-use Rattle.sc_rules.specs.Declarations.{makes_local, signature_of, declare_function, local_function, name_of, declaration, signature_if}
-use Rattle.sc_rules.specs.Bodies.{Inside, stating}
-use Rattle.sc_rules.specs.Jumps.{jumps, jumps_of}
+use Rattle.sc_rules.specs.Calls.{result_of}
+use Rattle.sc_declare.specs.declared.functions.Parameter.{Parameter}
+use Rattle.sc_declare.specs.Storage.{has_local}
+use Rattle.sc_declare.specs.Functions.{signature_if, signature_at, declare_function_if, local_function}
+use Rattle.sc_check.specs.Here.{Here}
+use Rattle.sc_check.specs.Shapes.{Own, Shape, Heading}
+use Rattle.sc_check.specs.Typing.{heading}
+use Rattle.sc_check.specs.Declarations.{name_of, declaration}
+use Rattle.sc_check.specs.Bodies.{Inside, stating}
+use Rattle.sc_check.specs.Jumps.{jumps, jumps_of}
 
 -- Functions.
 
@@ -111,8 +113,8 @@ module _ (here : Here) where
 
   abbrev pub function_shaped : NameId → Pos → Bool → Option CType → Own → Body → Check Function
   function_shaped name at is_local t own b = do
-    _ ← signature_of at t (Some own)
-    _ ← declare_function name at t own.brackets
+    _ ← signature_at at t (Some own.params)
+    _ ← declare_function_if name at t own.brackets
     _ ← local_function here.file name is_local
     _ ← holds_or (not own.variadic) (unsupported_at u.Variadic at)
     _ ← few_params at (length own.params)
@@ -128,7 +130,7 @@ module _ (here : Here) where
 
   abbrev pub function : Head → Body → Check Function
   function h b =
-      function_named (heading here h) (list_any makes_local (out-Specs (out-Head h).specs).storage) b (name_of (heading here h).name)
+      function_named (heading here h) (has_local (out-Specs (out-Head h).specs).storage) b (name_of (heading here h).name)
 
 -- Declarations at file scope.
 

@@ -26,10 +26,10 @@ use Rattle.sc_rules.specs.Walks.{Check, ◌>>=◌, done}
 use Rattle.fsm_spec.specs.declared.table.MachineSpec.{MachineSpec}
 use Rattle.sc_rules.specs.Builtins.{builtin_in, lock_rows, other_rows, operation_row}
 use Rattle.sc_rules.specs.Members.{is_there}
-use Rattle.sc_rules.specs.Here.{Here}
-use Rattle.sc_rules.specs.Typing.{heading}
-use Rattle.sc_rules.specs.Declarations.{name_of}
-use Rattle.sc_rules.specs.Files.{Made, file_in}
+use Rattle.sc_check.specs.Here.{Here}
+use Rattle.sc_check.specs.Typing.{heading}
+use Rattle.sc_check.specs.Declarations.{name_of}
+use Rattle.sc_check.specs.Files.{Made, file_in}
 
 -- What is given: the texts of the names, the names of the files, and their trees.
 pub record Sources : Type 0 where

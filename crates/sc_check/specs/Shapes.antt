@@ -7,17 +7,12 @@ use Rattle.sc_tree.specs.declared.expr.Place.{Place}
 use Rattle.sc_typed.specs.declared.expr.TExpr.{TExpr}
 use Rattle.sc_typed.specs.declared.program.FieldDef.{FieldDef}
 use Rattle.sc_rules.specs.Walks.{Check, Scope}
+use Rattle.sc_declare.specs.declared.functions.Parameter.{Parameter}
 
 -- an expression: the name that it is with its place, where it is a bare one, and the step
 pub record Typing : Type 0 where
   pub name : Option (NameId × Place)
   pub run : Check (Option TExpr)
-
--- a parameter: its name, where faults in it stand, and its type as a parameter has it
-pub record Parameter : Type 0 where
-  pub name : Option NameId
-  pub pos : Pos
-  pub ctype : Option CType
 
 -- the parameters of the function that a declarator declares: those that stand directly round its name
 pub record Own : Type 0 where

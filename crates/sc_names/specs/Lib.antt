@@ -1,0 +1,4 @@
+pub mod Notes
+pub mod Names
+pub mod Structs
+pub mod Tags
