@@ -24,6 +24,3 @@ mod words;
 
 pub use answer::LexAnswer;
 pub use lex::tokens;
-
-#[cfg(test)]
-mod tests;

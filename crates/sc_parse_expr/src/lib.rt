@@ -29,6 +29,3 @@ pub use found::{Declared, Found, Operand, Phrase, Wanted};
 pub use grammar::node;
 pub use parse::{read_declarator, read_expr, read_specs};
 pub use span::{Parsed, expr};
-
-#[cfg(test)]
-mod tests;

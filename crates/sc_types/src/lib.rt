@@ -29,6 +29,3 @@ pub use types::{
     has_sign, is_aggregate, is_array, is_bool, is_function, is_integer, is_pointer, is_scalar,
     is_void, is_void_pointer, promoted_kind, target, value_bits,
 };
-
-#[cfg(test)]
-mod tests;

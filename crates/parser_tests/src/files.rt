@@ -64,7 +64,7 @@ const FUNCTION: Shape = Shape::Function;
 const NOTHING: Shape = Shape::NoSegment(1, 1);
 
 #[test]
-fn declarations(rt: HostRuntime) -> Result<(), Fail> {
+fn a_declaration_has_a_type(rt: HostRuntime) -> Result<(), Fail> {
     let alloc = rt.alloc();
     for (text, want) in [
         ("", [].as_slice()),
@@ -86,7 +86,7 @@ fn declarations(rt: HostRuntime) -> Result<(), Fail> {
 }
 
 #[test]
-fn initialisers_and_bodies_of_types(rt: HostRuntime) -> Result<(), Fail> {
+fn initialisers_and_bodies_of_types_are_read(rt: HostRuntime) -> Result<(), Fail> {
     let alloc = rt.alloc();
     for (text, want) in [
         ("int a[2]={1,2,};", [DECL].as_slice()),
@@ -118,7 +118,7 @@ fn initialisers_and_bodies_of_types(rt: HostRuntime) -> Result<(), Fail> {
 }
 
 #[test]
-fn typedef_names(rt: HostRuntime) -> Result<(), Fail> {
+fn a_typedef_name_is_a_type_behind_its_declarator(rt: HostRuntime) -> Result<(), Fail> {
     let alloc = rt.alloc();
     for (text, want) in [
         ("typedef void V;int f(V);", [DECL, DECL].as_slice()),
@@ -150,7 +150,7 @@ fn typedef_names(rt: HostRuntime) -> Result<(), Fail> {
 }
 
 #[test]
-fn functions(rt: HostRuntime) -> Result<(), Fail> {
+fn a_body_is_skipped_at_its_brace(rt: HostRuntime) -> Result<(), Fail> {
     let alloc = rt.alloc();
     for (text, want) in [
         ("void f(void){int x;x=1}", [Shape::NoBody(1, 13)].as_slice()),
@@ -185,7 +185,7 @@ fn functions(rt: HostRuntime) -> Result<(), Fail> {
 }
 
 #[test]
-fn a_bracket_without_its_other_half(rt: HostRuntime) -> Result<(), Fail> {
+fn a_bracket_without_a_partner_is_refused(rt: HostRuntime) -> Result<(), Fail> {
     let found = units(rt.alloc(), "int a[;");
     let want = Pos {
         file: 0,
@@ -236,7 +236,7 @@ fn is_call(stmt: &Stmt) -> bool {
 }
 
 #[test]
-fn a_typedef_and_a_function(rt: HostRuntime) -> Result<(), Fail> {
+fn calls_behind_a_typedef_are_read(rt: HostRuntime) -> Result<(), Fail> {
     let alloc = rt.alloc();
     let text =
         "typedef struct{int v;}spinlock_t;\nvoid f(_Bool c,spinlock_t*l){spin_lock(l);if(c)spin_lock(l);}";
@@ -293,7 +293,7 @@ fn body_of(
 }
 
 #[test]
-fn trees_of_height_128(rt: HostRuntime) -> Result<(), Fail> {
+fn a_body_is_at_most_128_high(rt: HostRuntime) -> Result<(), Fail> {
     let alloc = rt.alloc();
     for (count, want) in [
         (125, FUNCTION),
@@ -307,7 +307,7 @@ fn trees_of_height_128(rt: HostRuntime) -> Result<(), Fail> {
 }
 
 #[test]
-fn many_statements(rt: HostRuntime) -> Result<(), Fail> {
+fn a_body_may_have_4096_statements(rt: HostRuntime) -> Result<(), Fail> {
     let alloc = rt.alloc();
     for count in [4095, 4096] {
         let text = body_of(alloc, count, ";", "", "", "}")?;
@@ -373,7 +373,7 @@ out:
 ";
 
 #[test]
-fn a_driver(rt: HostRuntime) -> Result<(), Fail> {
+fn no_segment_of_a_driver_is_skipped(rt: HostRuntime) -> Result<(), Fail> {
     let alloc = rt.alloc();
     let want = [DECL, DECL, DECL, DECL, DECL, DECL, DECL, FUNCTION];
     assert_eq!(rt; all_seen(alloc, DRIVER)?.as_slice(), want.as_slice());
@@ -382,7 +382,7 @@ fn a_driver(rt: HostRuntime) -> Result<(), Fail> {
 }
 
 #[test]
-fn many_declarations(rt: HostRuntime) -> Result<(), Fail> {
+fn a_body_may_have_257_declarations(rt: HostRuntime) -> Result<(), Fail> {
     let alloc = rt.alloc();
     for count in [256, 257] {
         let mut text = String::new(alloc);

@@ -1,6 +1,7 @@
 //! The tokens of small files: each kind of token with its edges, places, refusals and segments.
-use crate::{LexAnswer, tokens};
+
 use sc_base::{NameId, Names, Pos};
+use sc_lexer::{LexAnswer, tokens};
 use sc_tree::{IntToken, Kind, Punct, Reserved, StrToken, Tokens};
 use std::alloc::Global;
 use std::test::*;
@@ -44,7 +45,7 @@ fn int(value: Option<u64>, decimal: bool, unsigned: bool, longs: u8) -> Option<K
 }
 
 #[test]
-fn four_tokens(rt: HostRuntime) -> Result<(), Fail> {
+fn a_file_has_tokens_ends_and_places(rt: HostRuntime) -> Result<(), Fail> {
     let found = lex(rt.alloc(), "x+1;")?;
     assert_eq!(rt; found.file, 3);
     assert_eq!(rt; found.list.len(), 4);
@@ -68,7 +69,7 @@ fn four_tokens(rt: HostRuntime) -> Result<(), Fail> {
 }
 
 #[test]
-fn integers(rt: HostRuntime) -> Result<(), Fail> {
+fn integers_have_their_values_and_letters(rt: HostRuntime) -> Result<(), Fail> {
     for (text, want) in [
         ("0", int(Some(0), false, false, 0)),
         ("017", int(Some(15), false, false, 0)),
@@ -88,7 +89,7 @@ fn integers(rt: HostRuntime) -> Result<(), Fail> {
 }
 
 #[test]
-fn odd_tokens(rt: HostRuntime) -> Result<(), Fail> {
+fn what_is_no_constant_is_odd(rt: HostRuntime) -> Result<(), Fail> {
     for text in [
         "1.5", ".5", "1e+5", "0xe+1", "0x", "08", "1lL", "1uu", "1_", "1..2", "''", "'ab'",
         "'\\q'", "'\\400'", "L'a'", "u'a'", "U'a'",
@@ -99,7 +100,7 @@ fn odd_tokens(rt: HostRuntime) -> Result<(), Fail> {
 }
 
 #[test]
-fn characters(rt: HostRuntime) -> Result<(), Fail> {
+fn characters_have_their_values(rt: HostRuntime) -> Result<(), Fail> {
     for (text, want) in [
         ("'a'", 97),
         ("'\\n'", 10),
@@ -119,7 +120,7 @@ fn characters(rt: HostRuntime) -> Result<(), Fail> {
 }
 
 #[test]
-fn strings(rt: HostRuntime) -> Result<(), Fail> {
+fn strings_have_their_width_and_length(rt: HostRuntime) -> Result<(), Fail> {
     for (text, wide, len) in [
         ("\"\"", false, 0),
         ("\"a'b\"", false, 3),
@@ -141,7 +142,7 @@ fn strings(rt: HostRuntime) -> Result<(), Fail> {
 }
 
 #[test]
-fn words_and_punctuators(rt: HostRuntime) -> Result<(), Fail> {
+fn the_longest_word_or_punctuator_is_taken(rt: HostRuntime) -> Result<(), Fail> {
     for (text, want) in [
         ("x", Kind::Word(NameId { at: 0 })),
         ("y", Kind::Word(NameId { at: 1 })),
@@ -164,7 +165,7 @@ fn words_and_punctuators(rt: HostRuntime) -> Result<(), Fail> {
 }
 
 #[test]
-fn counts_of_tokens(rt: HostRuntime) -> Result<(), Fail> {
+fn what_is_removed_is_no_token(rt: HostRuntime) -> Result<(), Fail> {
     for (text, count, ends) in [
         ("", 0, 0),
         (" \t\u{b}\u{c}\r\n", 0, 0),
@@ -192,7 +193,7 @@ fn counts_of_tokens(rt: HostRuntime) -> Result<(), Fail> {
 }
 
 #[test]
-fn places_behind_lines(rt: HostRuntime) -> Result<(), Fail> {
+fn places_count_lines_and_columns(rt: HostRuntime) -> Result<(), Fail> {
     let found = lex(rt.alloc(), "/*\n\n*/\n\t x\n#\n y")?;
     assert_eq!(rt; found.list.len(), 2);
     let first = found.list.as_slice()[0].pos;
@@ -217,7 +218,7 @@ fn places_behind_lines(rt: HostRuntime) -> Result<(), Fail> {
 }
 
 #[test]
-fn refusals(rt: HostRuntime) {
+fn refusals_have_their_places(rt: HostRuntime) {
     for (text, line, col, is_bracket) in [
         ("int x # y;", 1, 7, false),
         ("int x=L\"a;", 1, 7, false),
