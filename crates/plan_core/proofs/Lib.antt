@@ -4,3 +4,6 @@ pub mod Histories
 pub mod Orders
 pub mod Reaching
 pub mod Plans
+pub mod Placing
+pub mod Sorting
+pub mod Rows

@@ -7,8 +7,9 @@ use Rattle.std.proofs.lemmas.Map.Steps.{length-le_from_distinct_below}
 use Rattle.std.specs.List.{list_all, list_any, Contains, IsDistinct, AllByRecursion}
 use Rattle.plan_core.specs.declared.mark.Mark.{Mark}
 use Rattle.plan_core.specs.declared.mark.Mark.TheVariants.{Free, Claimed, Published}
-use Rattle.plan_core.specs.Graph.{callees, Walk, one, more, IsPlan}
+use Rattle.plan_core.specs.Graph.{callees, Walk, one, more}
 use Rattle.plan_core.specs.Core.{mark_of, is_free, is_claimed, is_published, all_published, may_claim, NoneIsClaimed, SomeIsFree}
+use Rattle.plan_core.specs.Order.{HasNoCycle}
 use Rattle.plan_core.proofs.Marks.{inside_from_free}
 
 is_free-open : (m : Mark) → is_claimed m ≡ false → is_published m ≡ false → is_free m ≡ true
@@ -54,20 +55,20 @@ leads_on rows past f g leads calls_g q passed =
     (λ before. more q f g (leads q before) calls_g)
     (or_cases (eqb q f) (list_any (eqb q) past) passed)
 
-no_end : (rows : List (List ℕ)) (marks : List Mark) → IsPlan rows → NoneIsClaimed marks
+no_end : (rows : List (List ℕ)) (marks : List Mark) → HasNoCycle rows → NoneIsClaimed marks
     → ((f : ℕ) → f < length marks → may_claim rows marks f ≡ false)
     → (fuel : ℕ) (f : ℕ) (past : List ℕ) → is_free (mark_of marks f) ≡ true → Leads rows past f
     → IsDistinct eqb (f ∷ past) → ((q : ℕ) → list_any (eqb q) (f ∷ past) ≡ true → q < length marks)
     → length marks ≤ length past + fuel → ⊥
 unfolding Leads IsDistinct
-no_end rows marks plan quiet stuck zero f past free leads distinct below fuel_is =
+no_end rows marks acyclic quiet stuck zero f past free leads distinct below fuel_is =
     let few = length-le_from_distinct_below (f ∷ past) (length marks) distinct below in omega (arith, few, fuel_is)
-no_end rows marks plan quiet stuck (suc fuel) f past free leads distinct below fuel_is =
+no_end rows marks acyclic quiet stuck (suc fuel) f past free leads distinct below fuel_is =
     let next = open_callee rows marks f quiet free (stuck f (inside_from_free marks f free)) in
     let leads' : Leads rows (f ∷ past) next.0 = leads_on rows past f next.0 leads next.1 in
-    no_end rows marks plan quiet stuck fuel next.0 (f ∷ past) next.2 leads'
+    no_end rows marks acyclic quiet stuck fuel next.0 (f ∷ past) next.2 leads'
     (⊎_elim
-    (λ met. absurd (plan.acyclic next.0 (leads' next.0 met)))
+    (λ met. absurd (acyclic next.0 (leads' next.0 met)))
     (λ new. (apart next.0 (f ∷ past) new, distinct))
     (cases_Bool (list_any (eqb next.0) (f ∷ past))))
     (λ q passed. ⊎_elim
@@ -77,11 +78,11 @@ no_end rows marks plan quiet stuck (suc fuel) f past free leads distinct below f
     (omega (arith, fuel_is))
 
 pub some_claimable : (rows : List (List ℕ)) (marks : List Mark)
-    → IsPlan rows → NoneIsClaimed marks → SomeIsFree marks
+    → HasNoCycle rows → NoneIsClaimed marks → SomeIsFree marks
     → ((f : ℕ) → f < length marks → may_claim rows marks f ≡ false) → ⊥
 unfolding Leads IsDistinct
-some_claimable rows marks plan quiet some stuck =
-    no_end rows marks plan quiet stuck (length marks) some.0 [] some.1
+some_claimable rows marks acyclic quiet some stuck =
+    no_end rows marks acyclic quiet stuck (length marks) some.0 [] some.1
     (λ q none. absurd (false≢true none))
     (tt, tt)
     (λ q last. ⊎_elim

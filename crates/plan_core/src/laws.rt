@@ -1,5 +1,5 @@
-// What holds of every call graph and of every order of claims and publications. Each law is the
-// clause of a function that does nothing.
+//! What holds of every call graph and of every order of claims and publications. Each law is the
+//! clause of a function that does nothing.
 
 ghost use Rattle.std.specs.Prelude.{◌≡◌, ◌↔◌, ℕ, List, true};
 ghost use Rattle.plan_core.specs.Graph.{Reaches, reaches, IsCut, is_cut, IsGraph, IsPlan, plan_of};

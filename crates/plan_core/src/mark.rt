@@ -1,5 +1,5 @@
-// How far a function of the plan has come. In the running database this is one word a function:
-// 0 for free, 1 for claimed, 2 for published.
+//! How far a function of the plan has come. In the running database this is one word a function:
+//! 0 for free, 1 for claimed, 2 for published.
 
 /// How far the analysis of a function has come.
 #[derive(Clone, Copy, Debug, PartialEq, Eq)]

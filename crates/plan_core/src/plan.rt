@@ -1,10 +1,28 @@
-// The plan of a call graph: for each function the callees that are analysed before it, and the
-// edges that were cut so that the others have no cycle.
+//! The plan of a call graph: for each function the callees that are analysed before it, and the
+//! edges that were cut so that the others have no cycle.
 
-ghost use Rattle.std.specs.Prelude.{◌≡◌, ◌==◌, ◌<◌, ◌↔◌, List, ℕ, length, IsTrue};
-ghost use Rattle.plan_core.specs.Graph.{callees, Reaches, IsCut};
+ghost use Rattle.std.specs.Prelude.{◌≡◌, ◌==◌, ◌<◌, ◌↔◌, List, ℕ, length, IsTrue, IfOk};
+ghost use Rattle.plan_core.specs.Graph.{callees, Reaches, IsCut, IsPlan};
+ghost use Rattle.plan_core.specs.Order.{IsRow};
 
-use sc_base::List;
+use crate::order::has_no_cycle;
+use sc_base::{List, OutOfMemory};
+use std::alloc::Global;
+
+/// Whether the row is ascending, with each callee once and below the number of functions.
+fn is_row(row: &[u32], count: usize) -> bool
+    ensures { IsTrue result ↔ IsRow count row.now }
+{
+    for k in 0..row.len() {
+        if row[k] as usize >= count {
+            return false;
+        }
+        if k > 0 && row[k - 1] >= row[k] {
+            return false;
+        }
+    }
+    true
+}
 
 /// An edge of the call graph: the caller's body calls the callee by name. Both are functions by
 /// their number in program order.
@@ -55,5 +73,33 @@ impl Plan {
         ensures { result.now ≡ callees self.now.callees function }
     {
         self.callees.as_slice()[function as usize].as_slice()
+    }
+
+    /// Whether every row of kept callees is ascending, with each callee once and a function of the
+    /// plan.
+    fn has_rows(&self) -> bool
+        ensures { IsTrue result ↔ ((f : ℕ) → f < length self.now.callees → IsRow (length self.now.callees) (callees self.now.callees f)) }
+    {
+        for row in self.callees.as_slice() {
+            if !is_row(row.as_slice(), self.len()) {
+                return false;
+            }
+        }
+        true
+    }
+
+    /// Whether the plan is well formed: it has fewer than 2^32 functions, each row of kept callees
+    /// is ascending, with each callee once and a function of the plan, and the kept edges have no
+    /// cycle. The time is linear in the functions and the edges.
+    pub fn is_well_formed(&self, alloc: Global) -> Result<bool, OutOfMemory>
+        ensures { IfOk result (λ answer. IsTrue answer ↔ IsPlan self.now.callees) }
+    {
+        if self.len() > u32::MAX as usize {
+            return Ok(false);
+        }
+        if !self.has_rows() {
+            return Ok(false);
+        }
+        has_no_cycle(alloc, self)
     }
 }

@@ -1,4 +1,4 @@
-// The state of the core: a mark for each function of a plan, and the two steps that change it.
+//! The state of the core: a mark for each function of a plan, and the two steps that change it.
 
 ghost use Rattle.std.specs.Prelude.{◌≡◌, ◌==◌, ◌<◌, ◌^◌, ℕ, List, length, true, false, IfSome, IfNone, IfOk, IsSome};
 

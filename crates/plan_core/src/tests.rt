@@ -1,4 +1,4 @@
-// Worked examples of claims and publications, whose answers were found by hand.
+//! Worked examples of claims and publications, whose answers were found by hand.
 
 use crate::{CoreState, Edge, Plan};
 use sc_base::{List, OutOfMemory};
@@ -55,6 +55,34 @@ fn a_chain_is_published_from_its_end(rt: HostRuntime) -> Result<(), Fail> {
         }
         assert_eq!(rt; state.claimable(&plan), None);
     }
+    Ok(())
+}
+
+/// A plan with these rows.
+fn plan_of(alloc: Global, rows: &[&[u32]]) -> Result<Plan, OutOfMemory> {
+    let mut callees = List::new(alloc);
+    for row in rows {
+        callees.push(List::from_vec(Vec::from_slice(alloc, row)?))?;
+    }
+    Ok(Plan {
+        callees,
+        cut: List::new(alloc),
+    })
+}
+
+#[test]
+fn a_plan_is_well_formed_without_a_cycle(rt: HostRuntime) -> Result<(), Fail> {
+    let alloc = rt.alloc();
+    for backwards in [true, false] {
+        assert!(rt; chain(alloc, 64, backwards)?.is_well_formed(alloc)?);
+    }
+    assert!(rt; plan_of(alloc, &[])?.is_well_formed(alloc)?);
+    assert!(rt; plan_of(alloc, &[&[1, 2], &[2], &[]])?.is_well_formed(alloc)?);
+    assert!(rt; !plan_of(alloc, &[&[0]])?.is_well_formed(alloc)?);
+    assert!(rt; !plan_of(alloc, &[&[], &[2], &[3], &[1]])?.is_well_formed(alloc)?);
+    assert!(rt; !plan_of(alloc, &[&[1, 1], &[]])?.is_well_formed(alloc)?);
+    assert!(rt; !plan_of(alloc, &[&[2, 1], &[], &[]])?.is_well_formed(alloc)?);
+    assert!(rt; !plan_of(alloc, &[&[1]])?.is_well_formed(alloc)?);
     Ok(())
 }
 

@@ -241,6 +241,7 @@ laid_from_plan rows plan =
     record {
       loop_free = λ f. false_from_ne_true (member f (callees rows f)) (λ has. plan.acyclic f (one f f (contains_from_member (callees rows f) f has)));
       inside = λ f g has. plan.inside f g (contains_from_member (callees rows f) g has);
+      rising = plan.rising;
     }
 
 -- the results stand behind all edges

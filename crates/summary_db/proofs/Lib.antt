@@ -7,3 +7,5 @@ pub mod Rolls
 pub mod Jobs
 pub mod Moves_kept
 pub mod Calls_kept
+pub mod Callers
+pub mod Shown

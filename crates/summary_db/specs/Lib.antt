@@ -5,3 +5,4 @@ pub mod Told
 pub mod Passes
 pub mod Lays
 pub mod Ends
+pub mod Shown

@@ -1,7 +1,8 @@
 -- The places of a plan, and which of them touch a function. There is a place for each kept edge, in
 -- the order of the rows, and then one for each function's result: its taker is the reader, whose
 -- number is the number of functions.
-use Rattle.std.specs.Prelude.{◌≡◌, ◌≢◌, ℕ, zero, suc, ◌+◌, ◌<◌, ◌==◌, Bool, true, false, if◌then◌else◌, List, [], ◌∷◌, ◌++◌, length, map, take, drop}
+use Rattle.std.specs.Prelude.{◌≡◌, ◌≢◌, ℕ, zero, suc, ◌+◌, ◌<◌, ◌==◌, Bool, true, false, if◌then◌else◌}
+use Rattle.std.specs.Prelude.{List, [], ◌∷◌, ◌++◌, length, map, take, drop, slice_index, count_by}
 use Rattle.std.specs.List.{range_with_len}
 use lib.ListN.{get_elem?}
 use mathlib.Core.Option.{Option, some, none}
@@ -48,10 +49,18 @@ slots_of rows f = takes_of rows f ++ gives_of rows f
 abbrev pub IsPlace : List (List ℕ) → ℕ → Place → Type 0
 IsPlace rows i p = get_elem? (places_of rows) i ≡ some p
 
--- what the layout rests on: no function calls itself, and each callee is a function of the plan
+-- what the layout rests on: no function calls itself, each callee is a function of the plan, and a
+-- row has each callee once
 pub record IsLaidOut (rows : List (List ℕ)) : Type 0 where
   pub loop_free : (f : ℕ) → member f (callees rows f) ≡ false
   pub inside : (f g : ℕ) → member g (callees rows f) ≡ true → g < length rows
+  pub rising :
+      (f k : ℕ) → k + 1 < length (callees rows f)
+      → slice_index (callees rows f) k < slice_index (callees rows f) (k + 1)
+
+-- how many functions have f as a kept callee
+abbrev pub callers : List (List ℕ) → ℕ → ℕ
+callers rows f = count_by (λ g. member f (callees rows g)) (range_with_len 0 (length rows))
 
 -- the list has a pair for each of the numbers, in order, whose second part is as P says
 abbrev pub Holds : {S : Type 0} → (ℕ → S → Type 0) → List ℕ → List (ℕ × S) → Type 0

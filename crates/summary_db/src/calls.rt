@@ -1,11 +1,11 @@
-// The calls on a database: looking at words, claiming a function, and what follows a claim.
+//! The calls on a database: looking at words, claiming a function, and what follows a claim.
 
 ghost use Rattle.std.specs.Prelude.{◌≡◌, ℕ, ◌<◌, ◌+◌, List, length, true, if◌then◌else◌, slice_index, IfSome, IfNone, vec_len};
 ghost use Rattle.std.specs.List.{All};
 ghost use Rattle.std.specs.Arc.{arc_value};
 ghost use Rattle.plan_core.specs.Graph.{callees};
 ghost use Rattle.summary_db.specs.Views.{member, looked, heard, put, left, both, ends, Looks};
-ghost use Rattle.summary_db.specs.Places.{gives_of};
+ghost use Rattle.summary_db.specs.Places.{callers};
 ghost use Rattle.summary_db.specs.Passes.{rows_of, work_of, view, job_view, job_function, job_asked, IsPassOf, IsJobOf, IsClaim, IsSeen};
 
 use crate::db::Db;
@@ -44,7 +44,8 @@ impl<W: Work> Db<W> {
         requires inside { function < length (rows_of self.now) }
         ensures pass { IsPassOf self.now pass.new }
         ensures looks { Looks (view pass.old) (view pass.new) }
-        ensures waits { IfSome result (λ r. (member r.0 (callees (rows_of self.now) function) ≡ true) × (r.1 < 2) × ((view pass.new).place ≡ r.0) × ((view pass.new).word ≡ r.1) × ((view pass.old).finds < (view pass.new).finds)) }
+        ensures waits { IfSome result (λ r. (member r.0 (callees (rows_of self.now) function) ≡ true) × (r.1 < 2) × ((view pass.new).place ≡ r.0)
+            × ((view pass.new).word ≡ r.1) × ((view pass.old).finds < (view pass.new).finds)) }
         ensures seen { IfNone result ((g : ℕ) → member g (callees (rows_of self.now) function) ≡ true → member g (view pass.new).seen ≡ true) }
     {
         let callees = self.callees_of(function);
@@ -102,7 +103,7 @@ impl<W: Work> Db<W> {
     /// it as a kept callee, and one for its result.
     pub fn copies(&self, job: &Job<W>) -> usize
         requires { IsJobOf W.defined self.now job.now }
-        ensures { result ≡ length (gives_of (rows_of self.now) (job_function job.now)) }
+        ensures { result ≡ callers (rows_of self.now) (job_function job.now) + 1 }
     {
         self.gives(job.function).len()
     }
@@ -112,7 +113,7 @@ impl<W: Work> Db<W> {
     pub fn publish(&self, pass: &mut Pass<W>, job: Job<W>, rows: RowList<W::Out>)
         requires pass { IsPassOf self.now pass.old }
         requires job { IsJobOf W.defined self.now job × (member (job_function job) (view pass.old).jobs ≡ true) }
-        requires count { vec_len rows.list ≡ length (gives_of (rows_of self.now) (job_function job)) }
+        requires count { vec_len rows.list ≡ callers (rows_of self.now) (job_function job) + 1 }
         requires rows { All (λ row. arc_value row ≡ W.defined (work_of self.now) (job_function job)) rows.list.items }
         ensures pass { IsPassOf self.now pass.new }
         ensures published { view pass.new ≡ ends (view pass.old) (put (job_function job) (job_view job)) }

@@ -1,13 +1,14 @@
-// What is left of a database that was closed: the results.
+//! What is left of a database that was closed: the results.
 
 ghost use Rattle.std.specs.Prelude.{◌≡◌, ℕ, ◌<◌, ◌+◌, length, slice_set, slice_index_or, vec_len, None};
 ghost use Rattle.std.specs.Slots.{slots_items, slots_len, slots_filled, IsFull};
 ghost use lib.ListN.{get_elem?};
 ghost use mathlib.Core.Option.{some};
-ghost use Rattle.summary_db.specs.Ends.{outputs, output_at};
+ghost use Rattle.summary_db.specs.Ends.{outputs, output_at, closing_pass};
 
-use crate::Work;
+use crate::{Pass, Work};
 use std::alloc::Global;
+use std::snapshot::Snapshot;
 use std::sync::Arc;
 
 /// Takes the value of each slot, and puts those from `first` on into the room.
@@ -33,10 +34,12 @@ pub(crate) fn drain<O: Drop>(
     room
 }
 
-/// The results of a closed database, each of which can be taken once.
+/// The results of a closed database, each of which can be taken once. Contracts see the outputs that
+/// can still be taken, `outputs closed`, and the pass that closed it, `closing_pass closed`.
 #[derive(Drop)]
 pub struct Closed<W: Work> {
     pub(crate) outputs: Vec<Option<Arc<W::Out>>>,
+    pub(crate) pass: Snapshot<Pass<W>>,
 }
 
 impl<W: Work> Closed<W> {
@@ -46,6 +49,7 @@ impl<W: Work> Closed<W> {
         requires { function < length (outputs self.old) }
         ensures output { result ≡ output_at self.old function }
         ensures left { outputs self.new ≡ slice_set (outputs self.old) function None }
+        ensures pass { closing_pass self.new ≡ closing_pass self.old }
     {
         self.outputs[function as usize].take()
     }

@@ -1,4 +1,4 @@
-// The database itself.
+//! The database itself.
 
 ghost use Rattle.std.specs.Prelude.{◌≡◌, ◌<◌, ◌+◌, ◌^◌, length, vec_len};
 ghost use Rattle.summary_db.specs.Places.{IsLaidOut, places_of};

@@ -1,4 +1,4 @@
-// What a pass stands for. It is known to proofs alone: no value of it is made.
+//! What a pass stands for. It is known to proofs alone: no value of it is made.
 
 use std::collections::LinkedList;
 

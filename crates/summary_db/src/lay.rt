@@ -1,6 +1,7 @@
-// The numbers of the places: which slots of the table a function takes from and gives to.
+//! The numbers of the places: which slots of the table a function takes from and gives to.
 
-ghost use Rattle.std.specs.Prelude.{◌≡◌, ℕ, ◌+◌, ◌<◌, ◌^◌, List, [], ◌∷◌, ◌++◌, length, map, slice_set, vec_len, OnOk, IfOk, replicate, true};
+ghost use Rattle.std.specs.Prelude.{◌≡◌, ℕ, ◌+◌, ◌<◌, ◌^◌, List, [], ◌∷◌, ◌++◌, length, map, slice_set};
+ghost use Rattle.std.specs.Prelude.{vec_len, OnOk, IfOk, replicate, true};
 ghost use lib.ListN.{get_elem?};
 ghost use mathlib.Core.Option.{some};
 ghost use Rattle.std.specs.List.{range_with_len};

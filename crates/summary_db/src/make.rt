@@ -1,19 +1,20 @@
-// How a database begins, and how it ends.
+//! How a database begins, and how it ends.
 
 ghost use Rattle.std.specs.Prelude.{◌≡◌, ℕ, ◌<◌, ◌≤◌, ◌+◌, ◌^◌, List, [], length, true, Some, None, IfOk, vec_len, replicate};
 ghost use Rattle.std.specs.List.{All};
 ghost use Rattle.plan_core.specs.Graph.{IsPlan};
 ghost use Rattle.summary_db.specs.Views.{member, fresh};
-ghost use Rattle.summary_db.specs.Ends.{outputs, output_at};
+ghost use Rattle.summary_db.specs.Ends.{outputs, output_at, closing_pass};
 ghost use Rattle.summary_db.specs.Told.{IsOutput};
 ghost use Rattle.summary_db.specs.Passes.{rows_of, work_of, view, IsPassOf};
 
 use crate::closed::{Closed, drain};
 use crate::db::Db;
 use crate::lay::Lay;
+use crate::pass::DbSeat;
 use crate::rule::About;
-use crate::{Knows, Pass, Work};
-use atomic_table::{Seat, Table};
+use crate::{Pass, Work};
+use atomic_table::Table;
 use plan_core::Plan;
 use sc_base::{List, OutOfMemory};
 use std::alloc::Global;
@@ -65,11 +66,12 @@ impl<W: Work> Db<W> {
     fn passes(
         &self,
         alloc: Global,
-        seat: Seat<Option<Arc<W::Out>>, Knows<Option<W>>>,
+        seat: DbSeat<W>,
         count: u32,
     ) -> Result<Vec<Pass<W>>, OutOfMemory>
         requires { (0 < count) × (seat.table_id ≡ self.now.table.shared.table_id) × (seat.me ≡ (fresh (rows_of self.now) (Some (work_of self.now)), [])) }
-        ensures { IfOk result (λ all. (vec_len all ≡ count) × All (λ pass. IsPassOf self.now pass × (view pass ≡ fresh (rows_of self.now) (Some (work_of self.now)))) all.items) }
+        ensures { IfOk result (λ all. (vec_len all ≡ count) × All (λ pass. IsPassOf self.now pass
+            × (view pass ≡ fresh (rows_of self.now) (Some (work_of self.now)))) all.items) }
     {
         let mut seat = seat;
         let mut all = Vec::new(alloc);
@@ -91,7 +93,8 @@ impl<W: Work> Db<W> {
         requires plan { IsPlan plan.now.callees × (W.rows work.now ≡ plan.now.callees) }
         requires passes { (0 < passes) × (passes ≤ 64) }
         ensures db { IfOk result (λ r. (rows_of r.0 ≡ plan.now.callees) × (work_of r.0 ≡ work.now)) }
-        ensures passes { IfOk result (λ r. (vec_len r.1 ≡ passes) × All (λ pass. IsPassOf r.0 pass × (view pass ≡ fresh plan.now.callees (Some work.now))) r.1.items) }
+        ensures passes { IfOk result (λ r. (vec_len r.1 ≡ passes) × All (λ pass. IsPassOf r.0 pass
+            × (view pass ≡ fresh plan.now.callees (Some work.now))) r.1.items) }
     {
         let rows = copied(alloc, &plan.callees)?;
         let lay = Lay::new(alloc, &rows)?;
@@ -113,8 +116,10 @@ impl<W: Work> Db<W> {
     /// from what is left.
     pub fn close(self, pass: Pass<W>) -> Closed<W>
         requires { IsPassOf self pass }
+        ensures pass { closing_pass result ≡ pass }
         ensures count { length (outputs result) ≡ length (rows_of self) }
-        ensures outputs { (f : ℕ) → f < length (rows_of self) → member f (view pass).seen ≡ true → IsOutput W.defined (Some (work_of self)) f (output_at result f) }
+        ensures outputs { (f : ℕ) → f < length (rows_of self) → member f (view pass).seen ≡ true
+            → IsOutput W.defined (Some (work_of self)) f (output_at result f) }
     {
         let Db {
             table,
@@ -122,11 +127,13 @@ impl<W: Work> Db<W> {
             lay,
             room,
         } = self;
+        let closing = Snapshot::of(&pass);
         let Pass { seat } = pass;
         let first = lay.count - rows.len();
         let closed = table.close_with(seat);
         Closed {
             outputs: drain(closed, first, room),
+            pass: closing,
         }
     }
 }

@@ -1,20 +1,23 @@
-// What a worker has of the database: its pass, and a job for each function that it has claimed.
+//! What a worker has of the database: its pass, and a job for each function that it has claimed.
 
 use crate::{Knows, Work};
 use atomic_table::Seat;
 use std::sync::Arc;
 
+/// A seat on the table of a database.
+pub(crate) type DbSeat<W> = Seat<Option<Arc<<W as Work>::Out>>, Knows<Option<W>>>;
+
 /// What a worker steps with. Contracts see of it what it stands for, `view pass`.
 #[derive(Drop)]
 pub struct Pass<W: Work> {
-    pub(crate) seat: Seat<Option<Arc<W::Out>>, Knows<Option<W>>>,
+    pub(crate) seat: DbSeat<W>,
 }
 
 /// A function that a pass has claimed. It is seen as the function and the number of outputs that
 /// it was asked for.
 #[derive(Drop)]
 pub struct Job<W: Work> {
-    pub(crate) seat: Seat<Option<Arc<W::Out>>, Knows<Option<W>>>,
+    pub(crate) seat: DbSeat<W>,
     pub(crate) function: u32,
     pub(crate) asked: usize,
 }

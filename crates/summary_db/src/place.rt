@@ -1,4 +1,4 @@
-// The places of the database: one for each kept edge of the plan, and one for each result.
+//! The places of the database: one for each kept edge of the plan, and one for each result.
 
 /// Where one output lies on its way from its giver, the function that publishes it, to its taker,
 /// the function that is given it. A result is taken by the reader of the database, which stands

@@ -1,4 +1,4 @@
-// The table of the database: its key, its rule, and what each kind of step tells.
+//! The table of the database: its key, its rule, and what each kind of step tells.
 
 ghost use Rattle.std.specs.Prelude.{◌≡◌, ◌<◌};
 

@@ -1,4 +1,4 @@
-// The slots of a job: their numbers, and a round over them.
+//! The slots of a job: their numbers, and a round over them.
 
 ghost use Rattle.std.specs.Prelude.{◌≡◌, ℕ, ◌<◌, ◌≤◌, ◌+◌, List, length, Some, None, vec_len};
 ghost use lib.ListN.{get_elem?};
@@ -9,9 +9,9 @@ ghost use Rattle.summary_db.specs.Places.{takes_of, gives_of, slots_of, Rolled, 
 ghost use Rattle.summary_db.specs.Told.{IsOutput};
 ghost use Rattle.plan_core.specs.Graph.{callees};
 
+use crate::Work;
 use crate::db::Db;
-use crate::{Knows, Work};
-use atomic_table::Seat;
+use crate::pass::DbSeat;
 use sc_base::RowList;
 use std::sync::Arc;
 
@@ -55,16 +55,13 @@ impl<W: Work> Db<W> {
     }
 
     /// Goes past the outputs that the job was not asked for.
-    pub(crate) fn skip(
-        &self,
-        seat: &mut Seat<Option<Arc<W::Out>>, Knows<Option<W>>>,
-        function: u32,
-        asked: usize,
-    )
+    pub(crate) fn skip(&self, seat: &mut DbSeat<W>, function: u32, asked: usize)
         requires inside { (function < length self.now.rows) × (asked ≤ length (takes_of self.now.rows function)) }
-        requires slots { Rolled Anything (Fills self.now.rows (IsOutput W.defined (Some self.now.table.shared.key.work.value)) function) (slots_of self.now.rows function) asked seat.old.me.1 }
+        requires slots { Rolled Anything (Fills self.now.rows (IsOutput W.defined (Some self.now.table.shared.key.work.value)) function)
+            (slots_of self.now.rows function) asked seat.old.me.1 }
         ensures seat { (seat.new.table_id ≡ seat.old.table_id) × (seat.new.id ≡ seat.old.id) × (seat.new.me.0 ≡ seat.old.me.0) }
-        ensures slots { Rolled Anything (Fills self.now.rows (IsOutput W.defined (Some self.now.table.shared.key.work.value)) function) (slots_of self.now.rows function) (length (takes_of self.now.rows function)) seat.new.me.1 }
+        ensures slots { Rolled Anything (Fills self.now.rows (IsOutput W.defined (Some self.now.table.shared.key.work.value)) function)
+            (slots_of self.now.rows function) (length (takes_of self.now.rows function)) seat.new.me.1 }
     {
         let takes = self.takes(function);
         for _k in asked..takes.len() {
@@ -73,18 +70,15 @@ impl<W: Work> Db<W> {
     }
 
     /// Fills the places to which the function gives.
-    pub(crate) fn fill(
-        &self,
-        seat: &mut Seat<Option<Arc<W::Out>>, Knows<Option<W>>>,
-        function: u32,
-        rows: RowList<W::Out>,
-    )
+    pub(crate) fn fill(&self, seat: &mut DbSeat<W>, function: u32, rows: RowList<W::Out>)
         requires inside { (function < length self.now.rows) × (seat.old.table_id ≡ self.now.table.shared.table_id) }
-        requires slots { Rolled Anything (Fills self.now.rows (IsOutput W.defined (Some self.now.table.shared.key.work.value)) function) (slots_of self.now.rows function) (length (takes_of self.now.rows function)) seat.old.me.1 }
+        requires slots { Rolled Anything (Fills self.now.rows (IsOutput W.defined (Some self.now.table.shared.key.work.value)) function)
+            (slots_of self.now.rows function) (length (takes_of self.now.rows function)) seat.old.me.1 }
         requires count { vec_len rows.list ≡ length (gives_of self.now.rows function) }
         requires rows { All (λ row. arc_value row ≡ W.defined self.now.table.shared.key.work.value function) rows.list.items }
         ensures seat { (seat.new.table_id ≡ seat.old.table_id) × (seat.new.id ≡ seat.old.id) × (seat.new.me.0 ≡ seat.old.me.0) }
-        ensures slots { Rolled Anything (Fills self.now.rows (IsOutput W.defined (Some self.now.table.shared.key.work.value)) function) (slots_of self.now.rows function) (length (slots_of self.now.rows function)) seat.new.me.1 }
+        ensures slots { Rolled Anything (Fills self.now.rows (IsOutput W.defined (Some self.now.table.shared.key.work.value)) function)
+            (slots_of self.now.rows function) (length (slots_of self.now.rows function)) seat.new.me.1 }
     {
         let RowList { mut list } = rows;
         let takes = self.takes(function);
@@ -97,13 +91,9 @@ impl<W: Work> Db<W> {
     }
 
     /// Empties all places of the function.
-    pub(crate) fn clear(
-        &self,
-        seat: &mut Seat<Option<Arc<W::Out>>, Knows<Option<W>>>,
-        function: u32,
-        asked: usize,
-    )
-        requires inside { (function < length self.now.rows) × (seat.old.table_id ≡ self.now.table.shared.table_id) × (asked ≤ length (slots_of self.now.rows function)) }
+    pub(crate) fn clear(&self, seat: &mut DbSeat<W>, function: u32, asked: usize)
+        requires inside { (function < length self.now.rows) × (seat.old.table_id ≡ self.now.table.shared.table_id) × (asked ≤ length
+            (slots_of self.now.rows function)) }
         requires slots { Rolled Anything (λ i y. y ≡ None) (slots_of self.now.rows function) asked seat.old.me.1 }
         ensures seat { (seat.new.table_id ≡ seat.old.table_id) × (seat.new.id ≡ seat.old.id) × (seat.new.me.0 ≡ seat.old.me.0) }
         ensures slots { Rolled Anything (λ i y. y ≡ None) (slots_of self.now.rows function) (length (slots_of self.now.rows function)) seat.new.me.1 }

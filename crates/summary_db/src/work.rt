@@ -1,5 +1,5 @@
-// The work whose outputs the database keeps: an output for each function of a plan, which is made
-// from the outputs of the function's kept callees.
+//! The work whose outputs the database keeps: an output for each function of a plan, which is made
+//! from the outputs of the function's kept callees.
 
 ghost use Rattle.std.specs.Prelude.{◌≡◌, ℕ, ◌<◌, List, length, map, IfOk};
 ghost use Rattle.std.specs.Arc.{arc_value};
