@@ -1,10 +1,17 @@
 -- What the steps of a pass do to what it has seen.
 
-use Rattle.std.proofs.Common.{◌≡◌, ℕ, ◌+◌, ◌<◌, ◌≤◌, ◌||◌, Bool, true, false, cond, eqb, List, [], ◌∷◌, ◌++◌, refl, sym, subst, ap, ◌∙◌, ⊎_elim, eq-eqb, arith}
+use Rattle.std.proofs.Common.{◌≡◌, ℕ, ◌+◌, ◌<◌, ◌≤◌, ◌||◌, Bool, true, false, cond, eqb, List, [], ◌∷◌, ◌++◌, refl, sym, subst, ap, ◌∙◌, ⊎_elim, eq-eqb, arith, Option, Some}
 use Rattle.std.proofs.lemmas.Bool.{or_left, or_right, or_cases, cases_lt, cond_both, cond-true, false≢true}
 use Rattle.summary_db.specs.declared.knows.Knows.{Knows}
-use Rattle.summary_db.specs.Views.{member, looked, heard, put, left, ends, less}
-use Rattle.work_pool.specs.Workers.{SeesOn, SawAll}
+use Rattle.std.proofs.lemmas.List.Elements.{All-pop}
+use Rattle.std.specs.List.{All}
+use Rattle.std.specs.Option.{IfSome, option_to_list}
+use Rattle.summary_db.specs.declared.pass.Pass.{Pass}
+use Rattle.summary_db.specs.Passes.{view}
+use Rattle.work_pool.specs.declared.turns.Ended.{Ended}
+use Rattle.work_pool.specs.declared.turns.Ended.TheVariants.{Done}
+use Rattle.summary_db.specs.Views.{member, looked, heard, put, left, both, ends, less}
+use Rattle.work_pool.specs.Workers.{SeesOn, SawAll, HasCause}
 
 pub member_left : (f : ℕ) (gs hs : List ℕ) → member f gs ≡ true → member f (gs ++ hs) ≡ true
 member_left f [] hs has = absurd (false≢true has)
@@ -56,7 +63,7 @@ ended_put f j v w z same only is = (
   ap (λ k. k.jobs) is ∙ ((λ i. less (same i) (only i)) ∙ less_only f),
   λ g has. subst (λ k. member g k.seen ≡ true) (sym is) (member_left g v.seen (j ∷ w.seen) has),
   subst (λ k. member f k.seen ≡ true) (sym is)
-  (member_right f v.seen (j ∷ w.seen) (subst (λ (i : ℕ). member f (i ∷ w.seen) ≡ true) (sym same) (member_first f w.seen))),
+      (member_right f v.seen (j ∷ w.seen) (subst (λ (i : ℕ). member f (i ∷ w.seen) ≡ true) (sym same) (member_first f w.seen))),
 )
 
 -- and once f is abandoned
@@ -78,3 +85,19 @@ saw_more n v w on all here f low =
     (λ before. on f (all f before))
     (λ last. let same : n ≡ f = omega arith in subst (λ (g : ℕ). member g w.seen ≡ true) same here)
     (cases_lt f n)
+
+-- what is popped is one of the list's
+pub popped : {A : Type 0} (P : A → Type 0) (xs ys : List A) (r : Option A) (x : A)
+    → xs ≡ ys ++ option_to_list r → r ≡ Some x → All P xs → All P ys × P x
+popped P xs ys r x items is all =
+    let both = All-pop P xs ys r items all in (both.0, subst (λ o. IfSome o P) is both.1)
+
+pub cause_done : {W O : Type 0} (n : ℕ) (pass : Pass W O) (e : Ended) → HasCause n pass e → e ≡ Done → SawAll n (view pass)
+cause_done n pass e cause is = subst (HasCause n pass) is cause
+
+-- what is left of two passes without jobs
+pub both_kept : {T : Type 0} (n : ℕ) (v w z : Knows T) → v.jobs ≡ [] → w.jobs ≡ [] → SawAll n v → z ≡ both v w → (z.jobs ≡ []) × SawAll n z
+both_kept n v w z none none' all is = (
+  ap (λ k. k.jobs) is ∙ (λ i. none i ++ none' i),
+  λ f low. subst (λ k. member f k.seen ≡ true) (sym is) (member_left f v.seen w.seen (all f low)),
+)

@@ -75,7 +75,8 @@ pub(crate) fn copied<O: Drop>(
     output: &Arc<O>,
     count: usize,
 ) -> Result<RowList<O>, OutOfMemory>
-    ensures { IfOk result (λ rows. (vec_len rows.list ≡ count) × All (λ row. arc_value row ≡ arc_value output.now) rows.list.items) }
+    ensures count { IfOk result (λ rows. vec_len rows.list ≡ count) }
+    ensures rows { IfOk result (λ rows. All (λ row. arc_value row ≡ arc_value output.now) rows.list.items) }
 {
     let mut list = Vec::new(alloc);
     for _turn in 0..count {

@@ -75,27 +75,28 @@ fn workers<R: Threads + Wait + Sync, W: Work + Sync, G: Gate + Sync>(
     ensures count { IfOk result (λ ended. vec_len ended ≡ vec_len desks) }
     ensures ended { IfOk result (λ ended. All (λ e. IsIdle db.now e.0 × HasCause (length (rows_of db.now)) e.0 e.1) ended.items) }
 {
-    let ended = thread::map_vec(rt, desks, &|desk: Desk<W>| -> (Pass<W>, Ended)
-        requires { IsSync R.row × IsIdle db.now desk.pass × IsWorkOf W.rows W.defined db.now plan.now work.now }
-        ensures { IsIdle db.entry.now result.0 × HasCause (length (rows_of db.entry.now)) result.0 result.1 }
-    {
-        let Desk { number, pass } = desk;
-        worker(rt, alloc, number, db, pass, plan, work, gate)
-    })?;
+    let ended = thread::map_vec(
+        rt,
+        desks,
+        &|desk: Desk<W>| -> (Pass<W>, Ended)
+            requires { IsSync R.row × IsIdle db.now desk.pass × IsWorkOf W.rows W.defined db.now plan.now work.now }
+            ensures { IsIdle db.entry.now result.0 × HasCause (length (rows_of db.entry.now)) result.0 result.1 }
+        {
+            let Desk { number, pass } = desk;
+            worker(rt, alloc, number, db, pass, plan, work, gate)
+        },
+    )?;
     Ok(ended)
 }
 
-/// Joins the passes into one, which saw every function published. None where a worker stopped.
-fn joined<W: Work>(db: &Db<W>, ended: Vec<(Pass<W>, Ended)>) -> Option<Pass<W>>
-    requires some { 0 < vec_len ended }
+/// Joins the other passes into one that saw every function published. None where a worker stopped.
+fn joined<W: Work>(db: &Db<W>, first: Pass<W>, ended: Vec<(Pass<W>, Ended)>) -> Option<Pass<W>>
+    requires first { IsIdle db.now first × SawAll (length (rows_of db.now)) (view first) }
     requires ended { All (λ e. IsIdle db.now e.0 × HasCause (length (rows_of db.now)) e.0 e.1) ended.items }
     ensures { IfSome result (λ pass. IsIdle db.now pass × SawAll (length (rows_of db.now)) (view pass)) }
 {
+    let mut pass = first;
     let mut ended = ended;
-    let (mut pass, end) = ended.pop().unwrap();
-    if end == Ended::Stopped {
-        return None;
-    }
     while let Some((other, end)) = ended.pop() {
         match end {
             Ended::Done => db.join(&mut pass, other),
@@ -103,6 +104,18 @@ fn joined<W: Work>(db: &Db<W>, ended: Vec<(Pass<W>, Ended)>) -> Option<Pass<W>>
         }
     }
     Some(pass)
+}
+
+/// One pass for all workers, which saw every function published. None where a worker stopped.
+fn closing<W: Work>(db: &Db<W>, ended: Vec<(Pass<W>, Ended)>) -> Option<Pass<W>>
+    requires { All (λ e. IsIdle db.now e.0 × HasCause (length (rows_of db.now)) e.0 e.1) ended.items }
+    ensures { IfSome result (λ pass. IsIdle db.now pass × SawAll (length (rows_of db.now)) (view pass)) }
+{
+    let mut ended = ended;
+    match ended.pop() {
+        Some((first, Ended::Done)) => joined(db, first, ended),
+        Some((_, Ended::Stopped)) | None => None,
+    }
 }
 
 /// Takes the outputs of all functions.
@@ -149,7 +162,7 @@ pub fn run_all<R: Threads + Wait + Sync, W: Work + Sync, G: Gate + Sync>(
     let (db, passes) = Db::new(alloc, plan, work, jobs)?;
     let desks = numbered(alloc, &db, passes)?;
     let ended = workers(rt, alloc, &db, desks, plan, work, gate)?;
-    let Some(pass) = joined(&db, ended) else {
+    let Some(pass) = closing(&db, ended) else {
         return Err(OutOfMemory);
     };
     let mut closed = db.close(pass);

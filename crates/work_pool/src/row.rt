@@ -1,12 +1,12 @@
 //! What a worker does with a job: it asks for the outputs of the callees, makes the function's
 //! output, and shares it as often as it is wanted.
 
-ghost use Rattle.std.specs.Prelude.{◌≡◌, ◌<◌, [], ◌∷◌, length, map, true, false, vec_len, IfOk};
+ghost use Rattle.std.specs.Prelude.{◌≡◌, ◌<◌, ◌+◌, [], ◌∷◌, length, map, true, false, vec_len, IfOk};
 ghost use Rattle.std.specs.List.{All};
 ghost use Rattle.std.specs.Arc.{arc_value};
 ghost use Rattle.plan_core.specs.Graph.{callees};
 ghost use Rattle.summary_db.specs.Views.{member};
-ghost use Rattle.summary_db.specs.Places.{gives_of};
+ghost use Rattle.summary_db.specs.Places.{callers};
 ghost use Rattle.summary_db.specs.Passes.{rows_of, work_of, view, job_view, job_function, job_asked, IsPassOf, IsJobOf};
 ghost use Rattle.work_pool.specs.Workers.{IsIdle, IsWorkOf, SeesOn};
 
@@ -50,7 +50,7 @@ fn rows<W: Work>(
     requires inside { function < length (rows_of db.now) }
     requires work { IsWorkOf W.rows W.defined db.now plan.now work.now }
     ensures job { IsJobOf W.defined db.now job.new × (job_function job.new ≡ function) × (job_view job.new ≡ job_view job.old) }
-    ensures count { IfOk result (λ rows. vec_len rows.list ≡ length (gives_of (rows_of db.now) function)) }
+    ensures count { IfOk result (λ rows. vec_len rows.list ≡ callers (rows_of db.now) function + 1) }
     ensures rows { IfOk result (λ rows. All (λ row. arc_value row ≡ W.defined (work_of db.now) function) rows.list.items) }
 {
     let count = plan.callees_of(function).len();

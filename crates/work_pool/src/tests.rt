@@ -154,9 +154,21 @@ fn outputs_are_the_same_for_every_number_of_jobs(rt: HostRuntime) -> Result<(), 
     let work = work_of(&plan);
     for _run in 0..RUNS {
         expect_odd(&rt, &run_alone(rt.alloc(), &work, &plan)?, 2);
-        expect_odd(&rt, &run_all(&rt, rt.alloc(), &work, &plan, 1, &FreeGate)?.rows, 2);
-        expect_odd(&rt, &run_all(&rt, rt.alloc(), &work, &plan, 2, &FreeGate)?.rows, 2);
-        expect_odd(&rt, &run_all(&rt, rt.alloc(), &work, &plan, 64, &FreeGate)?.rows, 2);
+        expect_odd(
+            &rt,
+            &run_all(&rt, rt.alloc(), &work, &plan, 1, &FreeGate)?.rows,
+            2,
+        );
+        expect_odd(
+            &rt,
+            &run_all(&rt, rt.alloc(), &work, &plan, 2, &FreeGate)?.rows,
+            2,
+        );
+        expect_odd(
+            &rt,
+            &run_all(&rt, rt.alloc(), &work, &plan, 64, &FreeGate)?.rows,
+            2,
+        );
     }
     Ok(())
 }
@@ -167,7 +179,11 @@ fn more_jobs_than_functions(rt: HostRuntime) -> Result<(), Fail> {
     let work = work_of(&plan);
     for _run in 0..RUNS {
         let gate = counting(rt.alloc(), 3)?;
-        expect_odd(&rt, &run_all(&rt, rt.alloc(), &work, &plan, 64, &gate)?.rows, 3);
+        expect_odd(
+            &rt,
+            &run_all(&rt, rt.alloc(), &work, &plan, 64, &gate)?.rows,
+            3,
+        );
         expect_once(&rt, &gate);
     }
     Ok(())
@@ -180,7 +196,11 @@ fn two_jobs_on_chains_of_64(rt: HostRuntime) -> Result<(), Fail> {
         let work = work_of(&plan);
         for _run in 0..RUNS {
             let gate = counting(rt.alloc(), 64)?;
-            expect_odd(&rt, &run_all(&rt, rt.alloc(), &work, &plan, 2, &gate)?.rows, 64);
+            expect_odd(
+                &rt,
+                &run_all(&rt, rt.alloc(), &work, &plan, 2, &gate)?.rows,
+                64,
+            );
             expect_once(&rt, &gate);
         }
     }
@@ -193,7 +213,11 @@ fn two_jobs_on_64_functions_without_edges(rt: HostRuntime) -> Result<(), Fail> {
     let work = work_of(&plan);
     for _run in 0..RUNS {
         let gate = counting(rt.alloc(), 64)?;
-        expect_odd(&rt, &run_all(&rt, rt.alloc(), &work, &plan, 2, &gate)?.rows, 64);
+        expect_odd(
+            &rt,
+            &run_all(&rt, rt.alloc(), &work, &plan, 2, &gate)?.rows,
+            64,
+        );
         expect_once(&rt, &gate);
     }
     Ok(())
@@ -208,7 +232,11 @@ fn two_workers_run_side_by_side(rt: HostRuntime) -> Result<(), Fail> {
             calls: AtomicU64::new(0),
             late: AtomicU64::new(0),
         };
-        expect_odd(&rt, &run_all(&rt, rt.alloc(), &work, &plan, 2, &gate)?.rows, 2);
+        expect_odd(
+            &rt,
+            &run_all(&rt, rt.alloc(), &work, &plan, 2, &gate)?.rows,
+            2,
+        );
         assert_eq!(rt; gate.late.load(Ordering::SeqCst), 0);
     }
     Ok(())
@@ -237,12 +265,28 @@ fn a_claim_waits_for_its_callee(rt: HostRuntime) -> Result<(), Fail> {
         assert_eq!(rt; passes.len(), 2);
         let mut b = passes.pop().unwrap();
         let mut a = passes.pop().unwrap();
-        assert!(rt; matches!(db.try_claim(&mut b, 1), Claim::Waiting { callee: 0, found: 0 }));
+        assert!(rt;
+            matches!(
+                db.try_claim(&mut b, 1),
+                Claim::Waiting {
+                    callee: 0,
+                    found: 0
+                }
+            )
+        );
         let Some(job) = begin(&db, &mut a, 0) else {
             panic!(rt; "0 is free");
         };
         assert!(rt; matches!(db.try_claim(&mut b, 0), Claim::Taken(1)));
-        assert!(rt; matches!(db.try_claim(&mut b, 1), Claim::Waiting { callee: 0, found: 1 }));
+        assert!(rt;
+            matches!(
+                db.try_claim(&mut b, 1),
+                Claim::Waiting {
+                    callee: 0,
+                    found: 1
+                }
+            )
+        );
         assert!(rt; finish(rt.alloc(), &db, &mut a, job, 0, &plan, &work));
         assert!(rt; matches!(db.try_claim(&mut b, 0), Claim::Taken(2)));
         let Some(mut job) = begin(&db, &mut b, 1) else {
@@ -269,7 +313,15 @@ fn an_abandoned_function_stops_the_other_pass(rt: HostRuntime) -> Result<(), Fai
         db.abandon(&mut a, job);
         assert!(rt; db.stopped(&mut b));
         assert!(rt; matches!(db.try_claim(&mut b, 0), Claim::Taken(1)));
-        assert!(rt; matches!(db.try_claim(&mut b, 1), Claim::Waiting { callee: 0, found: 1 }));
+        assert!(rt;
+            matches!(
+                db.try_claim(&mut b, 1),
+                Claim::Waiting {
+                    callee: 0,
+                    found: 1
+                }
+            )
+        );
     }
     Ok(())
 }
