@@ -1,0 +1,327 @@
+//! Runs of workers, and the calls of a database one after another. What the outputs are is proved.
+//! The tests show that the calls run, that memory suffices, and what no contract says: that two
+//! workers run side by side, and that the gate is told of each function once.
+
+ghost use Rattle.std.specs.Prelude.{◌≡◌, ◌<◌, ◌*◌, ◌+◌, IfOk};
+ghost use Rattle.plan_core.specs.Graph.{IsPlan};
+
+use crate::row::finish;
+use crate::turns::begin;
+use crate::{FreeGate, Gate, run_all, run_alone};
+use plan_core::Plan;
+use sc_base::{List, OutOfMemory, RowList};
+use std::alloc::Global;
+use std::process::Abort;
+use std::snapshot::Snapshot;
+use std::sync::atomic::{AtomicU64, Ordering};
+use std::test::Fail;
+use std::thread;
+use summary_db::{Claim, Db, Seen, Work};
+
+/// How often each run is made.
+const RUNS: u32 = 100;
+
+/// A work over a plan whose output of f is 2 f + 1. Memory is refused for the function `refused`.
+#[derive(Drop)]
+struct Odd {
+    plan: Snapshot<Plan>,
+    refused: u32,
+}
+
+impl Work for Odd {
+    type Out = u64;
+
+    ghost use Rattle.std.specs.Prelude.{◌*◌, ◌+◌};
+
+    ghost rows = { λ w. w.plan.value.callees };
+
+    ghost defined = { λ w f. 2 * f + 1 };
+
+    fn row(&self, function: u32, _given: &RowList<u64>) -> Result<u64, OutOfMemory> {
+        if function == self.refused {
+            return Err(OutOfMemory);
+        }
+        Ok(2 * u64::from(function) + 1)
+    }
+}
+
+/// The work of a plan that gets all memory.
+fn work_of(plan: &Plan) -> Odd
+    ensures { result.plan.value ≡ plan.now }
+{
+    Odd {
+        plan: Snapshot::of(plan),
+        refused: u32::MAX,
+    }
+}
+
+/// Counts the calls for each function.
+#[derive(Drop)]
+struct Noting {
+    calls: Vec<AtomicU64>,
+}
+
+impl Gate for Noting {
+    fn at(&self, _worker: u32, function: u32) {
+        if let Some(count) = self.calls.get(function as usize) {
+            count.fetch_add(1, Ordering::SeqCst);
+        }
+    }
+}
+
+/// Holds the first call until there is a second one, and notes if that takes too long.
+#[derive(Drop)]
+struct Held {
+    calls: AtomicU64,
+    late: AtomicU64,
+}
+
+impl Gate for Held {
+    fn at(&self, _worker: u32, _function: u32) {
+        if self.calls.fetch_add(1, Ordering::SeqCst) > 0 {
+            return;
+        }
+        for _turn in 0..10_000_000u32 {
+            if self.calls.load(Ordering::SeqCst) > 1 {
+                return;
+            }
+            thread::yield_now();
+        }
+        self.late.store(1, Ordering::SeqCst);
+    }
+}
+
+/// A well-formed plan of so many functions. In a chain each calls the one before it, or the one
+/// behind it where `forward`.
+fn plan<R: Abort>(
+    rt: &R,
+    alloc: Global,
+    functions: u32,
+    chain: bool,
+    forward: bool,
+) -> Result<Plan, OutOfMemory>
+    ensures { IfOk result (λ plan. IsPlan plan.callees) }
+{
+    let mut callees = List::new(alloc);
+    for function in 0..functions {
+        let mut row = List::new(alloc);
+        if chain && forward && function < functions - 1 {
+            row.push(function + 1)?;
+        }
+        if chain && !forward && function > 0 {
+            row.push(function - 1)?;
+        }
+        callees.push(row)?;
+    }
+    let plan = Plan {
+        callees,
+        cut: List::new(alloc),
+    };
+    let good = plan.is_well_formed(alloc)?;
+    assert!(rt; good);
+    Ok(plan)
+}
+
+/// The outputs are 1, 3, 5 and so on, so many of them.
+fn expect_odd<R: Abort>(rt: &R, rows: &RowList<u64>, count: usize) {
+    assert_eq!(rt; rows.list.len(), count);
+    let mut expected = 1u64;
+    for row in &rows.list {
+        assert_eq!(rt; **row, expected);
+        expected = expected.wrapping_add(2);
+    }
+}
+
+/// A gate that has counted nothing.
+fn counting(alloc: Global, functions: usize) -> Result<Noting, OutOfMemory> {
+    let mut calls = Vec::new(alloc);
+    for _function in 0..functions {
+        calls.push(AtomicU64::new(0))?;
+    }
+    Ok(Noting { calls })
+}
+
+/// The gate was called once for each function.
+fn expect_once<R: Abort>(rt: &R, gate: &Noting) {
+    for count in &gate.calls {
+        assert_eq!(rt; count.load(Ordering::SeqCst), 1);
+    }
+}
+
+#[test]
+fn outputs_are_the_same_for_every_number_of_jobs(rt: HostRuntime) -> Result<(), Fail> {
+    let plan = plan(&rt, rt.alloc(), 2, true, false)?;
+    let work = work_of(&plan);
+    for _run in 0..RUNS {
+        expect_odd(&rt, &run_alone(rt.alloc(), &work, &plan)?, 2);
+        expect_odd(
+            &rt,
+            &run_all(&rt, rt.alloc(), &work, &plan, 1, &FreeGate)?.rows,
+            2,
+        );
+        expect_odd(
+            &rt,
+            &run_all(&rt, rt.alloc(), &work, &plan, 2, &FreeGate)?.rows,
+            2,
+        );
+        expect_odd(
+            &rt,
+            &run_all(&rt, rt.alloc(), &work, &plan, 64, &FreeGate)?.rows,
+            2,
+        );
+    }
+    Ok(())
+}
+
+#[test]
+fn more_jobs_than_functions(rt: HostRuntime) -> Result<(), Fail> {
+    let plan = plan(&rt, rt.alloc(), 3, false, false)?;
+    let work = work_of(&plan);
+    for _run in 0..RUNS {
+        let gate = counting(rt.alloc(), 3)?;
+        expect_odd(
+            &rt,
+            &run_all(&rt, rt.alloc(), &work, &plan, 64, &gate)?.rows,
+            3,
+        );
+        expect_once(&rt, &gate);
+    }
+    Ok(())
+}
+
+#[test]
+fn two_jobs_on_chains_of_64(rt: HostRuntime) -> Result<(), Fail> {
+    for forward in [false, true] {
+        let plan = plan(&rt, rt.alloc(), 64, true, forward)?;
+        let work = work_of(&plan);
+        for _run in 0..RUNS {
+            let gate = counting(rt.alloc(), 64)?;
+            expect_odd(
+                &rt,
+                &run_all(&rt, rt.alloc(), &work, &plan, 2, &gate)?.rows,
+                64,
+            );
+            expect_once(&rt, &gate);
+        }
+    }
+    Ok(())
+}
+
+#[test]
+fn two_jobs_on_64_functions_without_edges(rt: HostRuntime) -> Result<(), Fail> {
+    let plan = plan(&rt, rt.alloc(), 64, false, false)?;
+    let work = work_of(&plan);
+    for _run in 0..RUNS {
+        let gate = counting(rt.alloc(), 64)?;
+        expect_odd(
+            &rt,
+            &run_all(&rt, rt.alloc(), &work, &plan, 2, &gate)?.rows,
+            64,
+        );
+        expect_once(&rt, &gate);
+    }
+    Ok(())
+}
+
+#[test]
+fn two_workers_run_side_by_side(rt: HostRuntime) -> Result<(), Fail> {
+    let plan = plan(&rt, rt.alloc(), 2, false, false)?;
+    let work = work_of(&plan);
+    for _run in 0..RUNS {
+        let gate = Held {
+            calls: AtomicU64::new(0),
+            late: AtomicU64::new(0),
+        };
+        expect_odd(
+            &rt,
+            &run_all(&rt, rt.alloc(), &work, &plan, 2, &gate)?.rows,
+            2,
+        );
+        assert_eq!(rt; gate.late.load(Ordering::SeqCst), 0);
+    }
+    Ok(())
+}
+
+#[test]
+fn refused_memory_stops_all_workers(rt: HostRuntime) -> Result<(), Fail> {
+    let plan = plan(&rt, rt.alloc(), 3, false, false)?;
+    let work = Odd {
+        plan: Snapshot::of(&plan),
+        refused: 1,
+    };
+    for _run in 0..RUNS {
+        assert!(rt; run_all(&rt, rt.alloc(), &work, &plan, 2, &FreeGate).is_err());
+        assert!(rt; run_alone(rt.alloc(), &work, &plan).is_err());
+    }
+    Ok(())
+}
+
+#[test]
+fn a_claim_waits_for_its_callee(rt: HostRuntime) -> Result<(), Fail> {
+    let plan = plan(&rt, rt.alloc(), 2, true, false)?;
+    let work = work_of(&plan);
+    for _run in 0..RUNS {
+        let (db, mut passes) = Db::new(rt.alloc(), &plan, &work, 2)?;
+        assert_eq!(rt; passes.len(), 2);
+        let mut b = passes.pop().unwrap();
+        let mut a = passes.pop().unwrap();
+        assert!(rt;
+            matches!(
+                db.try_claim(&mut b, 1),
+                Claim::Waiting {
+                    callee: 0,
+                    found: 0
+                }
+            )
+        );
+        let Some(job) = begin(&db, &mut a, 0) else {
+            panic!(rt; "0 is free");
+        };
+        assert!(rt; matches!(db.try_claim(&mut b, 0), Claim::Taken(1)));
+        assert!(rt;
+            matches!(
+                db.try_claim(&mut b, 1),
+                Claim::Waiting {
+                    callee: 0,
+                    found: 1
+                }
+            )
+        );
+        assert!(rt; finish(rt.alloc(), &db, &mut a, job, 0, &plan, &work));
+        assert!(rt; matches!(db.try_claim(&mut b, 0), Claim::Taken(2)));
+        let Some(mut job) = begin(&db, &mut b, 1) else {
+            panic!(rt; "1 is free, and its callee is published");
+        };
+        assert_eq!(rt; *db.callee(&mut job, 0), 1);
+        assert_eq!(rt; db.published(&mut a, 1), Seen::No(1));
+    }
+    Ok(())
+}
+
+#[test]
+fn an_abandoned_function_stops_the_other_pass(rt: HostRuntime) -> Result<(), Fail> {
+    let plan = plan(&rt, rt.alloc(), 2, true, false)?;
+    let work = work_of(&plan);
+    for _run in 0..RUNS {
+        let (db, mut passes) = Db::new(rt.alloc(), &plan, &work, 2)?;
+        let mut b = passes.pop().unwrap();
+        let mut a = passes.pop().unwrap();
+        assert!(rt; !db.stopped(&mut b));
+        let Some(job) = begin(&db, &mut a, 0) else {
+            panic!(rt; "0 is free");
+        };
+        db.abandon(&mut a, job);
+        assert!(rt; db.stopped(&mut b));
+        assert!(rt; matches!(db.try_claim(&mut b, 0), Claim::Taken(1)));
+        assert!(rt;
+            matches!(
+                db.try_claim(&mut b, 1),
+                Claim::Waiting {
+                    callee: 0,
+                    found: 1
+                }
+            )
+        );
+    }
+    Ok(())
+}
