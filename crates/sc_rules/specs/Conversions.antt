@@ -13,6 +13,7 @@ use Rattle.sc_tree.specs.declared.ctype.OpaqueKind.{OpaqueKind}
 use Rattle.sc_tree.specs.declared.ctype.OpaqueKind.TheVariants as opaque
 use Rattle.sc_tree.specs.declared.ctype.Widths.{Widths}
 use Rattle.sc_tree.specs.declared.ctype.IntKind.{IntKind}
+use Rattle.sc_tree.specs.declared.ctype.IntKind.TheVariants as kind
 use Rattle.sc_tree.specs.declared.expr.Place.{Place}
 use Rattle.sc_typed.specs.declared.expr.TExpr.{TExpr, out-TExpr, roll-TExpr}
 use Rattle.sc_typed.specs.declared.expr.What.{What}
@@ -31,6 +32,12 @@ type_of e = (out-TExpr e).ctype
 
 abbrev pub place_of : TExpr → Place
 place_of e = (out-TExpr e).place
+
+abbrev pub int : CType
+int = ty.Int kind.Int
+
+abbrev pub made : What → CType → Place → Check (Option TExpr)
+made w t p = done (Some (node w t p))
 
 -- the value of an expression in another type
 abbrev pub convert : TExpr → CType → TExpr

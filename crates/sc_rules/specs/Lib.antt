@@ -2,17 +2,3 @@ pub mod Faults
 pub mod Walks
 pub mod Gives
 pub mod Conversions
-pub mod Operators
-pub mod Builtins
-pub mod Here
-pub mod Members
-pub mod Calls
-pub mod Shapes
-pub mod Typing
-pub mod Initialisers
-pub mod Lengths
-pub mod Declarations
-pub mod Bodies
-pub mod Jumps
-pub mod Files
-pub mod Typed

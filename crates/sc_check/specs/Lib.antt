@@ -1,0 +1,10 @@
+pub mod Here
+pub mod Shapes
+pub mod Typing
+pub mod Initialisers
+pub mod Lengths
+pub mod Declarations
+pub mod Bodies
+pub mod Jumps
+pub mod Files
+pub mod Typed
