@@ -1,6 +1,6 @@
 -- What a declarator declares, where it has no initialiser (C11 6.7): a function, a typedef name, a variable in a
 -- body with `extern`.
-use Rattle.std.specs.Prelude.{ℕ, Bool, true, false, not, Option, Some, None, List}
+use Rattle.std.specs.Prelude.{ℕ, Bool, false, not, Option, Some, None, List}
 use Rattle.sc_base.specs.declared.pos.Pos.{Pos}
 use Rattle.sc_base.specs.declared.pos.NameId.{NameId}
 use Rattle.sc_base.specs.declared.skip.Unsupported.TheVariants as u

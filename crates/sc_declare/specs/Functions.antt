@@ -9,7 +9,6 @@ use Rattle.sc_tree.specs.declared.ctype.CType.{CType, CType-F, out-CType}
 use Rattle.sc_tree.specs.declared.ctype.Signature.{Signature, out-Signature}
 use Rattle.sc_tree.specs.declared.ctype.OpaqueKind.{OpaqueKind}
 use Rattle.sc_typed.specs.Types.{is_aggregate, is_void, compatible, composite}
-use Rattle.sc_rules.specs.declared.walk.Walk.{Walk}
 use Rattle.sc_rules.specs.declared.walk.Entity.{Entity}
 use Rattle.sc_rules.specs.declared.walk.Entity.TheVariants as entity
 use Rattle.sc_rules.specs.Faults.{unsupported_at, ill_typed_at}

@@ -5,11 +5,10 @@ use Rattle.std.specs.List.{list_any, position_or_len}
 use Rattle.sc_tree.specs.declared.ctype.CType.{CType}
 use Rattle.sc_typed.specs.declared.program.Global.{Global}
 use Rattle.sc_typed.specs.Types.{compatible, composite, same_length}
-use Rattle.sc_rules.specs.declared.walk.Walk.{Walk}
 use Rattle.sc_rules.specs.declared.walk.Entity.{Entity}
 use Rattle.sc_rules.specs.declared.walk.Entity.TheVariants as entity
 use Rattle.sc_rules.specs.declared.walk.GlobalKey.{GlobalKey}
-use Rattle.sc_rules.specs.Walks.{Check, ◌>>=◌, done, name_here, declare}
+use Rattle.sc_rules.specs.Walks.{Check, ◌>>=◌, done, name_here}
 use Rattle.sc_declare.specs.declared.linkage.Linked.{Linked}
 use Rattle.sc_names.specs.Names.{declare_or}
 

@@ -7,7 +7,6 @@ use Rattle.sc_tree.specs.declared.ctype.CType.TheVariants as ty
 use Rattle.sc_tree.specs.declared.ctype.Signature.{Signature}
 use Rattle.sc_tree.specs.declared.ctype.Widths.{Widths}
 use Rattle.sc_typed.specs.declared.program.Param.{Param}
-use Rattle.sc_rules.specs.declared.walk.Walk.{Walk}
 use Rattle.sc_rules.specs.declared.walk.Entity.TheVariants as entity
 use Rattle.sc_rules.specs.Walks.{Check, ◌>>=◌, done, declare}
 use Rattle.sc_rules.specs.Conversions.{opaque_kind}
