@@ -3,21 +3,21 @@
 -- reads all that is spelled, the laws say against `sc_tree/specs/Grammar.antt`. Each file of `Reading` has
 -- what the file of its name in `src` reads. Where a reading takes `types`, `limit` and `inner`, it reads with
 -- trees of at most the limit, and `inner` reads those of one less.
-mod Found
-mod Grammar
-mod Primary
-mod Suffixes
-mod Prefix
-mod Chain
-mod Conditional
-mod Assignment
-mod Comma
-mod Records
-mod Enums
-mod Pieces
-mod Parameters
-mod Direct
-mod Parse
+pub mod Found
+pub mod Grammar
+pub mod Primary
+pub mod Suffixes
+pub mod Prefix
+pub mod Chain
+pub mod Conditional
+pub mod Assignment
+pub mod Comma
+pub mod Records
+pub mod Enums
+pub mod Pieces
+pub mod Parameters
+pub mod Direct
+pub mod Parse
 unfoldable pub use Found.*
 unfoldable pub use Grammar.*
 unfoldable pub use Primary.*
