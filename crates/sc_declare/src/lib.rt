@@ -12,6 +12,7 @@ mod linkage;
 mod locals;
 mod numbers;
 mod storage;
+
 pub use declarators::{extern_declared, function_declared, typedef_declared};
 pub use functions::{
     Parameter, declare_function, declare_function_if, local_function, no_opaque, signature_at,

@@ -10,6 +10,7 @@ mod notes;
 mod scope;
 mod structs;
 mod tags;
+
 pub use names::{declare, declare_if, declare_or, name_here, name_means, new_here};
 pub use notes::note_unless;
 pub use scope::{Scope, close_scope, open_again, open_scope};
