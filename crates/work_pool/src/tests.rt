@@ -1,12 +1,10 @@
-//! Runs of workers, and the calls of a database one after another. What the outputs are is proved.
+//! Runs of workers. What the outputs are is proved.
 //! The tests show that the calls run, that memory suffices, and what no contract says: that two
 //! workers run side by side, and that the gate is told of each function once.
 
 ghost use Rattle.std.specs.Prelude.{◌≡◌, ◌<◌, ◌*◌, ◌+◌, IfOk};
 ghost use Rattle.plan_core.specs.Graph.{IsPlan};
 
-use crate::row::finish;
-use crate::turns::begin;
 use crate::{FreeGate, Gate, run_all, run_alone};
 use plan_core::Plan;
 use sc_base::{List, OutOfMemory, RowList};
@@ -16,7 +14,7 @@ use std::snapshot::Snapshot;
 use std::sync::atomic::{AtomicU64, Ordering};
 use std::test::Fail;
 use std::thread;
-use summary_db::{Claim, Db, Seen, Work};
+use summary_db::Work;
 
 /// How often each run is made.
 const RUNS: u32 = 100;
@@ -252,76 +250,6 @@ fn refused_memory_stops_all_workers(rt: HostRuntime) -> Result<(), Fail> {
     for _run in 0..RUNS {
         assert!(rt; run_all(&rt, rt.alloc(), &work, &plan, 2, &FreeGate).is_err());
         assert!(rt; run_alone(rt.alloc(), &work, &plan).is_err());
-    }
-    Ok(())
-}
-
-#[test]
-fn a_claim_waits_for_its_callee(rt: HostRuntime) -> Result<(), Fail> {
-    let plan = plan(&rt, rt.alloc(), 2, true, false)?;
-    let work = work_of(&plan);
-    for _run in 0..RUNS {
-        let (db, mut passes) = Db::new(rt.alloc(), &plan, &work, 2)?;
-        assert_eq!(rt; passes.len(), 2);
-        let mut b = passes.pop().unwrap();
-        let mut a = passes.pop().unwrap();
-        assert!(rt;
-            matches!(
-                db.try_claim(&mut b, 1),
-                Claim::Waiting {
-                    callee: 0,
-                    found: 0
-                }
-            )
-        );
-        let Some(job) = begin(&db, &mut a, 0) else {
-            panic!(rt; "0 is free");
-        };
-        assert!(rt; matches!(db.try_claim(&mut b, 0), Claim::Taken(1)));
-        assert!(rt;
-            matches!(
-                db.try_claim(&mut b, 1),
-                Claim::Waiting {
-                    callee: 0,
-                    found: 1
-                }
-            )
-        );
-        assert!(rt; finish(rt.alloc(), &db, &mut a, job, 0, &plan, &work));
-        assert!(rt; matches!(db.try_claim(&mut b, 0), Claim::Taken(2)));
-        let Some(mut job) = begin(&db, &mut b, 1) else {
-            panic!(rt; "1 is free, and its callee is published");
-        };
-        assert_eq!(rt; *db.callee(&mut job, 0), 1);
-        assert_eq!(rt; db.published(&mut a, 1), Seen::No(1));
-    }
-    Ok(())
-}
-
-#[test]
-fn an_abandoned_function_stops_the_other_pass(rt: HostRuntime) -> Result<(), Fail> {
-    let plan = plan(&rt, rt.alloc(), 2, true, false)?;
-    let work = work_of(&plan);
-    for _run in 0..RUNS {
-        let (db, mut passes) = Db::new(rt.alloc(), &plan, &work, 2)?;
-        let mut b = passes.pop().unwrap();
-        let mut a = passes.pop().unwrap();
-        assert!(rt; !db.stopped(&mut b));
-        let Some(job) = begin(&db, &mut a, 0) else {
-            panic!(rt; "0 is free");
-        };
-        db.abandon(&mut a, job);
-        assert!(rt; db.stopped(&mut b));
-        assert!(rt; matches!(db.try_claim(&mut b, 0), Claim::Taken(1)));
-        assert!(rt;
-            matches!(
-                db.try_claim(&mut b, 1),
-                Claim::Waiting {
-                    callee: 0,
-                    found: 1
-                }
-            )
-        );
     }
     Ok(())
 }
