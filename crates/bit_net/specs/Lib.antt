@@ -1,4 +1,3 @@
 pub mod Value
 pub mod Circuit
 pub mod Runs
-pub mod Literals

@@ -1,6 +1,4 @@
-pub mod BoolLemmas
-pub mod GuardLemmas
-pub mod PointLemmas
-pub mod MadeLemmas
-pub mod JoinLemmas
-pub mod MoveLemmas
+mod BoolLemmas
+mod GuardLemmas
+mod PointLemmas
+mod JoinLemmas

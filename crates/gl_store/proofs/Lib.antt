@@ -1,6 +1,5 @@
-pub mod ValueLemmas
-pub mod PlaceLemmas
-pub mod CopyLemmas
-pub mod StoreLemmas
-pub mod MakeLemmas
-pub mod MarkLemmas
+mod ValueLemmas
+mod PlaceLemmas
+mod StoreLemmas
+mod MakeLemmas
+mod MarkLemmas

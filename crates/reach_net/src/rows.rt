@@ -112,5 +112,6 @@ fn or_through(net: &mut Net, there: Gate, to: Gate, from: Gate) -> Result<Gate, 
     ensures ok { IfOk result (λ r. Gives net.new r.at (λ choice v. v there.at || (v to.at && v from.at))) }
 {
     let both = net.and(to, from)?;
-    net.or(there, both)
+    let always = net.constant(true);
+    net.mux(there, always, both)
 }
