@@ -7,7 +7,7 @@ use Rattle.std.proofs.lemmas.List.Folds.{list_any-append}
 use Rattle.std.proofs.lemmas.Option.{slice_get-get_or}
 use Rattle.std.specs.List.{count_by, list_any}
 use Rattle.bit_net.specs.declared.nodes.Node.{Node}
-use Rattle.bit_net.specs.declared.nodes.Node.TheVariants.{Constant, Input, Not, And, Xor, Mux}
+use Rattle.bit_net.specs.declared.nodes.Node.TheVariants.{Constant, Input, Not, And, Or, Xor, Mux}
 use Rattle.bit_net.specs.Value.{bit_at, table, values}
 use Rattle.bit_net.specs.Circuit.{is_input, input_count, first_nodes, ReadsBelow, IsCircuit}
 use Rattle.bit_net.specs.contracts.nodes.NodePartialEq.TheImpl as derived
@@ -20,6 +20,7 @@ reads_more g n (Constant b) r = r
 reads_more g n (Input k) r = omega arith
 reads_more g n (Not a) r = r
 reads_more g n (And a b) r = r
+reads_more g n (Or a b) r = r
 reads_more g n (Xor a b) r = r
 reads_more g n (Mux c a b) r = r
 

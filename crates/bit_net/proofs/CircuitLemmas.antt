@@ -4,10 +4,11 @@ use Rattle.std.proofs.lemmas.Option.{slice_get_within}
 use Rattle.std.proofs.lemmas.Grind.{common_steps}
 use Rattle.std.specs.List.{count_by}
 use Rattle.bit_net.specs.declared.nodes.Node.{Node}
-use Rattle.bit_net.specs.declared.nodes.Node.TheVariants.{Constant, Input, Not, And, Xor, Mux}
+use Rattle.bit_net.specs.declared.nodes.Node.TheVariants.{Constant, Input, Not, And, Or, Xor, Mux}
 use Rattle.bit_net.specs.Value.{table, value}
 use Rattle.bit_net.specs.Circuit.{is_input, input_count, ReadsBelow, IsCircuit}
 use Rattle.bit_net.specs.Runs.{Grown, Gives}
+use Rattle.bit_net.proofs.Growth.{Grown-refl}
 use Rattle.bit_net.proofs.ListLemmas.{slice_get_front, slice_get_push}
 use Rattle.bit_net.proofs.ValueLemmas.{value-front, value-node, table-agree}
 
@@ -17,6 +18,7 @@ no_input g (Constant b) r = refl
 no_input g (Input k) r = absurd (omega arith)
 no_input g (Not a) r = refl
 no_input g (And a b) r = refl
+no_input g (Or a b) r = refl
 no_input g (Xor a b) r = refl
 no_input g (Mux c a b) r = refl
 
@@ -25,6 +27,7 @@ ReadsBelow-more g inputs (Constant b) r = r
 ReadsBelow-more g inputs (Input k) r = absurd (omega arith)
 ReadsBelow-more g inputs (Not a) r = r
 ReadsBelow-more g inputs (And a b) r = r
+ReadsBelow-more g inputs (Or a b) r = r
 ReadsBelow-more g inputs (Xor a b) r = r
 ReadsBelow-more g inputs (Mux c a b) r = r
 
@@ -35,12 +38,6 @@ input_count-loop (m ∷ ns) n e = grind (arith, common_steps, input_count-loop n
 pub input_count-push : (ns : List Node) (n : Node) → is_input n ≡ false → input_count (ns ++ n ∷ []) ≡ input_count ns
 unfolding input_count
 input_count-push ns n e = input_count-loop ns n e
-
-pub Grown-refl : (ns : List Node) → Grown ns ns
-Grown-refl ns = record { longer = omega arith; inputs = refl; runs = λ choice v r. r }
-
-pub Grown-trans : (a b c : List Node) → Grown a b → Grown b c → Grown a c
-Grown-trans a b c g h = record { longer = omega arith; inputs = h.inputs ∙ g.inputs; runs = λ choice v r. g.runs choice v (h.runs choice v r) }
 
 pub Grown-push : (ns : List Node) (n : Node) → is_input n ≡ false → Grown ns (ns ++ n ∷ [])
 Grown-push ns n e = record {

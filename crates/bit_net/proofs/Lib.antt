@@ -1,7 +1,9 @@
+pub mod Growth
 pub mod ListLemmas
 pub mod ValueLemmas
 pub mod CircuitLemmas
 pub mod NodeLemmas
 pub mod FoldLemmas
+pub mod LiteralLemmas
 pub mod BuildLemmas
 pub mod LawLemmas

@@ -3,7 +3,7 @@ use Rattle.std.proofs.Common.{◌≡◌, ℕ, ◌+◌, ◌<◌, Bool, false, not
 use Rattle.std.proofs.Math.ListN.{get_or-append}
 use Rattle.std.proofs.Math.Seq.{get_or-append_seam}
 use Rattle.bit_net.specs.declared.nodes.Node.{Node}
-use Rattle.bit_net.specs.declared.nodes.Node.TheVariants.{Constant, Input, Not, And, Xor, Mux}
+use Rattle.bit_net.specs.declared.nodes.Node.TheVariants.{Constant, Input, Not, And, Or, Xor, Mux}
 use Rattle.bit_net.specs.Value.{bit_at, table, values_from, values, value}
 use Rattle.bit_net.specs.Circuit.{ReadsBelow}
 use Rattle.bit_net.proofs.ListLemmas.{split_at_place}
@@ -56,6 +56,7 @@ table-agree choice u v g inputs (Constant b) r same = refl
 table-agree choice u v g inputs (Input k) r same = refl
 table-agree choice u v g inputs (Not a) r same = ap not (same a.at r)
 table-agree choice u v g inputs (And a b) r same = cc (same a.at r.0, same b.at r.1)
+table-agree choice u v g inputs (Or a b) r same = cc (same a.at r.0, same b.at r.1)
 table-agree choice u v g inputs (Xor a b) r same = cc (same a.at r.0, same b.at r.1)
 table-agree choice u v g inputs (Mux c a b) r same = cc (same c.at r.0, same a.at r.1, same b.at r.2)
 

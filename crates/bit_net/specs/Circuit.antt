@@ -2,7 +2,7 @@
 use Rattle.std.specs.Prelude.{◌≡◌, ℕ, zero, suc, ◌+◌, ◌<◌, Bool, true, false, List, [], ◌∷◌, ◌++◌, Some, slice_get}
 use Rattle.std.specs.List.{count_by}
 use Rattle.bit_net.specs.declared.nodes.Node.{Node}
-use Rattle.bit_net.specs.declared.nodes.Node.TheVariants.{Constant, Input, Not, And, Xor, Mux}
+use Rattle.bit_net.specs.declared.nodes.Node.TheVariants.{Constant, Input, Not, And, Or, Xor, Mux}
 
 abbrev pub is_input : Node → Bool
 is_input (Input k) = true
@@ -23,6 +23,7 @@ ReadsBelow g inputs (Constant b) = Unit {0}
 ReadsBelow g inputs (Input k) = k < inputs
 ReadsBelow g inputs (Not a) = a.at < g
 ReadsBelow g inputs (And a b) = (a.at < g) × (b.at < g)
+ReadsBelow g inputs (Or a b) = (a.at < g) × (b.at < g)
 ReadsBelow g inputs (Xor a b) = (a.at < g) × (b.at < g)
 ReadsBelow g inputs (Mux c a b) = (c.at < g) × (a.at < g) × (b.at < g)
 

@@ -1,3 +1,4 @@
 pub mod Value
 pub mod Circuit
 pub mod Runs
+pub mod Literals

@@ -1,8 +1,8 @@
 -- The value of a gate. A net is the list of its nodes; gate g is node g. The value of a node is its truth table over the values
 -- of the nodes before it, and an input has the value that the choice gives it.
-use Rattle.std.specs.Prelude.{ℕ, Bool, true, false, not, ◌&&◌, if◌then◌else◌, List, [], ◌∷◌, ◌++◌, slice_index_or}
+use Rattle.std.specs.Prelude.{ℕ, Bool, true, false, not, ◌&&◌, ◌||◌, if◌then◌else◌, List, [], ◌∷◌, ◌++◌, slice_index_or}
 use Rattle.bit_net.specs.declared.nodes.Node.{Node}
-use Rattle.bit_net.specs.declared.nodes.Node.TheVariants.{Constant, Input, Not, And, Xor, Mux}
+use Rattle.bit_net.specs.declared.nodes.Node.TheVariants.{Constant, Input, Not, And, Or, Xor, Mux}
 
 -- the bit at a place of a list, false past its end
 unfoldable pub bit_at : List Bool → ℕ → Bool
@@ -19,6 +19,7 @@ table choice v (Constant b) = b
 table choice v (Input k) = choice k
 table choice v (Not a) = not (v a.at)
 table choice v (And a b) = v a.at && v b.at
+table choice v (Or a b) = v a.at || v b.at
 table choice v (Xor a b) = xor (v a.at) (v b.at)
 table choice v (Mux c a b) = if v c.at then v a.at else v b.at
 

@@ -17,3 +17,9 @@ pub fn runs_fit_tables()
     ensures fits { (ns : List Node) (choice v : ℕ → Bool) → IsCircuit ns → Runs ns choice v → Fits ns choice v }
     ensures runs { (ns : List Node) (choice v : ℕ → Bool) → IsCircuit ns → Fits ns choice v → Runs ns choice v }
 {}
+
+/// A net has grown from itself, and growth goes on over a net between two.
+pub fn growth_composes()
+    ensures same { (ns : List Node) → Grown ns ns }
+    ensures composed { (first middle last : List Node) → Grown first middle → Grown middle last → Grown first last }
+{}

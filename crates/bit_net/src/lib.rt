@@ -6,11 +6,12 @@
 #![tactic(auto)]
 
 mod laws;
+mod literals;
 mod memory;
 mod nodes;
 #[cfg(test)]
 mod tests;
 
-pub use laws::{runs_fit_tables, values_are_runs};
+pub use laws::{growth_composes, runs_fit_tables, values_are_runs};
 pub use memory::OutOfMemory;
 pub use nodes::{Gate, Net, Node};

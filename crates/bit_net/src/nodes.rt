@@ -1,5 +1,5 @@
 //! Gates, the nodes behind them, and the net that holds the nodes.
-ghost use Rattle.std.specs.Prelude.{◌≡◌, ℕ, ◌+◌, ◌<◌, ◌≤◌, Bool, true, false, not, ◌&&◌, if◌then◌else◌, List, length, slice_get, IfOk, OnErr, IfSome, IsTrue, Some, ◌↔◌};
+ghost use Rattle.std.specs.Prelude.{◌≡◌, ℕ, ◌+◌, ◌<◌, ◌≤◌, Bool, true, false, not, ◌&&◌, ◌||◌, if◌then◌else◌, List, length, take, slice_get, IfOk, OnOk, OnErr, IfSome, IsTrue, Some, ◌↔◌};
 ghost use Rattle.bit_net.specs.Value.{bit_at, xor, table, values};
 ghost use Rattle.bit_net.specs.Circuit.{first_nodes, input_count, ReadsBelow, IsCircuit};
 ghost use Rattle.bit_net.specs.Runs.{Grown, Gives, Always};
@@ -24,6 +24,7 @@ pub enum Node {
     Input(usize),
     Not(Gate),
     And(Gate, Gate),
+    Or(Gate, Gate),
     Xor(Gate, Gate),
 
     /// The second gate where the first holds, else the third.
@@ -132,6 +133,21 @@ impl Net {
         }
     }
 
+    /// Holds where at least one of the gates holds.
+    pub fn or(&mut self, a: Gate, b: Gate) -> Result<Gate, OutOfMemory>
+        requires a { a.at < length self.old }
+        requires b { b.at < length self.old }
+        ensures grown { Grown self.old self.new }
+        ensures ok { IfOk result (λ r. Gives self.new r.at (λ choice v. v a.at || v b.at)) }
+        ensures err { OnErr result (self.new ≡ self.old) }
+    {
+        match self.folded_or(a, b) {
+            Some(gate) => Ok(gate),
+            None if a.at < b.at => self.gate_of(Node::Or(a, b)),
+            None => self.gate_of(Node::Or(b, a)),
+        }
+    }
+
     /// Holds where just one of the gates holds.
     pub fn xor(&mut self, a: Gate, b: Gate) -> Result<Gate, OutOfMemory>
         requires a { a.at < length self.old }
@@ -158,6 +174,7 @@ impl Net {
         requires { a.at < length self.old }
         ensures grown { Grown self.old self.new }
         ensures ok { IfOk result (λ r. Gives self.new r.at (λ choice v. not (v a.at))) }
+        ensures front { take (length self.old) self.new ≡ self.old }
         ensures err { OnErr result (self.new ≡ self.old) }
     {
         match self.known_opposite(a) {
@@ -178,10 +195,9 @@ impl Net {
         if let Some(gate) = self.folded_mux(c, a, b) {
             return Ok(gate);
         }
-        match (self.known(a), self.known(b)) {
-            (Some(false), Some(true)) => self.not(c),
-            (_, Some(false)) => self.and(c, a),
-            _ => self.gate_of(Node::Mux(c, a, b)),
+        match self.known_opposite(c) {
+            Some(opposite) => self.chosen(opposite, b, a),
+            None => self.chosen(c, a, b),
         }
     }
 
@@ -202,6 +218,7 @@ impl Net {
         requires { ReadsBelow (length self.old) 0 node }
         ensures grown { Grown self.old self.new }
         ensures ok { IfOk result (λ r. Gives self.new r.at (λ choice v. table choice v node)) }
+        ensures front { take (length self.old) self.new ≡ self.old }
         ensures err { OnErr result (self.new ≡ self.old) }
     {
         let (at, _) = self.nodes.insert_full(node)?;
@@ -233,27 +250,81 @@ impl Net {
         }
     }
 
-    /// Whether one of the two gates is seen to be made as the opposite of the other.
-    fn are_opposite(&self, a: Gate, b: Gate) -> bool
-        requires a { a.at < length self.now }
-        requires b { b.at < length self.now }
-        ensures { IsTrue result → Always self.now (λ choice v. v a.at ≡ not (v b.at)) }
+    /// Has the value of `a` where `c` holds, else that of `b`: by a gate of two operands where one shows that it suffices.
+    fn chosen(&mut self, c: Gate, a: Gate, b: Gate) -> Result<Gate, OutOfMemory>
+        requires c { c.at < length self.old }
+        requires a { a.at < length self.old }
+        requires b { b.at < length self.old }
+        ensures grown { Grown self.old self.new }
+        ensures ok { IfOk result (λ r. Gives self.new r.at (λ choice v. if v c.at then v a.at else v b.at)) }
+        ensures err { OnErr result (self.new ≡ self.old) }
     {
-        match self.known_opposite(b) {
-            Some(opposite) if opposite.at == a.at => true,
-            _ => self.is_opposite_of(a, b),
+        if self.implies(c, a) {
+            return self.or(c, b);
         }
+        if self.implies(b, c) {
+            return self.and(c, a);
+        }
+        if self.excludes(c, a) {
+            return self.and_inverse(c, b);
+        }
+        if self.covers(c, b) {
+            return self.or_inverse(c, a);
+        }
+        if self.are_opposite(a, b) {
+            return self.xor(c, b);
+        }
+        self.gate_of(Node::Mux(c, a, b))
     }
 
-    /// Whether b is seen to be the opposite of a.
-    fn is_opposite_of(&self, a: Gate, b: Gate) -> bool
-        requires { a.at < length self.now }
-        ensures { IsTrue result → Always self.now (λ choice v. v a.at ≡ not (v b.at)) }
+    /// Holds where `c` does not and `b` does. Where `c` is made by `xor` of `b` and another gate, that is where both of these hold.
+    fn and_inverse(&mut self, c: Gate, b: Gate) -> Result<Gate, OutOfMemory>
+        requires c { c.at < length self.old }
+        requires b { b.at < length self.old }
+        ensures grown { Grown self.old self.new }
+        ensures ok { IfOk result (λ r. Gives self.new r.at (λ choice v. not (v c.at) && v b.at)) }
+        ensures err { OnErr result (self.new ≡ self.old) }
     {
-        match self.known_opposite(a) {
-            Some(opposite) => opposite.at == b.at,
-            None => false,
+        if let Some(other) = self.other_operand(c, b) {
+            return self.and(b, other);
         }
+        self.sound();
+        let gates = self.len();
+        let inverse = self.not(c)?;
+        let made = self.and(inverse, b);
+        self.or_back(gates, made)
+    }
+
+    /// Holds where `c` does not or `a` does.
+    fn or_inverse(&mut self, c: Gate, a: Gate) -> Result<Gate, OutOfMemory>
+        requires c { c.at < length self.old }
+        requires a { a.at < length self.old }
+        ensures grown { Grown self.old self.new }
+        ensures ok { IfOk result (λ r. Gives self.new r.at (λ choice v. not (v c.at) || v a.at)) }
+        ensures err { OnErr result (self.new ≡ self.old) }
+    {
+        self.sound();
+        let gates = self.len();
+        let inverse = self.not(c)?;
+        let made = self.or(inverse, a);
+        self.or_back(gates, made)
+    }
+
+    /// What was made, or after a refusal the net as it was when it had this number of gates.
+    fn or_back(
+        &mut self,
+        gates: usize,
+        made: Result<Gate, OutOfMemory>,
+    ) -> Result<Gate, OutOfMemory>
+        requires { OnErr made (IsCircuit (take gates self.old)) }
+        ensures made { result ≡ made }
+        ensures ok { OnOk result (self.new ≡ self.old) }
+        ensures err { OnErr result (self.new ≡ take gates self.old) }
+    {
+        if made.is_err() {
+            self.nodes.truncate(gates);
+        }
+        made
     }
 
     /// A gate that is there already and holds where both gates hold, as far as the operands show one.
@@ -262,15 +333,34 @@ impl Net {
         requires b { b.at < length self.now }
         ensures { IfSome result (λ r. Gives self.now r.at (λ choice v. v a.at && v b.at)) }
     {
-        match (self.known(a), self.known(b)) {
-            (Some(false), _) => Some(a),
-            (Some(true), _) => Some(b),
-            (_, Some(false)) => Some(b),
-            (_, Some(true)) => Some(a),
-            _ if a.at == b.at => Some(a),
-            _ if self.are_opposite(a, b) => Some(self.constant(false)),
-            _ => None,
+        if self.implies(a, b) {
+            return Some(a);
         }
+        if self.implies(b, a) {
+            return Some(b);
+        }
+        if self.excludes(a, b) {
+            return Some(self.constant(false));
+        }
+        None
+    }
+
+    /// A gate that is there already and holds where at least one of the gates holds, as far as the operands show one.
+    fn folded_or(&self, a: Gate, b: Gate) -> Option<Gate>
+        requires a { a.at < length self.now }
+        requires b { b.at < length self.now }
+        ensures { IfSome result (λ r. Gives self.now r.at (λ choice v. v a.at || v b.at)) }
+    {
+        if self.implies(a, b) {
+            return Some(b);
+        }
+        if self.implies(b, a) {
+            return Some(a);
+        }
+        if self.covers(a, b) {
+            return Some(self.constant(true));
+        }
+        None
     }
 
     /// A gate that is there already and holds where just one of the gates holds, as far as the operands show one.
@@ -284,6 +374,31 @@ impl Net {
             (_, Some(false)) => Some(a),
             _ if a.at == b.at => Some(self.constant(false)),
             _ if self.are_opposite(a, b) => Some(self.constant(true)),
+            _ => self.difference_within(a, b),
+        }
+    }
+
+    /// The other operand, where one of the gates is made of the other by `xor`.
+    fn difference_within(&self, a: Gate, b: Gate) -> Option<Gate>
+        requires a { a.at < length self.now }
+        requires b { b.at < length self.now }
+        ensures { IfSome result (λ r. Gives self.now r.at (λ choice v. xor (v a.at) (v b.at))) }
+    {
+        match self.other_operand(a, b) {
+            Some(other) => Some(other),
+            None => self.other_operand(b, a),
+        }
+    }
+
+    /// The operand of the gate `whole` beside `part`, where it is made of these two by `xor`.
+    fn other_operand(&self, whole: Gate, part: Gate) -> Option<Gate>
+        requires { whole.at < length self.now }
+        ensures { IfSome result (λ r. Gives self.now r.at (λ choice v. xor (v whole.at) (v part.at))) }
+    {
+        self.sound();
+        match self.node(whole) {
+            Node::Xor(x, y) if x.at == part.at => Some(y),
+            Node::Xor(x, y) if y.at == part.at => Some(x),
             _ => None,
         }
     }
@@ -315,6 +430,7 @@ fn value_of(node: &Node, choice: &[bool], seen: &[bool]) -> bool
         Node::Input(k) => choice[k],
         Node::Not(a) => !seen[a.at],
         Node::And(a, b) => seen[a.at] && seen[b.at],
+        Node::Or(a, b) => seen[a.at] || seen[b.at],
         Node::Xor(a, b) => seen[a.at] != seen[b.at],
         Node::Mux(c, a, b) => if seen[c.at] { seen[a.at] } else { seen[b.at] },
     }

@@ -1,8 +1,8 @@
 pub mod NumberLemmas
-pub mod NetLemmas
 pub mod StepLemmas
 pub mod LoopLemmas
 pub mod SpellLemmas
 pub mod SignLemmas
 pub mod ProductLemmas
 pub mod MoveLemmas
+pub mod MakeLemmas

@@ -1,8 +1,8 @@
 -- One turn of each loop over the bits of words: what is known of the bits so far, and one bit more.
-use Rattle.std.proofs.Common.{◌≡◌, ℕ, ◌+◌, ◌-◌, ◌*◌, ◌^◌, ◌<◌, ◌≤◌, Bool, true, false, not, ◌&&◌, if◌then◌else◌, nat_eq, nat_lt, List, [], ◌∷◌, ◌++◌, length, take, drop, reverse, get_or, refl, sym, ◌∙◌, ap, subst, arith, add-one, length-take, length-drop}
+use Rattle.std.proofs.Common.{◌≡◌, ℕ, ◌+◌, ◌-◌, ◌*◌, ◌^◌, ◌<◌, ◌≤◌, Bool, true, false, not, ◌&&◌, ◌||◌, if◌then◌else◌, nat_eq, nat_lt, List, [], ◌∷◌, ◌++◌, length, take, drop, reverse, get_or, refl, sym, ◌∙◌, ap, subst, arith, add-one, length-take, length-drop}
 use Rattle.std.proofs.Math.Nat.{pow-suc}
 use Rattle.std.proofs.lemmas.List.{drop_all}
-use Rattle.std.proofs.lemmas.Bool.{eq-eqb}
+use Rattle.std.proofs.lemmas.Bool.{eq-eqb, ne_eqb}
 use Rattle.bit_net.specs.declared.nodes.Gate.{Gate}
 use Rattle.bit_net.specs.Value.{xor}
 use Rattle.bit_words.specs.declared.bits.Bitwise.{Bitwise}
@@ -10,7 +10,7 @@ use Rattle.bit_words.specs.declared.bits.Bitwise.TheVariants.{And, Or, Xor}
 use Rattle.bit_words.specs.Parts.{bit_of, number_of}
 use Rattle.bit_words.specs.Number.{bit, number}
 use Rattle.bit_words.proofs.NumberLemmas.{number-nil, number-push, number-take, number-below, number-drop_more, number-reverse_push}
-use Rattle.bit_words.proofs.StepLemmas.{sum_more, flip_more, select_more, equal_more, less_more, and_more, or_more, xor_more}
+use Rattle.bit_words.proofs.StepLemmas.{sum_more, flip_more, select_more, equal_more, nonzero_more, less_more, and_more, or_more, xor_more}
 
 -- 2 ^ (i + 1), in the order of the steps
 double : (i : ℕ) → 2 ^ i * 2 ≡ 2 ^ (i + 1)
@@ -118,3 +118,12 @@ combine_step v operator a b bits new g d i same low e before here =
     let low' : i < length b = omega arith in
     ap (number v) e ∙ number-push v bits g ∙ rw (here, before, number-take v a i d low, number-take v b i d low')
     (combine_more operator (v (get_or a i d).at) (v (get_or b i d).at) (number v (take i a)) (number v (take i b)))
+
+pub nonzero_none : (v : ℕ → Bool) (some : ℕ) → v some ≡ false → v some ≡ not (nat_eq (number v []) 0)
+nonzero_none v some e = e ∙ ap not (sym (eq-eqb (number v []) 0 (number-nil v)))
+
+pub nonzero_step : (v : ℕ → Bool) (a : List Gate) (d : Gate) (some new i : ℕ) → i < length a
+    → v some ≡ not (nat_eq (number v (take i a)) 0) → v new ≡ (v some || v (get_or a i d).at)
+    → v new ≡ not (nat_eq (number v (take (i + 1) a)) 0)
+nonzero_step v a d some new i low before here =
+    here ∙ rw (before, number-take v a i d low) (nonzero_more (v (get_or a i d).at) (number v (take i a)))

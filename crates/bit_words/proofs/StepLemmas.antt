@@ -1,5 +1,5 @@
 -- One bit more, in each of the circuits: facts over plain bits and numbers.
-use Rattle.std.proofs.Common.{◌≡◌, ℕ, suc, ◌+◌, ◌-◌, ◌*◌, ◌/◌, ◌%◌, ◌^◌, ◌<◌, ◌≤◌, Bool, true, false, not, ◌&&◌, ◌||◌, if◌then◌else◌, nat_eq, nat_lt, refl, sym, ◌∙◌, ap, subst, arith, ◌⊎◌, inl, inr}
+use Rattle.std.proofs.Common.{◌≡◌, ℕ, zero, suc, ◌+◌, ◌-◌, ◌*◌, ◌/◌, ◌%◌, ◌^◌, ◌<◌, ◌≤◌, Bool, true, false, not, ◌&&◌, ◌||◌, if◌then◌else◌, nat_eq, nat_lt, refl, sym, ◌∙◌, ap, subst, arith, ◌⊎◌, inl, inr}
 use Rattle.std.specs.Prelude.{bit_and, bit_or, bit_xor, nat_le}
 use Rattle.std.proofs.Math.Nat.{pow-suc, pow-le-pow_right, mod-eq_of_lt, add-mod, mod-mod, div-add-mod', mod-lt}
 use Rattle.std.proofs.lemmas.Nat.{mod-mul-add, div-mul-add, and_block, or_block, xor_block}
@@ -44,6 +44,40 @@ equal_more false false m n = by (cases_eq m n)
     by : (m ≡ n) ⊎ (m ≡ n → ⊥) → (nat_eq m n && true) ≡ nat_eq (2 * m + 0) (2 * n + 0)
     by (inl e) = rw (eq-eqb m n e) (sym (eq-eqb (2 * m + 0) (2 * n + 0) (omega arith)))
     by (inr e) = rw (ne_eqb m n e) (sym (ne_eqb (2 * m + 0) (2 * n + 0) (λ h. e (omega arith))))
+
+-- one bit more of a test for zero
+pub nonzero_more : (x : Bool) (m : ℕ) → (not (nat_eq m 0) || x) ≡ not (nat_eq (2 * m + bit x) 0)
+nonzero_more true m = or-true (not (nat_eq m 0)) ∙ ap not (sym (ne_eqb (2 * m + 1) 0 (λ h. omega arith)))
+  where
+    or-true : (b : Bool) → (b || true) ≡ true
+    or-true true = refl
+    or-true false = refl
+nonzero_more false m = by (cases_eq m 0)
+  where
+    by : (m ≡ 0) ⊎ (m ≡ 0 → ⊥) → (not (nat_eq m 0) || false) ≡ not (nat_eq (2 * m + 0) 0)
+    by (inl e) = rw (eq-eqb m 0 e) (ap not (sym (eq-eqb (2 * m + 0) 0 (omega arith))))
+    by (inr e) = rw (ne_eqb m 0 e) (ap not (sym (ne_eqb (2 * m + 0) 0 (λ h. e (omega arith)))))
+
+below_double : (b p m : ℕ) → b < 2 → m < p → b * p + m < p * 2
+below_double zero p m h l = omega arith
+below_double (suc zero) p m h l = omega arith
+below_double (suc (suc b)) p m h l = absurd (omega arith)
+
+-- one bit more of the low bits of a number, p = 2 ^ i, and what is left above it
+pub number_more : (p n : ℕ) → 0 < p → (n / p % 2 * p + n % p ≡ n % (p * 2)) × (n / p / 2 ≡ n / (p * 2))
+number_more p n pos' =
+    let whole : n ≡ (n / p / 2) * (p * 2) + (n / p % 2 * p + n % p) = omega (arith, div-add-mod' n p, ap (λ k. k * p) (div-add-mod' (n / p) 2)) in
+    let low : n / p % 2 * p + n % p < p * 2 = below_double (n / p % 2) p (n % p) (mod-lt (n / p) (omega arith)) (mod-lt n pos') in (
+      sym (ap (λ k. k % (p * 2)) whole ∙ mod-mul-add (n / p / 2) (p * 2) (n / p % 2 * p + n % p) low),
+      sym (ap (λ k. k / (p * 2)) whole ∙ div-mul-add (n / p / 2) (p * 2) (n / p % 2 * p + n % p) low),
+    )
+
+pub odd_bit : (rest : ℕ) → bit (nat_eq (rest % 2) 1) ≡ rest % 2
+odd_bit rest = by (cases_eq (rest % 2) 1) (mod-lt rest (omega arith))
+  where
+    by : (rest % 2 ≡ 1) ⊎ (rest % 2 ≡ 1 → ⊥) → rest % 2 < 2 → bit (nat_eq (rest % 2) 1) ≡ rest % 2
+    by (inl e) low = ap bit (eq-eqb (rest % 2) 1 e) ∙ sym e
+    by (inr e) low = let zero' : rest % 2 ≡ 0 = omega (arith, e) in ap bit (ne_eqb (rest % 2) 1 e) ∙ sym zero'
 
 -- the bits above decide where they differ, else those below
 pub less_more : (x y : Bool) (p m n : ℕ) → m < p → n < p → (if xor x y then y else nat_lt m n) ≡ nat_lt (bit x * p + m) (bit y * p + n)

@@ -1,5 +1,6 @@
 //! Circuits that go over the bits of words one by one: inverting, choosing, bitwise operators, tests.
-ghost use Rattle.std.specs.Prelude.{◌≡◌, ℕ, ◌+◌, ◌-◌, ◌^◌, ◌<◌, ◌≤◌, not, ◌&&◌, if◌then◌else◌, nat_eq, nat_lt, int_lt, length, IfOk};
+ghost use Rattle.std.specs.Prelude.{◌≡◌, ℕ, ◌+◌, ◌-◌, ◌^◌, ◌<◌, ◌≤◌, not, ◌&&◌, if◌then◌else◌};
+ghost use Rattle.std.specs.Prelude.{nat_eq, nat_lt, int_lt, length, IfOk};
 ghost use Rattle.bit_net.specs.Value.{xor};
 ghost use Rattle.bit_net.specs.Runs.{Grown, Gives};
 ghost use Rattle.bit_words.specs.Number.{number, top, signed};
@@ -68,10 +69,9 @@ pub fn apply(net: &mut Net, operator: Bitwise, a: Gate, b: Gate) -> Result<Gate,
     ensures grown { Grown net.old net.new }
     ensures ok { IfOk result (λ r. Gives net.new r.at (λ choice v. bit_of operator (v a.at) (v b.at))) }
 {
-    let yes = net.constant(true);
     match operator {
         Bitwise::And => net.and(a, b),
-        Bitwise::Or => net.mux(a, yes, b),
+        Bitwise::Or => net.or(a, b),
         Bitwise::Xor => net.xor(a, b),
     }
 }
@@ -109,6 +109,31 @@ fn and_equal(net: &mut Net, all: Gate, a: Gate, b: Gate) -> Result<Gate, OutOfMe
     let differ = net.xor(a, b)?;
     let same = net.not(differ)?;
     net.and(all, same)
+}
+
+/// Holds where the word is not zero: where some bit of it holds.
+#[tactic(auto, using(crate::proofs::NumberLemmas::bound_laws))]
+pub fn nonzero(net: &mut Net, a: &[Gate]) -> Result<Gate, OutOfMemory>
+    requires { top a.now ≤ length net.old }
+    ensures grown { Grown net.old net.new }
+    ensures ok { IfOk result (λ r. Gives net.new r.at (λ choice v. not (nat_eq (number v a.now) 0))) }
+{
+    let mut some = net.constant(false);
+    for i in 0..a.len() {
+        let more = net.or(some, a[i])?;
+        some = more;
+    }
+    Ok(some)
+}
+
+/// Holds where the word is zero.
+pub fn zero(net: &mut Net, a: &[Gate]) -> Result<Gate, OutOfMemory>
+    requires { top a.now ≤ length net.old }
+    ensures grown { Grown net.old net.new }
+    ensures ok { IfOk result (λ r. Gives net.new r.at (λ choice v. nat_eq (number v a.now) 0)) }
+{
+    let some = nonzero(net, a)?;
+    net.not(some)
 }
 
 /// Holds where the two words are equal.
@@ -166,7 +191,8 @@ pub fn less_signed(net: &mut Net, a: &[Gate], b: &[Gate]) -> Result<Gate, OutOfM
     requires a { top a.now ≤ length net.old }
     requires b { top b.now ≤ length net.old }
     ensures grown { Grown net.old net.new }
-    ensures ok { IfOk result (λ r. Gives net.new r.at (λ choice v. int_lt (signed (length a.now) (number v a.now)) (signed (length a.now) (number v b.now)))) }
+    ensures ok { IfOk result (λ r. Gives net.new r.at
+        (λ choice v. int_lt (signed (length a.now) (number v a.now)) (signed (length a.now) (number v b.now)))) }
 {
     let below = less(net, &a[1..], &b[1..])?;
     less_bit(net, b[0], a[0], below)

@@ -1,6 +1,6 @@
 //! Restoring division, and the quotient and remainder of signed words by their magnitudes.
-ghost use Rattle.std.specs.Prelude.{◌≡◌, ℕ, ◌<◌, ◌≤◌, not, length, nat_eq, IfOk};
-ghost use Rattle.bit_net.specs.Runs.{Grown, Gives};
+ghost use Rattle.std.specs.Prelude.{◌≡◌, ℕ, ◌<◌, ◌≤◌, length, IfOk};
+ghost use Rattle.bit_net.specs.Runs.{Grown};
 ghost use Rattle.bit_words.specs.Number.{number, top, signed_quotient, signed_remainder};
 ghost use Rattle.bit_words.specs.Parts.{IsDivideStep, IsDivision, IsDivisionOfMagnitudes};
 ghost use Rattle.bit_words.specs.Spells.{Spells};
@@ -22,19 +22,8 @@ struct DivideStep {
     rest: Vec<Gate>,
 }
 
-/// Holds where the word is not zero.
-fn nonzero(net: &mut Net, a: &[Gate]) -> Result<Gate, OutOfMemory>
-    requires { top a.now ≤ length net.old }
-    ensures grown { Grown net.old net.new }
-    ensures ok { IfOk result (λ r. Gives net.new r.at (λ choice v. not (nat_eq (number v a.now) 0))) }
-{
-    let none = bits::repeated(net, net.constant(false), a.len())?;
-    let zero = bits::equal(net, a, &none)?;
-    net.not(zero)
-}
-
-#[tactic(auto, using(crate::proofs::NumberLemmas::bound_laws))]
 /// What is left so far with one bit more behind it: takes the divisor away where it goes into that and `divides` holds.
+#[tactic(auto, using(crate::proofs::NumberLemmas::bound_laws))]
 fn divide_step(
     net: &mut Net,
     rest: &[Gate],
@@ -60,8 +49,8 @@ fn divide_step(
     Ok(DivideStep { bit: goes, rest })
 }
 
-#[tactic(auto, using(crate::proofs::NumberLemmas::bound_laws))]
 /// The quotient and the remainder of two words of one width; for a zero divisor 0 and the dividend.
+#[tactic(auto, using(crate::proofs::NumberLemmas::bound_laws))]
 pub fn divide(net: &mut Net, a: &[Gate], divisor: &[Gate]) -> Result<Division, OutOfMemory>
     requires same { length a.now ≡ length divisor.now }
     requires a { top a.now ≤ length net.old }
@@ -70,7 +59,7 @@ pub fn divide(net: &mut Net, a: &[Gate], divisor: &[Gate]) -> Result<Division, O
     ensures ok { IfOk result (λ r. IsDivision net.new r.quotient.items r.rest.items a.now divisor.now) }
 {
     let mut rest = bits::repeated(net, net.constant(false), divisor.len())?;
-    let divides = nonzero(net, divisor)?;
+    let divides = bits::nonzero(net, divisor)?;
     let mut quotient = Vec::new(net.alloc());
     for i in 0..a.len() {
         let step = divide_step(net, &rest, a[i], divisor, divides)?;
@@ -80,8 +69,8 @@ pub fn divide(net: &mut Net, a: &[Gate], divisor: &[Gate]) -> Result<Division, O
     Ok(Division { quotient, rest })
 }
 
-#[tactic(auto, using(crate::proofs::NumberLemmas::bound_laws))]
 /// The quotient and the remainder of the magnitudes of two signed words.
+#[tactic(auto, using(crate::proofs::NumberLemmas::bound_laws))]
 fn divide_magnitudes(net: &mut Net, a: &[Gate], b: &[Gate]) -> Result<Division, OutOfMemory>
     requires some { 0 < length a.now }
     requires same { length a.now ≡ length b.now }
@@ -95,8 +84,8 @@ fn divide_magnitudes(net: &mut Net, a: &[Gate], b: &[Gate]) -> Result<Division, 
     divide(net, &dividend, &divisor)
 }
 
-#[tactic(auto, using(crate::proofs::NumberLemmas::bound_laws))]
 /// The quotient of two signed words, rounded toward zero; 0 for a zero divisor.
+#[tactic(auto, using(crate::proofs::NumberLemmas::bound_laws))]
 pub fn quotient_signed(net: &mut Net, a: &[Gate], b: &[Gate]) -> Result<Vec<Gate>, OutOfMemory>
     requires some { 0 < length a.now }
     requires same { length a.now ≡ length b.now }
@@ -110,8 +99,8 @@ pub fn quotient_signed(net: &mut Net, a: &[Gate], b: &[Gate]) -> Result<Vec<Gate
     adding::negated(net, &division.quotient, minus)
 }
 
-#[tactic(auto, using(crate::proofs::NumberLemmas::bound_laws))]
 /// The remainder that goes with that quotient, with the sign of the dividend; the dividend for a zero divisor.
+#[tactic(auto, using(crate::proofs::NumberLemmas::bound_laws))]
 pub fn remainder_signed(net: &mut Net, a: &[Gate], b: &[Gate]) -> Result<Vec<Gate>, OutOfMemory>
     requires some { 0 < length a.now }
     requires same { length a.now ≡ length b.now }

@@ -5,15 +5,18 @@
 //! signed, and what each call makes of numbers. After `OutOfMemory` the net may have more gates; earlier gates keep their values.
 #![tactic(auto)]
 
-ghost use Rattle.std.specs.Prelude.{◌≡◌, ℕ, ◌+◌, ◌*◌, ◌/◌, ◌%◌, ◌^◌, ◌<◌, ◌≤◌, length, IfOk, nat_eq, nat_lt, int_lt, bit_and, bit_or, bit_xor};
+ghost use Rattle.std.specs.Prelude.{◌≡◌, ℕ, ◌+◌, ◌*◌, ◌/◌, ◌%◌, ◌^◌, ◌<◌, ◌≤◌, if◌then◌else◌, length, IfOk};
+ghost use Rattle.std.specs.Prelude.{nat_eq, nat_lt, int_lt, bit_and, bit_or, bit_xor};
 ghost use Rattle.bit_net.specs.Runs.{Grown, Gives};
-ghost use Rattle.bit_words.specs.Number.{number, top, signed, wrapped, difference, quotient, remainder, signed_quotient, signed_remainder, moved_down, converted};
+ghost use Rattle.bit_words.specs.Number.{bit, number, top, signed, wrapped, difference, quotient, remainder};
+ghost use Rattle.bit_words.specs.Number.{signed_quotient, signed_remainder, moved_down, converted};
 ghost use Rattle.bit_words.specs.Spells.{Spells};
 
 mod adding;
 mod bits;
 mod converting;
 mod dividing;
+mod making;
 mod multiplying;
 mod shifting;
 #[cfg(test)]
@@ -29,13 +32,65 @@ pub struct Word {
     pub bits: Vec<Gate>,
 }
 
+impl Word {
+    /// The same word once more.
+    pub fn try_clone(&self, net: &Net) -> Result<Word, OutOfMemory>
+        ensures { IfOk result (λ r. r.bits.items ≡ self.now.bits.items) }
+    {
+        let bits = Vec::from_slice(net.alloc(), &self.bits)?;
+        Ok(Word { bits })
+    }
+}
+
+/// The word of `width` bits that is 1 where the gate holds and 0 elsewhere. It makes no gate.
+pub fn of_gate(net: &Net, gate: Gate, width: usize) -> Result<Word, OutOfMemory>
+    requires some { 0 < width }
+    requires gate { gate.at < length net.now }
+    ensures { IfOk result (λ r. Spells net.now r.bits.items width (λ v. bit (v gate.at))) }
+{
+    let bits = making::gate_word(net, gate, width)?;
+    Ok(Word { bits })
+}
+
+/// The word of the low `width` bits of a number, for every choice (C11 6.3.1.3). It makes no gate.
+pub fn constant(net: &Net, n: u64, width: usize) -> Result<Word, OutOfMemory>
+    ensures { IfOk result (λ r. Spells net.now r.bits.items width (λ v. n % 2 ^ width)) }
+{
+    let bits = making::number_word(net, n, width)?;
+    Ok(Word { bits })
+}
+
+/// Holds where the number of the word is 0, as what compares equal to 0 in a condition (C11 6.8.4.1).
+pub fn is_zero(net: &mut Net, a: &Word) -> Result<Gate, OutOfMemory>
+    requires { top a.now.bits.items ≤ length net.old }
+    ensures grown { Grown net.old net.new }
+    ensures ok { IfOk result (λ r. Gives net.new r.at (λ choice v. nat_eq (number v a.now.bits.items) 0)) }
+{
+    bits::zero(net, &a.bits)
+}
+
+/// The word `a` where `c` holds, else the word `b`, which has its width.
+pub fn select(net: &mut Net, c: Gate, a: &Word, b: &Word) -> Result<Word, OutOfMemory>
+    requires same { length a.now.bits.items ≡ length b.now.bits.items }
+    requires c { c.at < length net.old }
+    requires a { top a.now.bits.items ≤ length net.old }
+    requires b { top b.now.bits.items ≤ length net.old }
+    ensures grown { Grown net.old net.new }
+    ensures ok { IfOk result (λ r. Spells net.new r.bits.items (length a.now.bits.items)
+        (λ v. if v c.at then number v a.now.bits.items else number v b.now.bits.items)) }
+{
+    let bits = bits::select(net, c, &a.bits, &b.bits)?;
+    Ok(Word { bits })
+}
+
 /// The sum of two words of one width, modulo 2 to the width (C11 6.2.5, 6.5.6).
 pub fn add(net: &mut Net, a: &Word, b: &Word) -> Result<Word, OutOfMemory>
     requires same { length a.now.bits.items ≡ length b.now.bits.items }
     requires a { top a.now.bits.items ≤ length net.old }
     requires b { top b.now.bits.items ≤ length net.old }
     ensures grown { Grown net.old net.new }
-    ensures ok { IfOk result (λ r. Spells net.new r.bits.items (length a.now.bits.items) (λ v. (number v a.now.bits.items + number v b.now.bits.items) % 2 ^ length a.now.bits.items)) }
+    ensures ok { IfOk result (λ r. Spells net.new r.bits.items (length a.now.bits.items)
+        (λ v. (number v a.now.bits.items + number v b.now.bits.items) % 2 ^ length a.now.bits.items)) }
 {
     let none = net.constant(false);
     let sum = adding::sum_of(net, &a.bits, &b.bits, none)?;
@@ -48,7 +103,8 @@ pub fn sub(net: &mut Net, a: &Word, b: &Word) -> Result<Word, OutOfMemory>
     requires a { top a.now.bits.items ≤ length net.old }
     requires b { top b.now.bits.items ≤ length net.old }
     ensures grown { Grown net.old net.new }
-    ensures ok { IfOk result (λ r. Spells net.new r.bits.items (length a.now.bits.items) (λ v. difference (length a.now.bits.items) (number v a.now.bits.items) (number v b.now.bits.items))) }
+    ensures ok { IfOk result (λ r. Spells net.new r.bits.items (length a.now.bits.items)
+        (λ v. difference (length a.now.bits.items) (number v a.now.bits.items) (number v b.now.bits.items))) }
 {
     let difference = adding::difference_of(net, &a.bits, &b.bits)?;
     Ok(Word {
@@ -62,7 +118,8 @@ pub fn mul(net: &mut Net, a: &Word, b: &Word) -> Result<Word, OutOfMemory>
     requires a { top a.now.bits.items ≤ length net.old }
     requires b { top b.now.bits.items ≤ length net.old }
     ensures grown { Grown net.old net.new }
-    ensures ok { IfOk result (λ r. Spells net.new r.bits.items (length a.now.bits.items) (λ v. (number v a.now.bits.items * number v b.now.bits.items) % 2 ^ length a.now.bits.items)) }
+    ensures ok { IfOk result (λ r. Spells net.new r.bits.items (length a.now.bits.items)
+        (λ v. (number v a.now.bits.items * number v b.now.bits.items) % 2 ^ length a.now.bits.items)) }
 {
     let bits = multiplying::product(net, &a.bits, &b.bits)?;
     Ok(Word { bits })
@@ -74,7 +131,8 @@ pub fn and_words(net: &mut Net, a: &Word, b: &Word) -> Result<Word, OutOfMemory>
     requires a { top a.now.bits.items ≤ length net.old }
     requires b { top b.now.bits.items ≤ length net.old }
     ensures grown { Grown net.old net.new }
-    ensures ok { IfOk result (λ r. Spells net.new r.bits.items (length a.now.bits.items) (λ v. bit_and (number v a.now.bits.items) (number v b.now.bits.items))) }
+    ensures ok { IfOk result (λ r. Spells net.new r.bits.items (length a.now.bits.items)
+        (λ v. bit_and (number v a.now.bits.items) (number v b.now.bits.items))) }
 {
     let bits = bits::combine(net, Bitwise::And, &a.bits, &b.bits)?;
     Ok(Word { bits })
@@ -86,7 +144,8 @@ pub fn or_words(net: &mut Net, a: &Word, b: &Word) -> Result<Word, OutOfMemory>
     requires a { top a.now.bits.items ≤ length net.old }
     requires b { top b.now.bits.items ≤ length net.old }
     ensures grown { Grown net.old net.new }
-    ensures ok { IfOk result (λ r. Spells net.new r.bits.items (length a.now.bits.items) (λ v. bit_or (number v a.now.bits.items) (number v b.now.bits.items))) }
+    ensures ok { IfOk result (λ r. Spells net.new r.bits.items (length a.now.bits.items)
+        (λ v. bit_or (number v a.now.bits.items) (number v b.now.bits.items))) }
 {
     let bits = bits::combine(net, Bitwise::Or, &a.bits, &b.bits)?;
     Ok(Word { bits })
@@ -98,7 +157,8 @@ pub fn xor_words(net: &mut Net, a: &Word, b: &Word) -> Result<Word, OutOfMemory>
     requires a { top a.now.bits.items ≤ length net.old }
     requires b { top b.now.bits.items ≤ length net.old }
     ensures grown { Grown net.old net.new }
-    ensures ok { IfOk result (λ r. Spells net.new r.bits.items (length a.now.bits.items) (λ v. bit_xor (number v a.now.bits.items) (number v b.now.bits.items))) }
+    ensures ok { IfOk result (λ r. Spells net.new r.bits.items (length a.now.bits.items)
+        (λ v. bit_xor (number v a.now.bits.items) (number v b.now.bits.items))) }
 {
     let bits = bits::combine(net, Bitwise::Xor, &a.bits, &b.bits)?;
     Ok(Word { bits })
@@ -110,7 +170,8 @@ pub fn div_u(net: &mut Net, a: &Word, b: &Word) -> Result<Word, OutOfMemory>
     requires a { top a.now.bits.items ≤ length net.old }
     requires b { top b.now.bits.items ≤ length net.old }
     ensures grown { Grown net.old net.new }
-    ensures ok { IfOk result (λ r. Spells net.new r.bits.items (length a.now.bits.items) (λ v. quotient (number v a.now.bits.items) (number v b.now.bits.items))) }
+    ensures ok { IfOk result (λ r. Spells net.new r.bits.items (length a.now.bits.items)
+        (λ v. quotient (number v a.now.bits.items) (number v b.now.bits.items))) }
 {
     let division = dividing::divide(net, &a.bits, &b.bits)?;
     Ok(Word {
@@ -126,7 +187,8 @@ pub fn div_s(net: &mut Net, a: &Word, b: &Word) -> Result<Word, OutOfMemory>
     requires a { top a.now.bits.items ≤ length net.old }
     requires b { top b.now.bits.items ≤ length net.old }
     ensures grown { Grown net.old net.new }
-    ensures ok { IfOk result (λ r. Spells net.new r.bits.items (length a.now.bits.items) (λ v. signed_quotient (length a.now.bits.items) (number v a.now.bits.items) (number v b.now.bits.items))) }
+    ensures ok { IfOk result (λ r. Spells net.new r.bits.items (length a.now.bits.items)
+        (λ v. signed_quotient (length a.now.bits.items) (number v a.now.bits.items) (number v b.now.bits.items))) }
 {
     let bits = dividing::quotient_signed(net, &a.bits, &b.bits)?;
     Ok(Word { bits })
@@ -138,7 +200,8 @@ pub fn rem_u(net: &mut Net, a: &Word, b: &Word) -> Result<Word, OutOfMemory>
     requires a { top a.now.bits.items ≤ length net.old }
     requires b { top b.now.bits.items ≤ length net.old }
     ensures grown { Grown net.old net.new }
-    ensures ok { IfOk result (λ r. Spells net.new r.bits.items (length a.now.bits.items) (λ v. remainder (number v a.now.bits.items) (number v b.now.bits.items))) }
+    ensures ok { IfOk result (λ r. Spells net.new r.bits.items (length a.now.bits.items)
+        (λ v. remainder (number v a.now.bits.items) (number v b.now.bits.items))) }
 {
     let division = dividing::divide(net, &a.bits, &b.bits)?;
     Ok(Word {
@@ -153,7 +216,8 @@ pub fn rem_s(net: &mut Net, a: &Word, b: &Word) -> Result<Word, OutOfMemory>
     requires a { top a.now.bits.items ≤ length net.old }
     requires b { top b.now.bits.items ≤ length net.old }
     ensures grown { Grown net.old net.new }
-    ensures ok { IfOk result (λ r. Spells net.new r.bits.items (length a.now.bits.items) (λ v. signed_remainder (length a.now.bits.items) (number v a.now.bits.items) (number v b.now.bits.items))) }
+    ensures ok { IfOk result (λ r. Spells net.new r.bits.items (length a.now.bits.items)
+        (λ v. signed_remainder (length a.now.bits.items) (number v a.now.bits.items) (number v b.now.bits.items))) }
 {
     let bits = dividing::remainder_signed(net, &a.bits, &b.bits)?;
     Ok(Word { bits })
@@ -166,7 +230,8 @@ pub fn shl(net: &mut Net, a: &Word, b: &Word) -> Result<Word, OutOfMemory>
     requires a { top a.now.bits.items ≤ length net.old }
     requires b { top b.now.bits.items ≤ length net.old }
     ensures grown { Grown net.old net.new }
-    ensures ok { IfOk result (λ r. Spells net.new r.bits.items (length a.now.bits.items) (λ v. (number v a.now.bits.items * 2 ^ number v b.now.bits.items) % 2 ^ length a.now.bits.items)) }
+    ensures ok { IfOk result (λ r. Spells net.new r.bits.items (length a.now.bits.items)
+        (λ v. (number v a.now.bits.items * 2 ^ number v b.now.bits.items) % 2 ^ length a.now.bits.items)) }
 {
     let bits = shifting::shift(net, Direction::Up, &a.bits, &b.bits)?;
     Ok(Word { bits })
@@ -179,7 +244,8 @@ pub fn shr_u(net: &mut Net, a: &Word, b: &Word) -> Result<Word, OutOfMemory>
     requires a { top a.now.bits.items ≤ length net.old }
     requires b { top b.now.bits.items ≤ length net.old }
     ensures grown { Grown net.old net.new }
-    ensures ok { IfOk result (λ r. Spells net.new r.bits.items (length a.now.bits.items) (λ v. number v a.now.bits.items / 2 ^ number v b.now.bits.items)) }
+    ensures ok { IfOk result (λ r. Spells net.new r.bits.items (length a.now.bits.items)
+        (λ v. number v a.now.bits.items / 2 ^ number v b.now.bits.items)) }
 {
     let bits = shifting::shift(net, Direction::Down, &a.bits, &b.bits)?;
     Ok(Word { bits })
@@ -194,7 +260,8 @@ pub fn shr_s(net: &mut Net, a: &Word, b: &Word) -> Result<Word, OutOfMemory>
     requires a { top a.now.bits.items ≤ length net.old }
     requires b { top b.now.bits.items ≤ length net.old }
     ensures grown { Grown net.old net.new }
-    ensures ok { IfOk result (λ r. Spells net.new r.bits.items (length a.now.bits.items) (λ v. wrapped (length a.now.bits.items) (moved_down (signed (length a.now.bits.items) (number v a.now.bits.items)) (number v b.now.bits.items)))) }
+    ensures ok { IfOk result (λ r. Spells net.new r.bits.items (length a.now.bits.items)
+        (λ v. wrapped (length a.now.bits.items) (moved_down (signed (length a.now.bits.items) (number v a.now.bits.items)) (number v b.now.bits.items)))) }
 {
     let bits = shifting::shift_signed(net, &a.bits, &b.bits)?;
     Ok(Word { bits })
@@ -218,7 +285,8 @@ pub fn less_s(net: &mut Net, a: &Word, b: &Word) -> Result<Gate, OutOfMemory>
     requires a { top a.now.bits.items ≤ length net.old }
     requires b { top b.now.bits.items ≤ length net.old }
     ensures grown { Grown net.old net.new }
-    ensures ok { IfOk result (λ r. Gives net.new r.at (λ choice v. int_lt (signed (length a.now.bits.items) (number v a.now.bits.items)) (signed (length a.now.bits.items) (number v b.now.bits.items)))) }
+    ensures ok { IfOk result (λ r. Gives net.new r.at
+        (λ choice v. int_lt (signed (length a.now.bits.items) (number v a.now.bits.items)) (signed (length a.now.bits.items) (number v b.now.bits.items)))) }
 {
     bits::less_signed(net, &a.bits, &b.bits)
 }
@@ -240,7 +308,8 @@ pub fn convert(net: &mut Net, a: &Word, signed: bool, width: usize) -> Result<Wo
     requires some { 0 < length a.now.bits.items }
     requires a { top a.now.bits.items ≤ length net.old }
     ensures grown { net.new ≡ net.old }
-    ensures ok { IfOk result (λ r. Spells net.new r.bits.items width (λ v. converted signed (length a.now.bits.items) width (number v a.now.bits.items))) }
+    ensures ok { IfOk result (λ r. Spells net.new r.bits.items width
+        (λ v. converted signed (length a.now.bits.items) width (number v a.now.bits.items))) }
 {
     let bits = converting::converted_to(net, &a.bits, signed, width)?;
     Ok(Word { bits })

@@ -333,3 +333,22 @@ fn ten_calls_on_one_net(rt: HostRuntime) -> Result<(), Fail> {
     assert!(rt; room[same.at]);
     Ok(())
 }
+
+/// The word of a gate, of a number and of a choice; a word once more; and whether a word is zero.
+#[test]
+fn words_of_gates_and_numbers(rt: HostRuntime) -> Result<(), Fail> {
+    let mut net = Net::new(rt.alloc(), 1)?;
+    let input = net.input(0);
+    let yes = net.constant(true);
+    let no = net.constant(false);
+    let bit = of_gate(&net, input, 3)?;
+    assert_eq!(rt; bit.bits.as_slice(), [no, no, input].as_slice());
+    let zero = is_zero(&mut net, &bit)?;
+    assert_eq!(rt; zero, net.not(input)?);
+    let five = constant(&net, 13, 3)?;
+    assert_eq!(rt; five.bits.as_slice(), [yes, no, yes].as_slice());
+    let again = five.try_clone(&net)?;
+    let same = select(&mut net, input, &five, &again)?;
+    assert_eq!(rt; same.bits.as_slice(), five.bits.as_slice());
+    Ok(())
+}

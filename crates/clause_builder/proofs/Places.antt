@@ -1,13 +1,14 @@
 -- In a circuit the gate of an input stands at its place, and no other gate is an input.
 
-use Rattle.std.proofs.Common.{◌≡◌, ℕ, zero, suc, ◌+◌, ◌-◌, ◌<◌, ◌≤◌, false, cond, List, ◌++◌, length, take, drop, get_or, take-append-drop, Some, slice_get, sym, subst, ap, ◌∙◌, ⊎_elim, arith}
+use Rattle.std.proofs.Common.{◌≡◌, ℕ, zero, suc, ◌+◌, ◌-◌, ◌<◌, ◌≤◌, false, cond, List, ◌++◌, length, take, drop, get_or, take-append-drop, Some}
+use Rattle.std.proofs.Common.{slice_get, sym, subst, ap, ◌∙◌, ⊎_elim, arith}
 use Rattle.std.proofs.lemmas.List.{take-take}
 use Rattle.std.proofs.lemmas.List.Sums.{count_by_more_yes, sum_by-append}
 use Rattle.std.proofs.lemmas.Option.{get_or_from_slice_get, slice_get_cases}
 use Rattle.std.proofs.lemmas.Bool.{cases_lt}
 use Rattle.std.specs.List.{count_by}
 use Rattle.bit_net.specs.declared.nodes.Node.{Node}
-use Rattle.bit_net.specs.declared.nodes.Node.TheVariants.{Constant, Input, Not, And, Xor, Mux}
+use Rattle.bit_net.specs.declared.nodes.Node.TheVariants.{Constant, Input, Not, And, Or, Xor, Mux}
 use Rattle.bit_net.specs.Circuit.{is_input, input_count, ReadsBelow, IsCircuit}
 use Rattle.clause_builder.specs.Gates.{OperandsBelow}
 
@@ -16,6 +17,7 @@ operands_from_reads g n inputs (Constant b) le reads = tt
 operands_from_reads g n inputs (Input k) le reads = tt
 operands_from_reads g n inputs (Not a) le reads = omega (arith, le, reads)
 operands_from_reads g n inputs (And a b) le reads = (omega (arith, le, reads.0), omega (arith, le, reads.1))
+operands_from_reads g n inputs (Or a b) le reads = (omega (arith, le, reads.0), omega (arith, le, reads.1))
 operands_from_reads g n inputs (Xor a b) le reads = (omega (arith, le, reads.0), omega (arith, le, reads.1))
 operands_from_reads g n inputs (Mux c a b) le reads = (omega (arith, le, reads.0), omega (arith, le, reads.1), omega (arith, le, reads.2))
 

@@ -145,3 +145,22 @@ adds_mux v w x y z o c a b nout nc na nb is_no is_nc is_na is_nb h1 h2 h3 h4 =
     (λ f.
     rw (negated_true f nout o is_no, negated_true f nc c is_nc, negated_true f na a is_na, negated_true f nb b is_nb)
     (mux_table (lit_true f o) (lit_true f c) (lit_true f a) (lit_true f b)))
+
+or_table : (o a b : Bool) → alike (not o) (not a && not b) ≡ alike o (a || b)
+or_table true true b = refl
+or_table true false true = refl
+or_table true false false = refl
+or_table false true b = refl
+or_table false false true = refl
+or_table false false false = refl
+
+-- an `or` is the opposite of the `and` of the opposites
+pub adds_or : (x y : List (List Lit)) (o a b nout na nb : Lit)
+    → nout ≡ negation o → na ≡ negation a → nb ≡ negation b
+    → Adds x y (λ f. alike (lit_true f nout) (lit_true f na && lit_true f nb))
+    → Adds x y (λ f. alike (lit_true f o) (lit_true f a || lit_true f b))
+adds_or x y o a b nout na nb is_no is_na is_nb adds =
+    adds_like x y (λ f. alike (lit_true f nout) (lit_true f na && lit_true f nb)) (λ f. alike (lit_true f o) (lit_true f a || lit_true f b)) adds
+    (λ f.
+    rw (negated_true f nout o is_no, negated_true f na a is_na, negated_true f nb b is_nb)
+    (or_table (lit_true f o) (lit_true f a) (lit_true f b)))

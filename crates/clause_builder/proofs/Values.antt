@@ -1,13 +1,14 @@
 -- From the clauses of all gates to what a loaded solver knows.
 
-use Rattle.std.proofs.Common.{◌≡◌, ℕ, zero, suc, ◌+◌, ◌-◌, ◌<◌, ◌≤◌, Bool, true, false, not, ◌&&◌, ◌||◌, if◌then◌else◌, List, [], ◌∷◌, ◌++◌, length, get_or, ltb, Some, slice_get, refl, sym, subst, ap, ◌∙◌, ⊎_elim, arith}
+use Rattle.std.proofs.Common.{◌≡◌, ℕ, zero, suc, ◌+◌, ◌-◌, ◌<◌, ◌≤◌, Bool, true, false, not, ◌&&◌, ◌||◌, if◌then◌else◌, List, [], ◌∷◌, ◌++◌, length}
+use Rattle.std.proofs.Common.{get_or, ltb, Some, slice_get, refl, sym, subst, ap, ◌∙◌, ⊎_elim, arith}
 use Rattle.std.proofs.lemmas.List.FromFn.{get_or-map-range_with_len, length-map-range_with_len, map-range_with_len_more}
 use Rattle.std.proofs.lemmas.List.Elements.{All-head, All-tail}
 use Rattle.std.proofs.lemmas.Option.{get_or_from_slice_get, slice_get-get_or}
 use Rattle.std.proofs.lemmas.Bool.{cases_lt, cases_eq, and_parts, and_from, lt-ltb, le-ltb, cond-true, cond-false, false≢true}
 use Rattle.std.specs.List.{All}
 use Rattle.bit_net.specs.declared.nodes.Node.{Node}
-use Rattle.bit_net.specs.declared.nodes.Node.TheVariants.{Constant, Input, Not, And, Xor, Mux}
+use Rattle.bit_net.specs.declared.nodes.Node.TheVariants.{Constant, Input, Not, And, Or, Xor, Mux}
 use Rattle.bit_net.specs.Value.{value, table, xor}
 use Rattle.bit_net.specs.Circuit.{IsCircuit}
 use Rattle.bit_net.specs.Runs.{Runs, Fits}
@@ -60,6 +61,7 @@ table_from_holds choice v g (Constant b) chosen holds = same_from_alike (v g) b 
 table_from_holds choice v g (Input k) chosen holds = chosen k refl
 table_from_holds choice v g (Not a) chosen holds = same_from_alike (v g) (not (v a.at)) holds
 table_from_holds choice v g (And a b) chosen holds = same_from_alike (v g) (v a.at && v b.at) holds
+table_from_holds choice v g (Or a b) chosen holds = same_from_alike (v g) (v a.at || v b.at) holds
 table_from_holds choice v g (Xor a b) chosen holds = same_from_alike (v g) (xor (v a.at) (v b.at)) holds
 table_from_holds choice v g (Mux c a b) chosen holds = same_from_alike (v g) (if v c.at then v a.at else v b.at) holds
 
@@ -68,6 +70,7 @@ holds_from_table choice v g (Constant b) fits = alike-same (v g) b fits
 holds_from_table choice v g (Input k) fits = refl
 holds_from_table choice v g (Not a) fits = alike-same (v g) (not (v a.at)) fits
 holds_from_table choice v g (And a b) fits = alike-same (v g) (v a.at && v b.at) fits
+holds_from_table choice v g (Or a b) fits = alike-same (v g) (v a.at || v b.at) fits
 holds_from_table choice v g (Xor a b) fits = alike-same (v g) (xor (v a.at) (v b.at)) fits
 holds_from_table choice v g (Mux c a b) fits = alike-same (v g) (if v c.at then v a.at else v b.at) fits
 
@@ -89,7 +92,8 @@ fits_from_holds ns choice v circuit chooses all =
 holds_from_fits : (ns : List Node) (choice v : ℕ → Bool) → Fits ns choice v → gates_hold v ns (length ns) ≡ true
 holds_from_fits ns choice v fits =
     gates_hold_from v ns (length ns)
-    (λ g below. holds_from_table choice v g (get_or ns g (Constant false)) (fits.table g (get_or ns g (Constant false)) (slice_get-get_or ns g (Constant false) below)))
+    (λ g below. holds_from_table choice v g (get_or ns g (Constant false)) (fits.table g (get_or ns g (Constant false)) (slice_get-get_or ns g
+    (Constant false) below)))
 
 -- assignments that agree below base agree on clauses below base
 lit_true-agree : (f h : ℕ → Bool) (base : ℕ) → ((x : ℕ) → x < base → f x ≡ h x) → (l : Lit) → l.var < base → lit_true f l ≡ lit_true h l
@@ -102,7 +106,8 @@ some_true-agree f h base same (l ∷ c) below =
     ap (λ b. b || some_true f c) (lit_true-agree f h base same l (All-head (λ q. q.var < base) l c below))
     ∙ ap (λ b. lit_true h l || b) (some_true-agree f h base same c (All-tail (λ q. q.var < base) l c below))
 
-all_true-agree : (f h : ℕ → Bool) (base : ℕ) → ((x : ℕ) → x < base → f x ≡ h x) → (cs : List (List Lit)) → ClausesBelow base cs → all_true f cs ≡ all_true h cs
+all_true-agree : (f h : ℕ → Bool) (base : ℕ) → ((x : ℕ) → x < base → f x ≡ h x) → (cs : List (List Lit)) → ClausesBelow base cs
+    → all_true f cs ≡ all_true h cs
 all_true-agree f h base same [] below = refl
 all_true-agree f h base same (c ∷ cs) below =
     ap (λ b. b && all_true f cs) (some_true-agree f h base same c (All-head (LitsBelow base) c cs below))

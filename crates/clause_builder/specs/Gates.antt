@@ -1,9 +1,9 @@
 -- What the clauses of a gate say, by the literals of the gates.
 
-use Rattle.std.specs.Prelude.{ℕ, zero, suc, ◌+◌, ◌<◌, Bool, true, false, not, ◌&&◌, if◌then◌else◌, List, map, slice_index_or}
+use Rattle.std.specs.Prelude.{ℕ, zero, suc, ◌+◌, ◌<◌, Bool, true, false, not, ◌&&◌, ◌||◌, if◌then◌else◌, List, map, slice_index_or}
 use Rattle.std.specs.List.{range_with_len}
 use Rattle.bit_net.specs.declared.nodes.Node.{Node}
-use Rattle.bit_net.specs.declared.nodes.Node.TheVariants.{Constant, Input, Not, And, Xor, Mux}
+use Rattle.bit_net.specs.declared.nodes.Node.TheVariants.{Constant, Input, Not, And, Or, Xor, Mux}
 use Rattle.bit_net.specs.Value.{xor}
 use Rattle.sat_base.specs.declared.literal.Lit.{Lit}
 use Rattle.sat_base.specs.Logic.{lit_true}
@@ -31,6 +31,7 @@ gate_holds v g (Constant b) = alike (v g) b
 gate_holds v g (Input k) = true
 gate_holds v g (Not a) = alike (v g) (not (v a.at))
 gate_holds v g (And a b) = alike (v g) (v a.at && v b.at)
+gate_holds v g (Or a b) = alike (v g) (v a.at || v b.at)
 gate_holds v g (Xor a b) = alike (v g) (xor (v a.at) (v b.at))
 gate_holds v g (Mux c a b) = alike (v g) (if v c.at then v a.at else v b.at)
 
@@ -45,5 +46,6 @@ OperandsBelow n (Constant b) = Unit {0}
 OperandsBelow n (Input k) = Unit {0}
 OperandsBelow n (Not a) = a.at < n
 OperandsBelow n (And a b) = (a.at < n) × (b.at < n)
+OperandsBelow n (Or a b) = (a.at < n) × (b.at < n)
 OperandsBelow n (Xor a b) = (a.at < n) × (b.at < n)
 OperandsBelow n (Mux c a b) = (c.at < n) × (a.at < n) × (b.at < n)

@@ -1,5 +1,4 @@
-// Clauses of one, two and three literals, added to any solver.
-
+//! Clauses of one, two and three literals, added to any solver.
 ghost use Rattle.std.specs.Prelude.{◌≡◌, ◌<◌, ◌≤◌, ◌||◌, ℕ, OnOk};
 ghost use Rattle.sat_base.specs.Logic.{lit_true};
 ghost use Rattle.clause_builder.specs.Adding.{Adds, AddsFresh};

@@ -1,7 +1,6 @@
-// The clauses of one gate, by the literals of the gate and of the gates that it reads. Each kind
-// of gate has the clauses that its truth table asks for, one for each way to miss it.
-
-ghost use Rattle.std.specs.Prelude.{◌≡◌, ◌<◌, ◌≤◌, ◌&&◌, Bool, not, if◌then◌else◌, ℕ, length, All, OnOk};
+//! The clauses of one gate, by the literals of the gate and of the gates that it reads: the fewest that say its truth table, 1 for a
+//! constant, 2 for `not`, 3 for `and` and `or`, 4 for `xor` and `mux`.
+ghost use Rattle.std.specs.Prelude.{◌≡◌, ◌<◌, ◌≤◌, ◌&&◌, ◌||◌, Bool, not, if◌then◌else◌, ℕ, length, All, OnOk};
 ghost use Rattle.bit_net.specs.Value.{xor};
 ghost use Rattle.sat_base.specs.Logic.{lit_true, LitsBelow};
 ghost use Rattle.clause_builder.specs.Adding.{Adds, AddsFresh};
@@ -56,6 +55,22 @@ fn and_clauses<S: Solver>(s: &mut S, out: Lit, a: Lit, b: Lit) -> Result<(), Out
     add_two(s, not_out, a)?;
     add_two(s, not_out, b)?;
     add_three(s, out, not_a, not_b)?;
+    Ok(())
+}
+
+/// The literal holds where at least one of the others does: its opposite holds where both opposites do.
+fn or_clauses<S: Solver>(s: &mut S, out: Lit, a: Lit, b: Lit) -> Result<(), OutOfMemory>
+    requires out { out.var < S.vars s.old }
+    requires a { a.var < S.vars s.old }
+    requires b { b.var < S.vars s.old }
+    ensures vars { S.vars s.new ≡ S.vars s.old }
+    ensures ok { OnOk result (Adds (S.clauses s.old) (S.clauses s.new) (λ f. alike (lit_true f out) (lit_true f a || lit_true f b))) }
+    ensures fresh { (base : ℕ) → base ≤ out.var → base ≤ a.var → base ≤ b.var → AddsFresh base (S.clauses s.old) (S.clauses s.new) }
+{
+    let not_out = out.negated();
+    let not_a = a.negated();
+    let not_b = b.negated();
+    and_clauses(s, not_out, not_a, not_b)?;
     Ok(())
 }
 
@@ -122,6 +137,7 @@ pub fn add_gate<S: Solver>(
         Node::Input(_) => Ok(()),
         Node::Not(a) => not_clauses(s, out, lits[a.at]),
         Node::And(a, b) => and_clauses(s, out, lits[a.at], lits[b.at]),
+        Node::Or(a, b) => or_clauses(s, out, lits[a.at], lits[b.at]),
         Node::Xor(a, b) => xor_clauses(s, out, lits[a.at], lits[b.at]),
         Node::Mux(c, a, b) => mux_clauses(s, out, lits[c.at], lits[a.at], lits[b.at]),
     }

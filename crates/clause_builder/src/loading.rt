@@ -1,5 +1,4 @@
-// A net into a solver: a fresh variable for each gate, and the clauses of each gate over these.
-
+//! A net into a solver: a fresh variable for each gate, and the clauses of each gate over these.
 ghost use Rattle.std.specs.Prelude.{◌≡◌, ◌<◌, ◌≤◌, ◌+◌, ℕ, length, All, IfOk, OnOk, Some, slice_get};
 ghost use Rattle.sat_base.specs.Logic.{LitsBelow, ClausesBelow};
 ghost use Rattle.clause_builder.specs.Adding.{Adds, AddsFresh};

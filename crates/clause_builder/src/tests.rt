@@ -1,5 +1,4 @@
-// A small net, loaded into the splitting solver.
-
+//! A small net, loaded into the splitting solver.
 ghost use Rattle.std.specs.Prelude.{◌↔◌, IsTrue};
 ghost use Rattle.sat_base.specs.Logic.{LitsBelow};
 
@@ -17,13 +16,15 @@ fn all_below(lits: &[Lit], vars: usize) -> bool
 
 #[test]
 fn an_and_needs_both_inputs(rt: HostRuntime) -> Result<(), Fail> {
-    let mut net = Net::new(rt.alloc(), 2)?;
+    let mut net = Net::new(rt.alloc(), 3)?;
     let first = net.input(0);
     let second = net.input(1);
     let both = net.and(first, second)?;
     let _just_one = net.xor(first, second)?;
     let _not_first = net.not(first)?;
-    let _second_under_first = net.mux(first, second, first)?;
+    let third = net.input(2);
+    let _some = net.or(first, second)?;
+    let _chosen = net.mux(first, second, third)?;
     let mut solver = Plain::new(rt.alloc());
     let lits = load(rt.alloc(), &net, &mut solver)?;
     let holds = [lits.of(both)];

@@ -1,17 +1,19 @@
 -- Guards, targets and the greatest guard of lists of pairs that are put together or cut.
-use Rattle.std.proofs.Common.{◌≡◌, ℕ, zero, suc, ◌+◌, ◌<◌, ◌≤◌, max, Bool, true, false, not, ◌&&◌, ◌||◌, nat_eq, List, [], ◌∷◌, ◌++◌, length, take, get_or, refl, sym, ◌∙◌, ap, arith}
+use Rattle.std.proofs.Common.{◌≡◌, ℕ, zero, suc, ◌+◌, ◌<◌, ◌≤◌, max, Bool, true, false, not, ◌&&◌, ◌||◌, nat_eq, List, [], ◌∷◌, ◌++◌, length, take}
+use Rattle.std.proofs.Common.{get_or, if◌then◌else◌, refl, sym, ◌∙◌, ap, arith}
 use Rattle.std.proofs.lemmas.Bool.{ne_eqb}
 use Rattle.std.proofs.lemmas.List.{take_more, take_all}
 use Rattle.bit_net.specs.declared.nodes.Node.{Node}
 use Rattle.bit_net.specs.Runs.{Gives}
 use Rattle.gl_sets.specs.declared.pairs.Pair.{Pair}
-use Rattle.gl_sets.specs.Guards.{guard, has_target, targets_differ, guards_top}
+use Rattle.gl_sets.specs.Guards.{held, guard, has_target, targets_differ, guards_top}
 use Rattle.gl_sets.proofs.BoolLemmas.{both, not_true, or_false, neither, or_assoc, same, itself}
 
 pub has_target-append : (xs ys : List Pair) (t : ℕ) → has_target (xs ++ ys) t ≡ (has_target xs t || has_target ys t)
 unfolding has_target
 has_target-append [] ys t = refl
-has_target-append (x ∷ xs) ys t = ap (λ b. nat_eq x.target t || b) (has_target-append xs ys t) ∙ sym (or_assoc (nat_eq x.target t) (has_target xs t) (has_target ys t))
+has_target-append (x ∷ xs) ys t = ap (λ b. nat_eq x.target t || b) (has_target-append xs ys t)
+    ∙ sym (or_assoc (nat_eq x.target t) (has_target xs t) (has_target ys t))
 
 pub has_target-push : (xs : List Pair) (p : Pair) (t : ℕ) → has_target (xs ++ p ∷ []) t ≡ (has_target xs t || nat_eq p.target t)
 unfolding has_target
@@ -22,13 +24,15 @@ unfolding has_target
 has_target-nil t = refl
 
 -- one more pair from the front
-pub has_target-take : (ps : List Pair) (i : ℕ) (d : Pair) (t : ℕ) → i < length ps → has_target (take (i + 1) ps) t ≡ (has_target (take i ps) t || nat_eq (get_or ps i d).target t)
+pub has_target-take : (ps : List Pair) (i : ℕ) (d : Pair) (t : ℕ) → i < length ps
+    → has_target (take (i + 1) ps) t ≡ (has_target (take i ps) t || nat_eq (get_or ps i d).target t)
 has_target-take ps i d t low = ap (λ l. has_target l t) (take_more ps i d low) ∙ has_target-push (take i ps) (get_or ps i d) t
 
 pub guard-append : (v : ℕ → Bool) (xs ys : List Pair) (t : ℕ) → guard v (xs ++ ys) t ≡ (guard v xs t || guard v ys t)
 unfolding guard
 guard-append v [] ys t = refl
-guard-append v (x ∷ xs) ys t = ap (λ b. (nat_eq x.target t && v x.guard.at) || b) (guard-append v xs ys t) ∙ sym (or_assoc (nat_eq x.target t && v x.guard.at) (guard v xs t) (guard v ys t))
+guard-append v (x ∷ xs) ys t = ap (λ b. (nat_eq x.target t && v x.guard.at) || b) (guard-append v xs ys t)
+    ∙ sym (or_assoc (nat_eq x.target t && v x.guard.at) (guard v xs t) (guard v ys t))
 
 pub guard-push : (v : ℕ → Bool) (xs : List Pair) (p : Pair) (t : ℕ) → guard v (xs ++ p ∷ []) t ≡ (guard v xs t || (nat_eq p.target t && v p.guard.at))
 unfolding guard
@@ -60,7 +64,8 @@ has_target_at (p ∷ ps) (suc i) d h =
     by false h = h
 
 -- where the targets differ, the guard of a pair's target is the pair's own
-pub guard_at : (v : ℕ → Bool) (ps : List Pair) (i : ℕ) (d : Pair) → i < length ps → targets_differ ps ≡ true → guard v ps (get_or ps i d).target ≡ v (get_or ps i d).guard.at
+pub guard_at : (v : ℕ → Bool) (ps : List Pair) (i : ℕ) (d : Pair) → i < length ps → targets_differ ps ≡ true
+    → guard v ps (get_or ps i d).target ≡ v (get_or ps i d).guard.at
 unfolding guard targets_differ
 guard_at v [] i d h e = absurd (omega arith)
 guard_at v (p ∷ ps) zero d h e =
@@ -99,6 +104,28 @@ unfolding guards_top
 guard_below [] i d h = absurd (omega arith)
 guard_below (p ∷ ps) zero d h = omega arith
 guard_below (p ∷ ps) (suc i) d h = let low : i < length ps = omega arith in omega (arith, guard_below ps i d low)
+
+-- the targets whose guards hold, pair by pair
+pub held-nil : (v : ℕ → Bool) → held v [] ≡ []
+unfolding held
+held-nil v = refl
+
+pub held-push : (v : ℕ → Bool) (ps : List Pair) (p : Pair) → held v (ps ++ p ∷ []) ≡ (if v p.guard.at then held v ps ++ p.target ∷ [] else held v ps)
+unfolding held
+held-push v [] p = refl
+held-push v (q ∷ ps) p = by (v q.guard.at) (v p.guard.at) (held-push v ps p)
+  where
+    by : (b c : Bool) → held v (ps ++ p ∷ []) ≡ (if c then held v ps ++ p.target ∷ [] else held v ps)
+        → (if b then q.target ∷ held v (ps ++ p ∷ []) else held v (ps ++ p ∷ []))
+        ≡ (if c then (if b then q.target ∷ held v ps else held v ps) ++ p.target ∷ [] else (if b then q.target ∷ held v ps else held v ps))
+    by true true h = ap (λ l. q.target ∷ l) h
+    by true false h = ap (λ l. q.target ∷ l) h
+    by false true h = h
+    by false false h = h
+
+pub held-take : (v : ℕ → Bool) (ps : List Pair) (i : ℕ) (d : Pair) → i < length ps
+    → held v (take (i + 1) ps) ≡ (if v (get_or ps i d).guard.at then held v (take i ps) ++ (get_or ps i d).target ∷ [] else held v (take i ps))
+held-take v ps i d low = ap (held v) (take_more ps i d low) ∙ held-push v (take i ps) (get_or ps i d)
 
 -- the guard of the pair that is found at a place
 pub points_found : (ns : List Node) (items ps : List Pair) (i : ℕ) (d : Pair) (t : ℕ) → items ≡ ps → targets_differ ps ≡ true → guards_top ps ≤ length ns

@@ -1,4 +1,6 @@
-mod BoolLemmas
-mod GuardLemmas
-mod PointLemmas
-mod JoinLemmas
+pub mod BoolLemmas
+pub mod GuardLemmas
+pub mod PointLemmas
+pub mod MadeLemmas
+pub mod JoinLemmas
+pub mod MoveLemmas

@@ -59,7 +59,8 @@ held_one v (p ∷ ps) t e h =
         let none : held v ps ≡ [] = held_none v ps (λ u. others u (nat_eq p.target u) refl (h u) (ap (λ k. nat_eq k u) equal) absent) in
         rw (none, equal) refl
       where
-        others : (u : ℕ) (c : Bool) → nat_eq p.target u ≡ c → ((nat_eq p.target u && true) || guard v ps u) ≡ nat_eq t u → nat_eq t u ≡ nat_eq p.target u → has_target ps p.target ≡ false → guard v ps u ≡ false
+        others : (u : ℕ) (c : Bool) → nat_eq p.target u ≡ c → ((nat_eq p.target u && true) || guard v ps u) ≡ nat_eq t u
+            → nat_eq t u ≡ nat_eq p.target u → has_target ps p.target ≡ false → guard v ps u ≡ false
         others u true e h k absent = ap (guard v ps) (sym (same p.target u e)) ∙ guard_missing v ps p.target absent
         others u false e h k absent = let all : ((false && true) || guard v ps u) ≡ false = rw e at (h ∙ k ∙ e) in all
     by false h absent rest = rest (λ u. at u (nat_eq p.target u) (h u))

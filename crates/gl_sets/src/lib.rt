@@ -6,11 +6,13 @@
 #![tactic(auto)]
 
 mod laws;
+mod mapping;
 mod pairs;
 mod sets;
 #[cfg(test)]
 mod tests;
 
 pub use laws::{good_sets_stay_good, points_are_guards};
+pub use mapping::{moved, where_target};
 pub use pairs::Pair;
 pub use sets::{Set, is_never, join, points};

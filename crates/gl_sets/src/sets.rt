@@ -4,7 +4,7 @@ ghost use Rattle.gl_sets.specs.declared.pairs.Pair.{Pair as Pairs};
 ghost use Rattle.bit_net.specs.declared.nodes.Node.TheVariants.{Constant};
 ghost use Rattle.bit_net.specs.Runs.{Runs, Grown, Gives, Always};
 ghost use Rattle.gl_sets.specs.Guards.{Points, guard, has_target, targets_differ, guards_top};
-ghost use Rattle.gl_sets.specs.Sets.{IsGood, IsJoin, IsJoinSoFar};
+ghost use Rattle.gl_sets.specs.Sets.{IsGood, IsJoin, IsMadeSoFar, chosen_guard};
 
 use crate::Pair;
 use bit_net::{Gate, Net, Node, OutOfMemory, runs_fit_tables};
@@ -102,21 +102,30 @@ fn join_target(
     requires a { guards_top a.now.pairs.items ≤ length net.old }
     requires b { guards_top b.now.pairs.items ≤ length net.old }
     ensures grown { Grown net.old net.new }
-    ensures ok { OnOk result ((seen : List Pairs) → IsJoinSoFar net.old c.at a.now.pairs.items b.now.pairs.items seen pairs.old.items
-        → IsJoinSoFar net.new c.at a.now.pairs.items b.now.pairs.items (seen ++ pair ∷ []) pairs.new.items) }
+    ensures ok { OnOk result ((seen : List Pairs)
+        → IsMadeSoFar net.old (λ v t. chosen_guard v c.at a.now.pairs.items b.now.pairs.items t) seen pairs.old.items
+        → IsMadeSoFar net.new (λ v t. chosen_guard v c.at a.now.pairs.items b.now.pairs.items t) (seen ++ pair ∷ []) pairs.new.items) }
 {
     let target = pair.target;
-    if holds_target(pairs.as_slice(), target) {
+    let guard = net.mux(c, points(net, a, target), points(net, b, target))?;
+    add_target(net, Pair { guard, target }, pairs)?;
+    Ok(())
+}
+
+/// Adds a pair, unless its target is there already or its guard never holds.
+pub fn add_target(net: &Net, pair: Pair, pairs: &mut SmallVec<Pair, 4>) -> Result<(), OutOfMemory>
+    requires { pair.guard.at < length net.now }
+    ensures { OnOk result ((of : (ℕ → Bool) → ℕ → Bool) (seen : List Pairs)
+        → ((choice v : ℕ → Bool) → Runs net.now choice v → v pair.guard.at ≡ of v pair.target)
+        → IsMadeSoFar net.now of seen pairs.old.items → IsMadeSoFar net.now of (seen ++ pair ∷ []) pairs.new.items) }
+{
+    if holds_target(pairs.as_slice(), pair.target) {
         return Ok(());
     }
-    let chosen = net.mux(c, points(net, a, target), points(net, b, target))?;
-    if is_never(net, chosen) {
+    if is_never(net, pair.guard) {
         return Ok(());
     }
-    pairs.push(Pair {
-        guard: chosen,
-        target,
-    })?;
+    pairs.push(pair)?;
     Ok(())
 }
 

@@ -1,5 +1,6 @@
-mod ValueLemmas
-mod PlaceLemmas
-mod StoreLemmas
-mod MakeLemmas
-mod MarkLemmas
+pub mod ValueLemmas
+pub mod PlaceLemmas
+pub mod CopyLemmas
+pub mod StoreLemmas
+pub mod MakeLemmas
+pub mod MarkLemmas

@@ -1,12 +1,13 @@
 -- Stores that are made location by location.
-use Rattle.std.proofs.Common.{◌≡◌, ℕ, zero, suc, ◌+◌, ◌<◌, ◌≤◌, Bool, true, false, List, [], ◌∷◌, ◌++◌, length, take, get_or, if◌then◌else◌, refl, sym, ◌∙◌, ap, subst, arith}
+use Rattle.std.proofs.Common.{◌≡◌, ℕ, zero, suc, ◌+◌, ◌<◌, ◌≤◌, Bool, true, false, List, [], ◌∷◌, ◌++◌, length, take, get_or, if◌then◌else◌, refl}
+use Rattle.std.proofs.Common.{sym, ◌∙◌, ap, subst, arith}
 use Rattle.std.proofs.lemmas.List.{take_more, take_all}
 use Rattle.bit_net.specs.declared.nodes.Gate.{Gate}
 use Rattle.bit_net.specs.declared.nodes.Node.{Node}
 use Rattle.bit_net.specs.Runs.{Runs, Grown, Gives}
 use Rattle.gl_store.specs.declared.stores.Flags.{Flags}
 use Rattle.gl_store.specs.declared.stores.Location.{Location}
-use Rattle.gl_store.specs.Concrete.{Kind, Place, Marks, blank, fresh, width_kind}
+use Rattle.run_store.specs.Concrete.{Kind, Place, Marks, blank, fresh, width_kind}
 use Rattle.gl_store.specs.Meets.{Meets, MeetsMarks, MeetsPlace, MeetsAll, val_kind, val_top, kinds, flags_top, locations_top}
 use Rattle.gl_store.specs.Steps.{IsBlank, IsChoice, IsFresh, IsMerged, IsMergedLocation, IsMergedFlags, shape_kinds}
 use Rattle.gl_store.proofs.PlaceLemmas.{locations_top-at, flags_top-at}
@@ -15,7 +16,8 @@ locations_top-nil : locations_top [] ≡ 0
 unfolding locations_top
 locations_top-nil = refl
 
-locations_top-push : (ls : List Location) (l : Location) (n : ℕ) → locations_top ls ≤ n → val_top l.val ≤ n → flags_top l.flags ≤ n → locations_top (ls ++ l ∷ []) ≤ n
+locations_top-push : (ls : List Location) (l : Location) (n : ℕ) → locations_top ls ≤ n → val_top l.val ≤ n → flags_top l.flags ≤ n
+    → locations_top (ls ++ l ∷ []) ≤ n
 unfolding locations_top
 locations_top-push [] l n h a b = omega arith
 locations_top-push (k ∷ ls) l n h a b =
@@ -38,7 +40,8 @@ fresh-push : (ks : List Kind) (k : Kind) → fresh (ks ++ k ∷ []) ≡ fresh ks
 fresh-push [] k = refl
 fresh-push (j ∷ ks) k = ap (λ x. blank_place j ∷ x) (fresh-push ks k)
 
-MeetsAll-push : (v : ℕ → Bool) (ls : List Location) (ps : List Place) (l : Location) (p : Place) → MeetsAll v ls ps → MeetsPlace v l p → MeetsAll v (ls ++ l ∷ []) (ps ++ p ∷ [])
+MeetsAll-push : (v : ℕ → Bool) (ls : List Location) (ps : List Place) (l : Location) (p : Place) → MeetsAll v ls ps → MeetsPlace v l p
+    → MeetsAll v (ls ++ l ∷ []) (ps ++ p ∷ [])
 MeetsAll-push v [] [] l p h m = (m, tt)
 MeetsAll-push v (k ∷ ls) (q ∷ ps) l p h m = (h.0, MeetsAll-push v ls ps l p h.1 m)
 MeetsAll-push v _ _ l p h m = absurd h
@@ -51,7 +54,8 @@ fresh_none ns none e = record {
 }
 
 pub fresh_step : (ns : List Node) (ws : List ℕ) (i d : ℕ) (ls ls' : List Location) (l : Location) (g : Gate) → i < length ws → ls' ≡ ls ++ l ∷ []
-    → l.flags ≡ record { touched = g; written = g; allocated = g; freed = g; escaped = g } → Gives ns g.at (λ choice v. false) → IsBlank ns (width_kind (get_or ws i d)) l.val
+    → l.flags ≡ record { touched = g; written = g; allocated = g; freed = g; escaped = g } → Gives ns g.at (λ choice v. false)
+    → IsBlank ns (width_kind (get_or ws i d)) l.val
     → IsFresh ns (take i ws) ls → IsFresh ns (take (i + 1) ws) ls'
 fresh_step ns ws i d ls ls' l g low e f never b s =
     let more : shape_kinds (take (i + 1) ws) ≡ shape_kinds (take i ws) ++ width_kind (get_or ws i d) ∷ [] = ap shape_kinds (take_more ws i d low) ∙ shape_kinds-push (take i ws) (get_or ws i d) in
@@ -83,7 +87,8 @@ Merges-push v c [] [] [] x y z h e = (e, tt)
 Merges-push v c (k ∷ xs) (l ∷ ys) (m ∷ zs) x y z h e = (h.0, Merges-push v c xs ys zs x y z h.1 e)
 Merges-push v c _ _ _ x y z h e = absurd h
 
-Merges-all : (v : ℕ → Bool) (c : Bool) (xs ys zs : List Location) (ps qs : List Place) → Merges v c xs ys zs → MeetsAll v xs ps → MeetsAll v ys qs → MeetsAll v zs (if c then ps else qs)
+Merges-all : (v : ℕ → Bool) (c : Bool) (xs ys zs : List Location) (ps qs : List Place) → Merges v c xs ys zs → MeetsAll v xs ps → MeetsAll v ys qs
+    → MeetsAll v zs (if c then ps else qs)
 Merges-all v true [] [] [] [] [] h m n = tt
 Merges-all v false [] [] [] [] [] h m n = tt
 Merges-all v true (x ∷ xs) (y ∷ ys) (z ∷ zs) (p ∷ ps) (q ∷ qs) h m n = (h.0 p q m.0 n.0, Merges-all v true xs ys zs ps qs h.1 m.1 n.1)
@@ -119,7 +124,8 @@ same_kind (x ∷ a) [] i d e h low = absurd (cc)
 same_kind (x ∷ a) (y ∷ b) zero d e h low = cc
 same_kind (x ∷ a) (y ∷ b) (suc i) d e h low = let low' : i < length a = omega arith in let rest : kinds a ≡ kinds b = cc in same_kind a b i d e rest low'
 
-pub same_kind_at : (a b : List Location) (i : ℕ) (x y : Location) → x ≡ get_or a i x → y ≡ get_or b i y → kinds a ≡ kinds b → i < length a → val_kind x.val ≡ val_kind y.val
+pub same_kind_at : (a b : List Location) (i : ℕ) (x y : Location) → x ≡ get_or a i x → y ≡ get_or b i y → kinds a ≡ kinds b → i < length a
+    → val_kind x.val ≡ val_kind y.val
 same_kind_at a b i x y ex ey h low = ap (λ (l : Location). val_kind l.val) ex ∙ same_kind a b i x y h low ∙ ap (λ (l : Location). val_kind l.val) (sym ey)
 
 pub val_below_at : (ls : List Location) (i n : ℕ) (x : Location) → x ≡ get_or ls i x → i < length ls → locations_top ls ≤ n → val_top x.val ≤ n
@@ -128,7 +134,8 @@ val_below_at ls i n x e low h = subst (λ (l : Location). val_top l.val ≤ n) (
 pub flags_below_at : (ls : List Location) (i n : ℕ) (x : Location) → x ≡ get_or ls i x → i < length ls → locations_top ls ≤ n → flags_top x.flags ≤ n
 flags_below_at ls i n x e low h = subst (λ (l : Location). flags_top l.flags ≤ n) (sym e) (let below : flags_top (get_or ls i x).flags ≤ n = omega (arith, flags_top-at ls i x low) in below)
 
-pub merged_step : (old ns : List Node) (c : ℕ) (a b ls ls' : List Location) (i : ℕ) (x y l : Location) → x ≡ get_or a i x → y ≡ get_or b i y → i < length a → i < length b → ls' ≡ ls ++ l ∷ [] → Grown old ns
+pub merged_step : (old ns : List Node) (c : ℕ) (a b ls ls' : List Location) (i : ℕ) (x y l : Location) → x ≡ get_or a i x → y ≡ get_or b i y
+    → i < length a → i < length b → ls' ≡ ls ++ l ∷ [] → Grown old ns
     → IsMergedLocation ns c x y l → MergedSoFar old c a b i ls → MergedSoFar ns c a b (i + 1) ls'
 merged_step old ns c a b ls ls' i x y l ex ey low low' pushed g t s =
     let more_a : take (i + 1) a ≡ take i a ++ x ∷ [] = take_more a i x low ∙ ap (λ k. take i a ++ k ∷ []) (sym ex) in
@@ -148,7 +155,8 @@ merged_whole ns c a b r i all all' s = record {
 }
 
 -- a location of a value and flags
-pub merged_location : (mid ns : List Node) (c : ℕ) (a b r : Location) → val_kind a.val ≡ val_kind b.val → Grown mid ns → IsChoice mid c a.val b.val r.val → IsMergedFlags ns c a.flags b.flags r.flags
+pub merged_location : (mid ns : List Node) (c : ℕ) (a b r : Location) → val_kind a.val ≡ val_kind b.val → Grown mid ns
+    → IsChoice mid c a.val b.val r.val → IsMergedFlags ns c a.flags b.flags r.flags
     → IsMergedLocation ns c a b r
 merged_location mid ns c a b r k g s t = record {
   below = omega (arith, s.below, g.longer);
@@ -157,7 +165,8 @@ merged_location mid ns c a b r k g s t = record {
   value = λ choice v run p q m n. by choice v p q (v c) (s.value choice v (g.runs choice v run) p.cell q.cell m.cell n.cell) (t.value choice v run p.marks q.marks m.marks n.marks);
 }
   where
-    by : (choice v : ℕ → Bool) (p q : Place) (x : Bool) → Meets v r.val (if x then p.cell else q.cell) → MeetsMarks v r.flags (if x then p.marks else q.marks) → MeetsPlace v r (if x then p else q)
+    by : (choice v : ℕ → Bool) (p q : Place) (x : Bool) → Meets v r.val (if x then p.cell else q.cell)
+        → MeetsMarks v r.flags (if x then p.marks else q.marks) → MeetsPlace v r (if x then p else q)
     by choice v p q true m n = record { cell = m; marks = n }
     by choice v p q false m n = record { cell = m; marks = n }
 
@@ -165,8 +174,10 @@ pub Gives-grown : (old ns : List Node) (g : ℕ) (of : (ℕ → Bool) → (ℕ �
 Gives-grown old ns g of h s = record { below = omega (arith, s.below, h.longer); value = λ choice v r. s.value choice v (h.runs choice v r) }
 
 pub merged_flags : (ns : List Node) (c : ℕ) (a b r : Flags)
-    → Gives ns r.touched.at (λ choice v. if v c then v a.touched.at else v b.touched.at) → Gives ns r.written.at (λ choice v. if v c then v a.written.at else v b.written.at)
-    → Gives ns r.allocated.at (λ choice v. if v c then v a.allocated.at else v b.allocated.at) → Gives ns r.freed.at (λ choice v. if v c then v a.freed.at else v b.freed.at)
+    → Gives ns r.touched.at (λ choice v. if v c then v a.touched.at else v b.touched.at)
+    → Gives ns r.written.at (λ choice v. if v c then v a.written.at else v b.written.at)
+    → Gives ns r.allocated.at (λ choice v. if v c then v a.allocated.at else v b.allocated.at)
+    → Gives ns r.freed.at (λ choice v. if v c then v a.freed.at else v b.freed.at)
     → Gives ns r.escaped.at (λ choice v. if v c then v a.escaped.at else v b.escaped.at) → IsMergedFlags ns c a b r
 merged_flags ns c a b r g1 g2 g3 g4 g5 = record {
   below = omega (arith, g1.below, g2.below, g3.below, g4.below, g5.below);

@@ -1,12 +1,13 @@
 -- Locations and places one by one: read, changed, and the greatest gate and the kinds of a list of locations.
-use Rattle.std.proofs.Common.{◌≡◌, ℕ, zero, suc, ◌-◌, ◌<◌, ◌≤◌, Bool, true, false, List, [], ◌∷◌, length, get_or, set, if◌then◌else◌, refl, sym, ◌∙◌, ap, subst, arith}
+use Rattle.std.proofs.Common.{◌≡◌, ℕ, zero, suc, ◌-◌, ◌<◌, ◌≤◌, Bool, true, false, List, [], ◌∷◌, length, get_or, set, if◌then◌else◌, refl, sym, ◌∙◌}
+use Rattle.std.proofs.Common.{ap, subst, arith}
 use Rattle.bit_net.specs.declared.nodes.Node.{Node}
 use Rattle.bit_net.specs.Runs.{Grown}
 use Rattle.gl_sets.specs.declared.pairs.Pair.{Pair}
 use Rattle.gl_store.specs.declared.values.Val.{Val}
 use Rattle.gl_store.specs.declared.stores.Flags.{Flags}
 use Rattle.gl_store.specs.declared.stores.Location.{Location}
-use Rattle.gl_store.specs.Concrete.{Cell, Number, Pointer, Nothing, Place, put, nth_cell, cell_at, change, write}
+use Rattle.run_store.specs.Concrete.{Cell, Number, Pointer, Nothing, Place, put, nth_cell, cell_at, change, write}
 use Rattle.gl_store.specs.Meets.{Meets, MeetsMarks, MeetsAll, val_kind, val_top, kinds, flags_top, locations_top}
 use Rattle.gl_store.specs.Steps.{IsOverwritten, IsRead, IsWritten}
 
@@ -22,7 +23,8 @@ flags_top-at [] i d h = absurd (omega arith)
 flags_top-at (l ∷ ls) zero d h = omega arith
 flags_top-at (l ∷ ls) (suc i) d h = let low : i < length ls = omega arith in omega (arith, flags_top-at ls i d low)
 
-pub locations_top-set : (ls : List Location) (i : ℕ) (l : Location) (n : ℕ) → locations_top ls ≤ n → val_top l.val ≤ n → flags_top l.flags ≤ n → locations_top (set ls i l) ≤ n
+pub locations_top-set : (ls : List Location) (i : ℕ) (l : Location) (n : ℕ) → locations_top ls ≤ n → val_top l.val ≤ n → flags_top l.flags ≤ n
+    → locations_top (set ls i l) ≤ n
 unfolding locations_top
 locations_top-set [] i l n h a b = h
 locations_top-set (k ∷ ls) zero l n h a b = omega arith
@@ -36,7 +38,8 @@ kinds-set (k ∷ ls) zero d l low h = ap (λ x. x ∷ kinds ls) h
 kinds-set (k ∷ ls) (suc i) d l low h = let low' : i < length ls = omega arith in ap (λ xs. val_kind k.val ∷ xs) (kinds-set ls i d l low' h)
 
 -- what a location and its place have
-pub Meets-at : (v : ℕ → Bool) (ls : List Location) (ps : List Place) (i : ℕ) (d : Location) → i < length ls → MeetsAll v ls ps → Meets v (get_or ls i d).val (nth_cell ps i)
+pub Meets-at : (v : ℕ → Bool) (ls : List Location) (ps : List Place) (i : ℕ) (d : Location) → i < length ls → MeetsAll v ls ps
+    → Meets v (get_or ls i d).val (nth_cell ps i)
 Meets-at v [] [] i d low h = absurd (omega arith)
 Meets-at v (l ∷ ls) (p ∷ ps) zero d low h = h.0.cell
 Meets-at v (l ∷ ls) (p ∷ ps) (suc i) d low h = let low' : i < length ls = omega arith in Meets-at v ls ps i d low' h.1
@@ -56,7 +59,8 @@ change-past v (l ∷ ls) (p ∷ ps) (suc i) x past h = let past' : length ls ≤
 change-past v _ _ i x past h = absurd h
 
 -- one location is changed, and one place
-MeetsAll-change : (v : ℕ → Bool) (ls : List Location) (ps : List Place) (i : ℕ) (d l : Location) (x : Cell) → i < length ls → l.flags ≡ (get_or ls i d).flags → MeetsAll v ls ps
+MeetsAll-change : (v : ℕ → Bool) (ls : List Location) (ps : List Place) (i : ℕ) (d l : Location) (x : Cell) → i < length ls
+    → l.flags ≡ (get_or ls i d).flags → MeetsAll v ls ps
     → Meets v l.val (put (nth_cell ps i) x) → MeetsAll v (set ls i l) (change ps i x)
 MeetsAll-change v [] [] i d l x low f h m = absurd (omega arith)
 MeetsAll-change v (k ∷ ls) (p ∷ ps) zero d l x low f h m = (record { cell = m; marks = subst (λ (g : Flags). MeetsMarks v g p.marks) (sym f) h.0.marks }, h.1)
@@ -64,7 +68,8 @@ MeetsAll-change v (k ∷ ls) (p ∷ ps) (suc i) d l x low f h m = let low' : i <
 MeetsAll-change v _ _ i d l x low f h m = absurd h
 
 -- one location is changed, and no place
-MeetsAll-same : (v : ℕ → Bool) (ls : List Location) (ps : List Place) (i : ℕ) (d l : Location) → i < length ls → l.flags ≡ (get_or ls i d).flags → MeetsAll v ls ps
+MeetsAll-same : (v : ℕ → Bool) (ls : List Location) (ps : List Place) (i : ℕ) (d l : Location) → i < length ls → l.flags ≡ (get_or ls i d).flags
+    → MeetsAll v ls ps
     → Meets v l.val (nth_cell ps i) → MeetsAll v (set ls i l) ps
 MeetsAll-same v [] [] i d l low f h m = absurd (omega arith)
 MeetsAll-same v (k ∷ ls) (p ∷ ps) zero d l low f h m = (record { cell = m; marks = subst (λ (g : Flags). MeetsMarks v g p.marks) (sym f) h.0.marks }, h.1)
@@ -98,7 +103,8 @@ either_way : {A : Type 0} (b : Bool) (x z : A) → z ≡ x → x ≡ (if b then 
 either_way true x z e = sym e
 either_way false x z e = refl
 
-pub read_none : (ns : List Node) (pair : Pair) (ls : List Location) (old : Val) → (0 < pair.target → length ls < pair.target) → val_top old ≤ length ns → IsRead ns pair ls old old
+pub read_none : (ns : List Node) (pair : Pair) (ls : List Location) (old : Val) → (0 < pair.target → length ls < pair.target)
+    → val_top old ≤ length ns → IsRead ns pair ls old old
 read_none ns pair ls old h below = record {
   below = below;
   same = refl;
@@ -116,15 +122,18 @@ read_there ns pair ls d old new some low s = record {
       (s.value choice v r x (nth_cell ps (pair.target - 1)) hx (Meets-at v ls ps (pair.target - 1) d low m));
 }
 
-pub written_none : (ns : List Node) (when target : ℕ) (val : Val) (ls : List Location) → (0 < target → length ls < target) → locations_top ls ≤ length ns → IsWritten ns when target val ls ls
+pub written_none : (ns : List Node) (when target : ℕ) (val : Val) (ls : List Location) → (0 < target → length ls < target)
+    → locations_top ls ≤ length ns → IsWritten ns when target val ls ls
 written_none ns when target val ls h below = record {
   below = below;
   same = refl;
   value = λ choice v r ps x m hx. subst (MeetsAll v ls) (either_way (v when) ps (write ps target x) (write-none v ls ps target x h m)) m;
 }
 
-pub written_there : (old ns : List Node) (when target : ℕ) (val : Val) (ls ls' : List Location) (d l : Location) → Grown old ns → (target ≡ 0 → ⊥) → target - 1 < length ls → locations_top ls ≤ length old
-    → ls' ≡ set ls (target - 1) l → l.flags ≡ (get_or ls (target - 1) d).flags → IsOverwritten ns when (get_or ls (target - 1) d).val val l.val → IsWritten ns when target val ls ls'
+pub written_there : (old ns : List Node) (when target : ℕ) (val : Val) (ls ls' : List Location) (d l : Location) → Grown old ns → (target ≡ 0 → ⊥)
+    → target - 1 < length ls → locations_top ls ≤ length old
+    → ls' ≡ set ls (target - 1) l → l.flags ≡ (get_or ls (target - 1) d).flags → IsOverwritten ns when (get_or ls (target - 1) d).val val l.val
+    → IsWritten ns when target val ls ls'
 written_there old ns when target val ls ls' d l g some low below e f s = record {
   below = rw e (locations_top-set ls (target - 1) l (length ns) (omega (arith, g.longer)) s.below
       (let flags : flags_top l.flags ≤ length ns = omega (arith, ap flags_top f, flags_top-at ls (target - 1) d low, below, g.longer) in flags));
@@ -134,7 +143,8 @@ written_there old ns when target val ls ls' d l g some low below e f s = record 
       (by choice v ps x m (v when) (s.value choice v r (nth_cell ps (target - 1)) x (Meets-at v ls ps (target - 1) d low m) hx));
 }
   where
-    by : (choice v : ℕ → Bool) (ps : List Place) (x : Cell) → MeetsAll v ls ps → (b : Bool) → Meets v l.val (if b then put (nth_cell ps (target - 1)) x else nth_cell ps (target - 1))
+    by : (choice v : ℕ → Bool) (ps : List Place) (x : Cell) → MeetsAll v ls ps → (b : Bool)
+        → Meets v l.val (if b then put (nth_cell ps (target - 1)) x else nth_cell ps (target - 1))
         → MeetsAll v (set ls (target - 1) l) (if b then write ps target x else ps)
     by choice v ps x m true h = subst (MeetsAll v (set ls (target - 1) l)) (sym (write-target ps target x some)) (MeetsAll-change v ls ps (target - 1) d l x low f m h)
     by choice v ps x m false h = MeetsAll-same v ls ps (target - 1) d l low f m h

@@ -1,5 +1,6 @@
 -- Values chosen by a gate, and written over one another.
-use Rattle.std.proofs.Common.{◌≡◌, ℕ, zero, suc, ◌+◌, ◌*◌, ◌^◌, ◌<◌, ◌≤◌, max, Bool, true, false, nat_eq, List, [], ◌∷◌, ◌++◌, length, take, get_or, replicate, if◌then◌else◌, refl, sym, ◌∙◌, ap, subst, arith, eq-eqb}
+use Rattle.std.proofs.Common.{◌≡◌, ℕ, zero, suc, ◌+◌, ◌*◌, ◌^◌, ◌<◌, ◌≤◌, max, Bool, true, false, nat_eq, List, [], ◌∷◌, ◌++◌, length, take, get_or}
+use Rattle.std.proofs.Common.{replicate, if◌then◌else◌, refl, sym, ◌∙◌, ap, subst, arith, eq-eqb}
 use Rattle.std.proofs.lemmas.Bool.{eqb-true, ne_eqb}
 use Rattle.std.proofs.lemmas.List.{take_more, take_all, length-replicate}
 use Rattle.bit_net.specs.declared.nodes.Gate.{Gate}
@@ -13,86 +14,9 @@ use Rattle.gl_sets.specs.Guards.{Points}
 use Rattle.gl_sets.specs.Sets.{IsGood, IsJoin}
 use Rattle.gl_store.specs.declared.values.Val.{Val}
 use Rattle.gl_store.specs.declared.values.Val.TheVariants.{Word, Set, Unit as Empty}
-use Rattle.gl_store.specs.Concrete.{Cell, Number, Pointer, Nothing, Numbers, Pointers, NoCell, kind_of, width_kind, put}
+use Rattle.run_store.specs.Concrete.{Cell, Number, Pointer, Nothing, Numbers, Pointers, NoCell, kind_of, width_kind, put}
 use Rattle.gl_store.specs.Meets.{Meets, val_kind, val_top}
 use Rattle.gl_store.specs.Steps.{IsChoice, IsOverwritten, IsBlank}
-
-pub Grown-same : (ns : List Node) → Grown ns ns
-Grown-same ns = record { longer = omega arith; inputs = refl; runs = λ choice v r. r }
-
-pub Grown-trans : (a b c : List Node) → Grown a b → Grown b c → Grown a c
-Grown-trans a b c g h = record {
-  longer = omega (arith, g.longer, h.longer);
-  inputs = h.inputs ∙ g.inputs;
-  runs = λ choice v r. g.runs choice v (h.runs choice v r);
-}
-
-pub top-nil : top [] ≡ 0
-unfolding top
-top-nil = refl
-
-top-append : (xs ys : List Gate) → top (xs ++ ys) ≡ max (top xs) (top ys)
-unfolding top
-top-append [] ys = omega arith
-top-append (x ∷ xs) ys = omega (arith, top-append xs ys)
-
-pub top-push : (xs : List Gate) (g : Gate) → top (xs ++ g ∷ []) ≡ max (top xs) (g.at + 1)
-unfolding top
-top-push xs g = omega (arith, top-append xs (g ∷ []))
-
-pub gate_below : (gs : List Gate) (i : ℕ) (d : Gate) → i < length gs → (get_or gs i d).at < top gs
-unfolding top
-gate_below [] i d h = absurd (omega arith)
-gate_below (g ∷ gs) zero d h = omega arith
-gate_below (g ∷ gs) (suc i) d h = let low : i < length gs = omega arith in omega (arith, gate_below gs i d low)
-
--- each gate of a word is that of the first where c holds, else that of the second
-abbrev pub Selects : (v : ℕ → Bool) (c : Bool) → (a b r : List Gate) → Type 0
-Selects v c [] [] [] = Unit {0}
-Selects v c (x ∷ xs) (y ∷ ys) (z ∷ zs) = (v z.at ≡ (if c then v x.at else v y.at)) × Selects v c xs ys zs
-Selects v c _ _ _ = ⊥
-
-Selects-push : (v : ℕ → Bool) (c : Bool) (xs ys zs : List Gate) (x y z : Gate) → Selects v c xs ys zs → v z.at ≡ (if c then v x.at else v y.at)
-    → Selects v c (xs ++ x ∷ []) (ys ++ y ∷ []) (zs ++ z ∷ [])
-Selects-push v c [] [] [] x y z h e = (e, tt)
-Selects-push v c (p ∷ xs) (q ∷ ys) (r ∷ zs) x y z h e = (h.0, Selects-push v c xs ys zs x y z h.1 e)
-Selects-push v c _ _ _ x y z h e = absurd h
-
-Selects-wide : (v : ℕ → Bool) (c : Bool) (xs ys zs : List Gate) → Selects v c xs ys zs → (length zs ≡ length xs) × (length zs ≡ length ys)
-Selects-wide v c [] [] [] h = (refl, refl)
-Selects-wide v c (x ∷ xs) (y ∷ ys) (z ∷ zs) h = let w = Selects-wide v c xs ys zs h.1 in (ap suc w.0, ap suc w.1)
-Selects-wide v c _ _ _ h = absurd h
-
-Selects-number : (v : ℕ → Bool) (c : Bool) (xs ys zs : List Gate) → Selects v c xs ys zs → number v zs ≡ (if c then number v xs else number v ys)
-unfolding number
-Selects-number v true [] [] [] h = refl
-Selects-number v false [] [] [] h = refl
-Selects-number v true (x ∷ xs) (y ∷ ys) (z ∷ zs) h =
-    ap (λ b. bit b * 2 ^ length zs + number v zs) h.0 ∙ ap (λ n. bit (v x.at) * 2 ^ n + number v zs) (Selects-wide v true xs ys zs h.1).0
-    ∙ ap (λ n. bit (v x.at) * 2 ^ length xs + n) (Selects-number v true xs ys zs h.1)
-Selects-number v false (x ∷ xs) (y ∷ ys) (z ∷ zs) h =
-    ap (λ b. bit b * 2 ^ length zs + number v zs) h.0 ∙ ap (λ n. bit (v y.at) * 2 ^ n + number v zs) (Selects-wide v false xs ys zs h.1).1
-    ∙ ap (λ n. bit (v y.at) * 2 ^ length ys + n) (Selects-number v false xs ys zs h.1)
-Selects-number v c _ _ _ h = absurd h
-
-pub Selects-none : (v : ℕ → Bool) (c : Bool) (zs : List Gate) → zs ≡ [] → Selects v c [] [] zs
-Selects-none v c zs e = subst (Selects v c [] []) (sym e) tt
-
-pub Selects-step : (v : ℕ → Bool) (c : Bool) (a b zs zs' : List Gate) (i : ℕ) (d z : Gate) → length a ≡ length b → i < length a → zs' ≡ zs ++ z ∷ []
-    → Selects v c (take i a) (take i b) zs → v z.at ≡ (if c then v (get_or a i d).at else v (get_or b i d).at) → Selects v c (take (i + 1) a) (take (i + 1) b) zs'
-Selects-step v c a b zs zs' i d z same low pushed h e =
-    let low' : i < length b = omega arith in
-    let more : Selects v c (take i a ++ get_or a i d ∷ []) (take i b ++ get_or b i d ∷ []) (zs ++ z ∷ []) =
-    Selects-push v c (take i a) (take i b) zs (get_or a i d) (get_or b i d) z h e in
-    rw (take_more a i d low, take_more b i d low', pushed) more
-
-pub selected_whole : (ns : List Node) (c i : ℕ) (a b r : List Gate) → length a ≡ length b → length a ≤ i → length r ≡ length a → top r ≤ length ns
-    → ((choice v : ℕ → Bool) → Runs ns choice v → Selects v (v c) (take i a) (take i b) r) → Spells ns r (length a) (λ v. if v c then number v a else number v b)
-selected_whole ns c i a b r same all wide below value = record {
-  wide = wide;
-  below = below;
-  value = λ choice v run. Selects-number v (v c) a b r (rw (take_all i a all, take_all i b (let all' : length b ≤ i = omega arith in all')) at (value choice v run));
-}
 
 -- a value and its cell are of one kind
 pub Meets-kind : (v : ℕ → Bool) (a : Val) (x : Cell) → Meets v a x → val_kind a ≡ kind_of x
@@ -116,7 +40,8 @@ put_other (Number w n) (Number u m) h = by (nat_eq w u) refl
 put_other (Pointer t) (Pointer u) h = absurd (h refl)
 put_other _ _ h = refl
 
-pub overwritten_some : (ns : List Node) (when : ℕ) (old new r : Val) → val_kind new ≡ val_kind old → IsChoice ns when new old r → IsOverwritten ns when old new r
+pub overwritten_some : (ns : List Node) (when : ℕ) (old new r : Val) → val_kind new ≡ val_kind old → IsChoice ns when new old r
+    → IsOverwritten ns when old new r
 overwritten_some ns when old new r k s = record {
   below = s.below;
   kind = s.kind;
@@ -125,7 +50,8 @@ overwritten_some ns when old new r k s = record {
       subst (Meets v r) (ap (λ z. if v when then z else x) (sym (put_same x y e))) (s.value choice v run y x hy hx));
 }
 
-pub overwritten_none : (ns : List Node) (when : ℕ) (old new : Val) → (val_kind new ≡ val_kind old → ⊥) → val_top old ≤ length ns → IsOverwritten ns when old new old
+pub overwritten_none : (ns : List Node) (when : ℕ) (old new : Val) → (val_kind new ≡ val_kind old → ⊥) → val_top old ≤ length ns
+    → IsOverwritten ns when old new old
 overwritten_none ns when old new k below = record {
   below = below;
   kind = refl;
@@ -139,7 +65,8 @@ overwritten_none ns when old new k below = record {
 
 -- a choice of two words of one width
 pub choice_words : (ns : List Node) (c : ℕ) (a b r : Words) → length a.bits.items ≡ length b.bits.items
-    → Spells ns r.bits.items (length a.bits.items) (λ v. if v c then number v a.bits.items else number v b.bits.items) → IsChoice ns c (Word a) (Word b) (Word r)
+    → Spells ns r.bits.items (length a.bits.items) (λ v. if v c then number v a.bits.items else number v b.bits.items)
+    → IsChoice ns c (Word a) (Word b) (Word r)
 choice_words ns c a b r same s = record {
   below = s.below;
   kind = ap Numbers (s.wide ∙ same);
@@ -220,30 +147,28 @@ unfolding top
 top_none zero g = omega arith
 top_none (suc n) g = omega (arith, top_none n g)
 
-pub kind_of_width : (width : ℕ) → (width ≡ 255 → ⊥) → (width ≡ 0 → ⊥) → width_kind width ≡ Numbers width
-kind_of_width width h k = rw (ne_eqb width 255 h, ne_eqb width 0 k) refl
-
 -- a word of 0
-pub blank_word : (ns : List Node) (w : Words) (g : Gate) (width : ℕ) → w.bits.items ≡ replicate width g → Gives ns g.at (λ choice v. false) → (width ≡ 255 → ⊥) → (width ≡ 0 → ⊥)
-    → IsBlank ns (width_kind width) (Word w)
-blank_word ns w g width e s h k =
-    let kind : width_kind width ≡ Numbers width = kind_of_width width h k in
+pub blank_word : (ns : List Node) (w : Words) (g : Gate) (width : ℕ) → w.bits.items ≡ replicate width g → Gives ns g.at (λ choice v. false)
+    → IsBlank ns (Numbers width) (Word w)
+blank_word ns w g width e s =
     let wide : length w.bits.items ≡ width = ap length e ∙ length-replicate width g in
     record {
       below = omega (arith, ap top e, top_none width g, s.below);
-      same = ap Numbers wide ∙ sym kind;
-      value = λ choice v run. rw kind record { wide = wide; value = ap (number v) e ∙ number_none v width g (s.value choice v run) };
+      same = ap Numbers wide;
+      value = λ choice v run. record { wide = wide; value = ap (number v) e ∙ number_none v width g (s.value choice v run) };
     }
 
 -- a set that points to null
-pub blank_set : (ns : List Node) (s : Sets) (width : ℕ) → width ≡ 255 → IsGood ns s.pairs.items → Always ns (λ choice v. Points v s.pairs.items 0) → IsBlank ns (width_kind width) (Set s)
-blank_set ns s width e good points =
-    let kind : width_kind width ≡ Pointers = ap width_kind e in
-    record { below = good.below; same = sym kind; value = λ choice v run. rw kind (points.holds choice v run) }
+pub blank_set : (ns : List Node) (s : Sets) → IsGood ns s.pairs.items → Always ns (λ choice v. Points v s.pairs.items 0) → IsBlank ns Pointers (Set s)
+blank_set ns s good points = record { below = good.below; same = refl; value = λ choice v run. points.holds choice v run }
 
-pub blank_none : (ns : List Node) (width : ℕ) → width ≡ 0 → IsBlank ns (width_kind width) Empty
-blank_none ns width e =
-    let kind : width_kind width ≡ NoCell = ap width_kind e in
-    record { below = omega arith; same = sym kind; value = λ choice v run. rw kind tt }
+pub blank_none : (ns : List Node) → IsBlank ns NoCell Empty
+blank_none ns = record { below = omega arith; same = refl; value = λ choice v run. tt }
 
-pub ruleset top_laws = (top-nil, top-push)
+pub ruleset blank_laws = (blank_set, blank_none)
+
+-- the kind of a width
+pub kind_of_width : (width : ℕ) → (width ≡ 255 → ⊥) → (width ≡ 0 → ⊥) → Numbers width ≡ width_kind width
+kind_of_width width h k = rw (ne_eqb width 255 h, ne_eqb width 0 k) refl
+
+pub ruleset width_laws = (kind_of_width)

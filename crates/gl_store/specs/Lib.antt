@@ -1,3 +1,2 @@
-pub mod Concrete
 pub mod Meets
 pub mod Steps

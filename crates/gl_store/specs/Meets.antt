@@ -5,11 +5,11 @@ use Rattle.bit_words.specs.Number.{number, top}
 use Rattle.gl_sets.specs.Guards.{Points, guards_top}
 use Rattle.gl_store.specs.declared.values.Val.{Val}
 use Rattle.gl_store.specs.declared.values.Val.TheVariants.{Word, Set, Unit as Empty}
-use Rattle.gl_store.specs.declared.stores.Flag.{Flag}
-use Rattle.gl_store.specs.declared.stores.Flag.TheVariants.{Touched, Written, Allocated, Freed, Escaped}
+use Rattle.run_store.specs.declared.Flag.{Flag}
+use Rattle.run_store.specs.declared.Flag.TheVariants.{Touched, Written, Allocated, Freed, Escaped}
 use Rattle.gl_store.specs.declared.stores.Flags.{Flags}
 use Rattle.gl_store.specs.declared.stores.Location.{Location}
-use Rattle.gl_store.specs.Concrete.{Cell, Number, Pointer, Nothing, Kind, Numbers, Pointers, NoCell, Marks, Place}
+use Rattle.run_store.specs.Concrete.{Cell, Number, Pointer, Nothing, Kind, Numbers, Pointers, NoCell, Marks, Place}
 
 -- the kind of a value
 abbrev pub val_kind : Val → Kind

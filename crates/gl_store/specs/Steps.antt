@@ -1,14 +1,17 @@
 -- What the calls promise, for every choice.
-use Rattle.std.specs.Prelude.{◌≡◌, ℕ, ◌<◌, ◌≤◌, Bool, List, [], ◌∷◌, length, Option, Some, None, if◌then◌else◌}
+use Rattle.std.specs.Prelude.{◌≡◌, ℕ, zero, suc, ◌<◌, ◌≤◌, Bool, List, [], ◌∷◌, length, Option, Some, None, if◌then◌else◌}
 use Rattle.bit_net.specs.declared.nodes.Node.{Node}
 use Rattle.bit_net.specs.Runs.{Runs}
 use Rattle.gl_sets.specs.Guards.{Points}
 use Rattle.gl_sets.specs.declared.pairs.Pair.{Pair}
 use Rattle.gl_store.specs.declared.values.Val.{Val}
-use Rattle.gl_store.specs.declared.stores.Flag.{Flag}
+use Rattle.run_store.specs.declared.Flag.{Flag}
+use Rattle.gl_store.specs.declared.values.CellKind.{CellKind}
+use Rattle.gl_store.specs.declared.values.CellKind.TheVariants.{Words, Pointers, NoCell}
 use Rattle.gl_store.specs.declared.stores.Flags.{Flags}
 use Rattle.gl_store.specs.declared.stores.Location.{Location}
-use Rattle.gl_store.specs.Concrete.{Cell, Kind, Marks, Place, blank, put, load, write, fresh, width_kind, flag_at, marked, cell_at}
+use Rattle.run_store.specs.Concrete.{Cell, Kind, Numbers, Pointers as PointerCells, NoCell as NoCells, Marks, Place, blank, put, load, write, fresh}
+use Rattle.run_store.specs.Concrete.{width_kind, flag_at, marked, cell_at}
 use Rattle.gl_store.specs.Meets.{Meets, MeetsMarks, MeetsPlace, MeetsAll, val_kind, val_top, flags_top, kinds, locations_top}
 
 -- the value is that of a where c holds, else that of b
@@ -100,3 +103,44 @@ pub record IsMergedLocation (ns : List Node) (c : ℕ) (a b r : Location) : Type
 pub record IsFlag (locations : List Location) (place : ℕ) (flag : Flag) (gate : ℕ) : Type 0 where
   pub below : gate < locations_top locations
   pub value : (v : ℕ → Bool) (ps : List Place) → MeetsAll v locations ps → v gate ≡ flag_at ps place flag
+
+-- the gate has that value in every choice, false where there is no such location
+pub record IsFlagAnywhere (ns : List Node) (locations : List Location) (place : ℕ) (flag : Flag) (gate : ℕ) : Type 0 where
+  pub below : gate < length ns
+  pub value : (choice v : ℕ → Bool) → Runs ns choice v → (ps : List Place) → MeetsAll v locations ps → v gate ≡ flag_at ps place flag
+
+-- the store with a flag that holds also where b does at a target: null and what is past the end change nothing
+abbrev pub marked_target : List Place → (target : ℕ) → Flag → Bool → List Place
+marked_target ps zero f b = ps
+marked_target ps (suc i) f b = marked ps i f b
+
+-- a flag of a target holds also where `when` does
+pub record IsMarkedTarget (ns : List Node) (when target : ℕ) (flag : Flag) (old new : List Location) : Type 0 where
+  pub below : locations_top new ≤ length ns
+  pub same : kinds new ≡ kinds old
+  pub value : (choice v : ℕ → Bool) → Runs ns choice v → (ps : List Place) → MeetsAll v old ps → MeetsAll v new (marked_target ps target flag (v when))
+
+-- a flag of the target of a pointer holds also where `live` does
+pub record IsMarkedWhere (ns : List Node) (live : ℕ) (pointer : List Pair) (flag : Flag) (old new : List Location) : Type 0 where
+  pub below : locations_top new ≤ length ns
+  pub same : kinds new ≡ kinds old
+  pub value : (choice v : ℕ → Bool) → Runs ns choice v → (ps : List Place) (t : ℕ) → MeetsAll v old ps → Points v pointer t
+      → MeetsAll v new (marked_target ps t flag (v live))
+
+-- the value is another one once more
+pub record IsSame (a r : Val) : Type 0 where
+  pub top : val_top r ≡ val_top a
+  pub kind : val_kind r ≡ val_kind a
+  pub value : (v : ℕ → Bool) (x : Cell) → Meets v a x → Meets v r x
+
+-- the store is another one once more
+pub record IsSameStore (old new : List Location) : Type 0 where
+  pub top : locations_top new ≡ locations_top old
+  pub same : kinds new ≡ kinds old
+  pub value : (v : ℕ → Bool) (ps : List Place) → MeetsAll v old ps → MeetsAll v new ps
+
+-- the kind of cells that a location is for
+abbrev pub kind_is : CellKind → Kind
+kind_is (Words width) = Numbers width
+kind_is Pointers = PointerCells
+kind_is NoCell = NoCells

@@ -2,7 +2,7 @@
 ghost use Rattle.std.specs.Prelude.{◌≡◌, ℕ, ◌<◌, ◌≤◌, length, IfOk};
 ghost use Rattle.bit_net.specs.Runs.{Grown};
 ghost use Rattle.gl_store.specs.Meets.{val_kind, val_top, flags_top, kinds, locations_top};
-ghost use Rattle.gl_store.specs.Steps.{IsChoice, IsFresh, IsMerged, IsMergedLocation, IsMergedFlags};
+ghost use Rattle.gl_store.specs.Steps.{IsChoice, IsFresh, IsMerged, IsMergedLocation, IsMergedFlags, IsSameStore};
 
 use crate::stores::{Flags, Location, Shape, Store};
 use crate::values::{Val, blank, choose};
@@ -17,6 +17,27 @@ impl Store {
         let locations = fresh_locations(net, &shape.cells)?;
         Ok(Store { locations })
     }
+
+    /// The same store once more.
+    pub fn try_clone(&self, net: &Net) -> Result<Store, OutOfMemory>
+        ensures { IfOk result (λ r. IsSameStore self.now.locations.items r.locations.items) }
+    {
+        let locations = copied_locations(net, &self.locations)?;
+        Ok(Store { locations })
+    }
+}
+
+/// The same locations once more.
+fn copied_locations(net: &Net, old: &[Location]) -> Result<Vec<Location>, OutOfMemory>
+    ensures { IfOk result (λ r. IsSameStore old.now r.items) }
+{
+    let mut locations = Vec::new(net.alloc());
+    for location in old {
+        let val = location.val.try_clone(net)?;
+        let flags = location.flags;
+        locations.push(Location { val, flags })?;
+    }
+    Ok(locations)
 }
 
 /// The store `a` where `c` holds, else the store `b`. What is the same gate in both costs no gate.

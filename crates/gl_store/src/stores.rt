@@ -2,23 +2,13 @@
 ghost use Rattle.std.specs.Prelude.{◌≡◌, ℕ, ◌<◌, ◌≤◌, ◌||◌, length, IfOk, OnOk, OnErr};
 ghost use Rattle.bit_net.specs.Runs.{Grown, Gives};
 ghost use Rattle.gl_sets.specs.Guards.{guards_top};
-ghost use Rattle.gl_store.specs.Concrete.{width_kind};
+ghost use Rattle.run_store.specs.Concrete.{width_kind};
 ghost use Rattle.gl_store.specs.Meets.{val_top, locations_top, kinds};
 ghost use Rattle.gl_store.specs.Steps.{IsLoaded, IsStored, IsRead, IsWritten};
 
 use crate::values::{Val, blank, overwrite};
 use bit_net::{Gate, Net, OutOfMemory};
 use gl_sets::{Pair, Set};
-
-/// What may have happened to a location.
-#[derive(Clone, Copy, Debug, PartialEq, Eq)]
-pub enum Flag {
-    Touched,
-    Written,
-    Allocated,
-    Freed,
-    Escaped,
-}
 
 /// A gate for each flag.
 #[derive(Clone, Copy, Debug)]

@@ -5,27 +5,22 @@ ghost use Rattle.bit_net.specs.Circuit.{input_count};
 ghost use Rattle.bit_net.specs.Runs.{Grown, Always};
 ghost use Rattle.bit_words.specs.Number.{top};
 ghost use Rattle.gl_sets.specs.Guards.{Points, guards_top};
-ghost use Rattle.gl_store.specs.Concrete.{Place, Numbers, Pointers, load, write};
+ghost use Rattle.run_store.specs.Concrete.{Place, Numbers, Pointers, load, write};
 ghost use Rattle.gl_store.specs.Meets.{MeetsAll, val_top, locations_top, kinds};
 
 use crate::{Flag, Shape, Store, Val, merge};
 use bit_net::{Gate, Net, OutOfMemory};
-use bit_words::Word;
+use bit_words::{Word, constant};
 use gl_sets::{Set, join};
 use std::process::Abort;
 use std::test::Fail;
 
-/// The word of `width` bits that spells a number for every choice.
-#[tactic(auto, using(crate::proofs::ValueLemmas::top_laws))]
+/// The bits of a number.
 fn word(net: &Net, width: usize, number: u64) -> Result<Vec<Gate>, OutOfMemory>
     ensures { IfOk result (λ r. top r.items ≤ length net.now) }
 {
-    let mut bits = Vec::new(net.alloc());
-    for i in 0..width {
-        let place = ((width - 1 - i) % 64) as u32;
-        bits.push(net.constant((number >> place) & 1 == 1))?;
-    }
-    Ok(bits)
+    let word = constant(net, number, width)?;
+    Ok(word.bits)
 }
 
 /// The value of a gate of a net of at most 1,024 gates, where the inputs have the values of `choice`.
@@ -70,6 +65,32 @@ fn marks_where_the_input_holds(rt: HostRuntime) -> Result<(), Fail> {
     assert_eq!(rt; value(&rt, &net, &[true], freed), true);
     assert_eq!(rt; value(&rt, &net, &[false], freed), false);
     assert_eq!(rt; value(&rt, &net, &[true], escaped), false);
+    Ok(())
+}
+
+#[test]
+fn marks_where_the_pointer_leads(rt: HostRuntime) -> Result<(), Fail> {
+    let mut net = Net::new(rt.alloc(), 1)?;
+    let shape = Shape {
+        cells: [8, 255].to_vec(rt.alloc())?,
+    };
+    let mut store = Store::new(&mut net, &shape)?;
+    let input = net.input(0);
+    let first = Set::one(&net, 1);
+    let null = Set::one(&net, 0);
+    let pointer = join(&mut net, input, &first, &null)?;
+    let always = net.constant(true);
+    store.mark_where(&mut net, always, &pointer, Flag::Freed)?;
+    let same = store.try_clone(&net)?;
+    assert_eq!(rt; same.flag_anywhere(&net, 0, Flag::Freed), input);
+    assert_eq!(rt;
+        same.flag_anywhere(&net, 1, Flag::Freed),
+        net.constant(false)
+    );
+    assert_eq!(rt;
+        same.flag_anywhere(&net, 2, Flag::Freed),
+        net.constant(false)
+    );
     Ok(())
 }
 

@@ -1,19 +1,35 @@
 //! Values of locations: chosen by a gate, written over one another, and blank.
-ghost use Rattle.std.specs.Prelude.{◌≡◌, ℕ, ◌<◌, ◌≤◌, length, IfOk, OnOk, if◌then◌else◌};
-ghost use Rattle.bit_net.specs.Runs.{Grown, Gives};
-ghost use Rattle.bit_words.specs.Number.{number, top};
-ghost use Rattle.bit_words.specs.Spells.{Spells};
+ghost use Rattle.std.specs.Prelude.{◌≡◌, ℕ, ◌<◌, ◌≤◌, length, IfOk, OnOk};
+ghost use Rattle.bit_net.specs.Runs.{Grown};
+ghost use Rattle.bit_words.specs.Number.{top};
 ghost use Rattle.gl_sets.specs.Guards.{guards_top};
-ghost use Rattle.gl_store.specs.Concrete.{width_kind};
+ghost use Rattle.run_store.specs.Concrete.{width_kind};
 ghost use Rattle.gl_store.specs.Meets.{val_top, val_kind};
-ghost use Rattle.gl_store.specs.Steps.{IsChoice, IsChoiceOfKind, IsOverwritten, IsBlank};
+ghost use Rattle.gl_store.specs.Steps.{IsChoice, IsChoiceOfKind, IsOverwritten, IsBlank, IsSame, kind_is};
 
 use bit_net::{Gate, Net, OutOfMemory};
-use bit_words::Word;
+use bit_words::{Word, select};
 use gl_sets::{Set, join};
 
-/// The width that stands for a pointer.
-pub const POINTER: u32 = 255;
+/// What a location is for: words of a width, pointers, or no cell.
+#[derive(Clone, Copy)]
+enum CellKind {
+    Words(u32),
+    Pointers,
+    NoCell,
+}
+
+/// The kind that a width of a shape stands for: 0 for no cell, 255 for a pointer.
+#[tactic(auto, using(crate::proofs::ValueLemmas::width_laws))]
+fn cell_kind(width: u32) -> CellKind
+    ensures { kind_is result ≡ width_kind width }
+{
+    match width {
+        0 => CellKind::NoCell,
+        255 => CellKind::Pointers,
+        _ => CellKind::Words(width),
+    }
+}
 
 /// The value of a location, or of an expression.
 #[derive(Drop)]
@@ -25,21 +41,24 @@ pub enum Val {
     Unit,
 }
 
-/// The bits of `a` where `c` holds, else those of `b`.
-fn select(net: &mut Net, c: Gate, a: &[Gate], b: &[Gate]) -> Result<Vec<Gate>, OutOfMemory>
-    requires same { length a.now ≡ length b.now }
-    requires c { c.at < length net.old }
-    requires a { top a.now ≤ length net.old }
-    requires b { top b.now ≤ length net.old }
-    ensures grown { Grown net.old net.new }
-    ensures ok { IfOk result (λ r. Spells net.new r.items (length a.now) (λ v. if v c.at then number v a.now else number v b.now)) }
-{
-    let mut bits = Vec::new(net.alloc());
-    for i in 0..a.len() {
-        let bit = net.mux(c, a[i], b[i])?;
-        bits.push(bit)?;
+impl Val {
+    /// The same value once more.
+    #[tactic(auto, using(crate::proofs::CopyLemmas::same_laws))]
+    pub fn try_clone(&self, net: &Net) -> Result<Val, OutOfMemory>
+        ensures { IfOk result (λ r. IsSame self.now r) }
+    {
+        match self {
+            Val::Word(word) => {
+                let word = word.try_clone(net)?;
+                Ok(Val::Word(word))
+            }
+            Val::Set(set) => {
+                let set = set.try_clone(net)?;
+                Ok(Val::Set(set))
+            }
+            Val::Unit => Ok(Val::Unit),
+        }
     }
-    Ok(bits)
 }
 
 /// The word `a` where `c` holds, else the word `b`; none where their widths differ.
@@ -53,8 +72,8 @@ fn choose_words(net: &mut Net, c: Gate, a: &Word, b: &Word) -> Result<Option<Val
     if a.bits.len() != b.bits.len() {
         return Ok(None);
     }
-    let bits = select(net, c, &a.bits, &b.bits)?;
-    Ok(Some(Val::Word(Word { bits })))
+    let word = select(net, c, a, b)?;
+    Ok(Some(Val::Word(word)))
 }
 
 /// The set `a` where `c` holds, else the set `b`.
@@ -115,12 +134,21 @@ pub fn overwrite(net: &mut Net, when: Gate, val: &mut Val, new: &Val) -> Result<
 pub fn blank(net: &Net, width: u32) -> Result<Val, OutOfMemory>
     ensures { IfOk result (λ r. IsBlank net.now (width_kind width) r) }
 {
-    if width == POINTER {
-        return Ok(Val::Set(Set::one(net, 0)));
+    let kind = cell_kind(width);
+    blank_of(net, kind)
+}
+
+/// The blank value of a kind.
+#[tactic(auto, using(crate::proofs::ValueLemmas::blank_laws))]
+fn blank_of(net: &Net, kind: CellKind) -> Result<Val, OutOfMemory>
+    ensures { IfOk result (λ r. IsBlank net.now (kind_is kind) r) }
+{
+    match kind {
+        CellKind::Pointers => Ok(Val::Set(Set::one(net, 0))),
+        CellKind::NoCell => Ok(Val::Unit),
+        CellKind::Words(width) => {
+            let bits = vec![in net.alloc(); net.constant(false); width as usize]?;
+            Ok(Val::Word(Word { bits }))
+        }
     }
-    if width == 0 {
-        return Ok(Val::Unit);
-    }
-    let bits = vec![in net.alloc(); net.constant(false); width as usize]?;
-    Ok(Val::Word(Word { bits }))
 }

@@ -1,5 +1,6 @@
 -- Relations that are let through one object after another, and walks.
-use Rattle.std.proofs.Common.{◌≡◌, ℕ, zero, suc, ◌+◌, ◌<◌, ◌≤◌, Bool, true, false, ◌&&◌, ◌||◌, List, [], ◌∷◌, ◌++◌, length, Vec, refl, sym, ◌∙◌, ap, subst, arith, ◌⊎◌, inl, inr}
+use Rattle.std.proofs.Common.{◌≡◌, ℕ, zero, suc, ◌+◌, ◌<◌, ◌≤◌, Bool, true, false, ◌&&◌, ◌||◌, List, [], ◌∷◌, ◌++◌, length, Vec, refl, sym, ◌∙◌, ap}
+use Rattle.std.proofs.Common.{subst, arith, ◌⊎◌, inl, inr}
 use Rattle.std.proofs.lemmas.Bool.{cases_lt, and_parts, and_from}
 use Rattle.std.specs.declared.alloc.Global.{Global}
 use Rattle.bit_net.specs.declared.nodes.Gate.{Gate}
@@ -53,7 +54,8 @@ pub record IsClosed (k : ℕ) (p : ℕ → ℕ → Bool) (roots : ℕ → Bool) 
   pub found_by_way : (x j : ℕ) → x < k → f x ≡ true → m x j ≡ true → f j ≡ true
 
 -- at first the pointers and the roots themselves
-pub closed_none : (p : ℕ → ℕ → Bool) (roots : ℕ → Bool) (m : ℕ → ℕ → Bool) (f : ℕ → Bool) → ((i j : ℕ) → m i j ≡ p i j) → ((i : ℕ) → f i ≡ roots i) → IsClosed 0 p roots m f
+pub closed_none : (p : ℕ → ℕ → Bool) (roots : ℕ → Bool) (m : ℕ → ℕ → Bool) (f : ℕ → Bool) → ((i j : ℕ) → m i j ≡ p i j) → ((i : ℕ) → f i ≡ roots i)
+    → IsClosed 0 p roots m f
 closed_none p roots m f e g = record {
   edges = λ i j h. e i j ∙ h;
   starts = λ i h. g i ∙ h;
@@ -89,10 +91,17 @@ pub closed_more : (k : ℕ) (p : ℕ → ℕ → Bool) (roots : ℕ → Bool) (m
 closed_more k p roots m m' f f' e g s = record {
   edges = λ i j h. e i j ∙ there (m i j) (m i k) (m k j) (s.edges i j h);
   starts = λ i h. g i ∙ there (f i) (f k) (m k i) (s.starts i h);
-  walks = λ i j h. (elim (split (m i j) (m i k) (m k j) (sym (e i j) ∙ h)) [ inl a ↦ s.walks i j a | inr b ↦ Leads-trans p i k j (s.walks i k b.0) (s.walks k j b.1) ]);
-  found = λ j h. (elim (split (f j) (f k) (m k j) (sym (g j) ∙ h)) [ inl a ↦ s.found j a | inr b ↦ Reached-more p roots k j (s.found k b.0) (s.walks k j b.1) ]);
-  by_way = λ x i j low h l. e i j ∙ way x i j (cases_lt x k) low (split (m i x) (m i k) (m k x) (sym (e i x) ∙ h)) (split (m x j) (m x k) (m k j) (sym (e x j) ∙ l));
-  found_by_way = λ x j low h l. g j ∙ found_way x j (cases_lt x k) low (split (f x) (f k) (m k x) (sym (g x) ∙ h)) (split (m x j) (m x k) (m k j) (sym (e x j) ∙ l));
+  walks = λ i j h. (elim (split (m i j) (m i k) (m k j) (sym (e i j)
+      ∙ h)) [ inl a ↦ s.walks i j a | inr b ↦ Leads-trans p i k j (s.walks i k b.0) (s.walks k j b.1) ]);
+  found = λ j h. (elim (split (f j) (f k) (m k j) (sym (g j) ∙ h)) [
+    | inl a ↦ s.found j a
+    | inr b ↦ Reached-more p roots k j (s.found k b.0)
+        (s.walks k j b.1)
+  ]);
+  by_way = λ x i j low h l. e i j ∙ way x i j (cases_lt x k) low (split (m i x) (m i k) (m k x) (sym (e i x)
+      ∙ h)) (split (m x j) (m x k) (m k j) (sym (e x j) ∙ l));
+  found_by_way = λ x j low h l. g j ∙ found_way x j (cases_lt x k) low (split (f x) (f k) (m k x) (sym (g x)
+      ∙ h)) (split (m x j) (m x k) (m k j) (sym (e x j) ∙ l));
 }
   where
     to_k : (i x : ℕ) → x ≡ k → (m i x ≡ true) ⊎ ((m i k ≡ true) × (m k x ≡ true)) → m i k ≡ true
@@ -107,7 +116,8 @@ closed_more k p roots m m' f f' e g s = record {
     found_to_k x e (inl a) = ap f (sym e) ∙ a
     found_to_k x e (inr b) = b.0
 
-    way : (x i j : ℕ) → (x < k) ⊎ (k ≤ x) → x < k + 1 → (m i x ≡ true) ⊎ ((m i k ≡ true) × (m k x ≡ true)) → (m x j ≡ true) ⊎ ((m x k ≡ true) × (m k j ≡ true))
+    way : (x i j : ℕ) → (x < k) ⊎ (k ≤ x) → x < k + 1 → (m i x ≡ true) ⊎ ((m i k ≡ true) × (m k x ≡ true))
+        → (m x j ≡ true) ⊎ ((m x k ≡ true) × (m k j ≡ true))
         → (m i j || (m i k && m k j)) ≡ true
     way x i j (inl low) h (inl a) (inl b) = there (m i j) (m i k) (m k j) (s.by_way x i j low a b)
     way x i j (inl low) h (inl a) (inr b) = by_k (m i j) (m i k) (m k j) (s.by_way x i k low a b.0) b.1
@@ -117,7 +127,8 @@ closed_more k p roots m m' f f' e g s = record {
         let same : x ≡ k = omega arith in
         by_k (m i j) (m i k) (m k j) (to_k i x same a) (from_k x j same b)
 
-    found_way : (x j : ℕ) → (x < k) ⊎ (k ≤ x) → x < k + 1 → (f x ≡ true) ⊎ ((f k ≡ true) × (m k x ≡ true)) → (m x j ≡ true) ⊎ ((m x k ≡ true) × (m k j ≡ true))
+    found_way : (x j : ℕ) → (x < k) ⊎ (k ≤ x) → x < k + 1 → (f x ≡ true) ⊎ ((f k ≡ true) × (m k x ≡ true))
+        → (m x j ≡ true) ⊎ ((m x k ≡ true) × (m k j ≡ true))
         → (f j || (f k && m k j)) ≡ true
     found_way x j (inl low) h (inl a) (inl b) = there (f j) (f k) (m k j) (s.found_by_way x j low a b)
     found_way x j (inl low) h (inl a) (inr b) = by_k (f j) (f k) (m k j) (s.found_by_way x k low a b.0) b.1
@@ -154,20 +165,25 @@ pub record ReachedSoFar (ns : List Node) (k : ℕ) (points : List (List Gate)) (
   pub found_below : gates_top found ≤ length ns
   pub closed : (choice v : ℕ → Bool) → Runs ns choice v → IsClosed k (pointed v points) (holds_at v roots) (pointed v rows) (holds_at v found)
 
-pub reached_none : (ns : List Node) (points : List (List Gate)) (roots : List Gate) (rows : List (List Gate)) (found : List Gate) → rows ≡ points → found ≡ roots
-    → length points ≡ length roots → EachWide (length roots) points → rows_top points ≤ length ns → gates_top roots ≤ length ns → ReachedSoFar ns 0 points roots rows found
+pub reached_none : (ns : List Node) (points : List (List Gate)) (roots : List Gate) (rows : List (List Gate)) (found : List Gate) → rows ≡ points
+    → found ≡ roots
+    → length points ≡ length roots → EachWide (length roots) points → rows_top points ≤ length ns → gates_top roots ≤ length ns
+    → ReachedSoFar ns 0 points roots rows found
 reached_none ns points roots rows found e f count wide below roots_below = record {
   count = ap length e ∙ count;
   wide = subst (EachWide (length roots)) (sym e) wide;
   below = omega (arith, ap rows_top e, below);
   found_wide = ap length f;
   found_below = omega (arith, ap gates_top f, roots_below);
-  closed = λ choice v r. closed_none (pointed v points) (holds_at v roots) (pointed v rows) (holds_at v found) (λ i j. ap (λ l. pointed v l i j) e) (λ i. ap (λ l. holds_at v l i) f);
+  closed = λ choice v r. closed_none (pointed v points) (holds_at v roots) (pointed v rows) (holds_at v found) (λ i j. ap (λ l. pointed v l i j) e)
+      (λ i. ap (λ l. holds_at v l i) f);
 }
 
-pub reached_step : (n1 n2 ns : List Node) (k : ℕ) (points : List (List Gate)) (roots : List Gate) (rows rs ts : List (Vec Gate Global)) (rows' : List (List Gate)) (found gates found' : List Gate)
+pub reached_step : (n1 n2 ns : List Node) (k : ℕ) (points : List (List Gate)) (roots : List Gate) (rows rs ts : List (Vec Gate Global)) (rows' : List
+    (List Gate)) (found gates found' : List Gate)
     → Grown n1 n2 → Grown n2 ns → rs ≡ rows → ts ≡ rows → gates ≡ found
-    → IsFoundThrough n2 k (rows_of rs) gates found' → IsThrough ns k (rows_of ts) rows' → ReachedSoFar n1 k points roots (rows_of rows) found → ReachedSoFar ns (k + 1) points roots rows' found'
+    → IsFoundThrough n2 k (rows_of rs) gates found' → IsThrough ns k (rows_of ts) rows' → ReachedSoFar n1 k points roots (rows_of rows) found
+    → ReachedSoFar ns (k + 1) points roots rows' found'
 reached_step n1 n2 ns k points roots rows rs ts rows' found gates found' g h e1 e2 e3 w0 t0 s =
     let w1 : IsFoundThrough n2 k (rows_of rows) gates found' = subst (λ (l : List (Vec Gate Global)). IsFoundThrough n2 k (rows_of l) gates found') e1 w0 in
     let w : IsFoundThrough n2 k (rows_of rows) found found' = subst (λ (l : List Gate). IsFoundThrough n2 k (rows_of rows) l found') e3 w1 in
@@ -184,7 +200,8 @@ reached_step n1 n2 ns k points roots rows rs ts rows' found gates found' g h e1 
           (t.value choice v r) (w.value choice v r2) (s.closed choice v (g.runs choice v r2)));
     }
 
-pub reached_whole : (ns : List Node) (k : ℕ) (points : List (List Gate)) (roots : List Gate) (rows : List (List Gate)) (found : List Gate) → length points ≡ length roots → k ≡ length roots
+pub reached_whole : (ns : List Node) (k : ℕ) (points : List (List Gate)) (roots : List Gate) (rows : List (List Gate)) (found : List Gate)
+    → length points ≡ length roots → k ≡ length roots
     → ReachedSoFar ns k points roots rows found → IsReached ns points roots found
 reached_whole ns k points roots rows found count whole s = record {
   wide = s.found_wide;

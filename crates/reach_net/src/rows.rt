@@ -112,6 +112,5 @@ fn or_through(net: &mut Net, there: Gate, to: Gate, from: Gate) -> Result<Gate, 
     ensures ok { IfOk result (λ r. Gives net.new r.at (λ choice v. v there.at || (v to.at && v from.at))) }
 {
     let both = net.and(to, from)?;
-    let always = net.constant(true);
-    net.mux(there, always, both)
+    net.or(there, both)
 }

@@ -1,5 +1,5 @@
 use Rattle.std.proofs.Common.{rules}
-use Rattle.bit_words.proofs.NetLemmas.{Grown-trans}
+use Rattle.bit_net.proofs.Growth.{Grown-trans}
 use Rattle.bit_words.proofs.LoopLemmas.{equal_none, equal_step}
 use Rattle.bit_words.proofs.bits.equal.Goals as goal
 

@@ -1,7 +1,7 @@
 use Rattle.std.proofs.Common.{arith, rules}
 use Rattle.std.proofs.lemmas.Grind.{common_steps}
 use Rattle.bit_words.proofs.NumberLemmas.{bound_laws}
-use Rattle.bit_words.proofs.NetLemmas.{Grown-trans}
+use Rattle.bit_net.proofs.Growth.{Grown-trans}
 use Rattle.bit_words.proofs.LoopLemmas.{flip_none, flip_step}
 use Rattle.bit_words.proofs.bits.flipped.Goals as goal
 

@@ -3,7 +3,7 @@ use Rattle.std.proofs.lemmas.Grind.{common_steps}
 use Rattle.bit_net.specs.Runs.{Runs}
 use Rattle.bit_words.specs.Number.{number, quotient, remainder}
 use Rattle.bit_words.proofs.NumberLemmas.{bound_laws}
-use Rattle.bit_words.proofs.NetLemmas.{Grown-trans}
+use Rattle.bit_net.proofs.Growth.{Grown-trans}
 use Rattle.bit_words.proofs.ProductLemmas.{division_none, division_step}
 use Rattle.bit_words.proofs.dividing.divide.Goals as goal
 

@@ -2,7 +2,7 @@ use Rattle.std.proofs.Common.{arith, rules}
 use Rattle.std.proofs.lemmas.Grind.{common_steps}
 use Rattle.std.proofs.lemmas.List.{take_rest}
 use Rattle.bit_words.proofs.NumberLemmas.{bound_laws}
-use Rattle.bit_words.proofs.NetLemmas.{Grown-trans}
+use Rattle.bit_net.proofs.Growth.{Grown-trans}
 use Rattle.bit_words.proofs.ProductLemmas.{product_none, product_step}
 use Rattle.bit_words.proofs.multiplying.product.Goals as goal
 

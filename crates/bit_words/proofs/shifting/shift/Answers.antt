@@ -1,7 +1,7 @@
 use Rattle.std.proofs.Common.{◌∙◌, ap, arith, length, rules}
 use Rattle.std.proofs.lemmas.Nat.{one_shl}
 use Rattle.bit_words.specs.Number.{top}
-use Rattle.bit_words.proofs.NetLemmas.{Grown-trans}
+use Rattle.bit_net.proofs.Growth.{Grown-trans}
 use Rattle.bit_words.proofs.MoveLemmas.{shift_none, shift_step}
 use Rattle.bit_words.proofs.shifting.shift.Goals as goal
 

@@ -11,6 +11,11 @@ returns-in-And-clause-fresh g c base all =
     let below = rw c.in-And.is at c.requires.operands in
     c.and_clauses.ensures.fresh base (all c.args.gate _ c.requires.gate) (all c.in-And.a.at _ below.0) (all c.in-And.b.at _ below.1)
 
+pub returns-in-Or-clause-fresh : goal.returns-in-Or-clause-fresh
+returns-in-Or-clause-fresh g c base all =
+    let below = rw c.in-Or.is at c.requires.operands in
+    c.or_clauses.ensures.fresh base (all c.args.gate _ c.requires.gate) (all c.in-Or.a.at _ below.0) (all c.in-Or.b.at _ below.1)
+
 pub returns-in-Xor-clause-fresh : goal.returns-in-Xor-clause-fresh
 returns-in-Xor-clause-fresh g c base all =
     let below = rw c.in-Xor.is at c.requires.operands in

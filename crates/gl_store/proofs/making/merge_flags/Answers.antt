@@ -1,4 +1,4 @@
-use Rattle.gl_store.proofs.ValueLemmas.{Grown-trans}
+use Rattle.bit_net.proofs.Growth.{Grown-trans}
 use Rattle.gl_store.proofs.MakeLemmas.{Gives-grown, merged_flags}
 use Rattle.gl_store.proofs.making.merge_flags.Goals as goal
 

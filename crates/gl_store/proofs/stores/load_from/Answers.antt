@@ -1,10 +1,11 @@
 use Rattle.std.proofs.Common.{arith}
-use Rattle.gl_store.proofs.ValueLemmas.{Grown-same, Grown-trans}
-use Rattle.gl_store.proofs.StoreLemmas.{guard_below, loaded_none, loaded_step, loaded_whole}
+use Rattle.bit_net.proofs.Growth.{Grown-refl, Grown-trans}
+use Rattle.gl_sets.proofs.GuardLemmas.{guard_below}
+use Rattle.gl_store.proofs.StoreLemmas.{loaded_none, loaded_step, loaded_whole}
 use Rattle.gl_store.proofs.stores.load_from.Goals as goal
 
 pub loop-pair-init : goal.loop-pair-init
-loop-pair-init c = record { grown = Grown-same _; so_far = loaded_none _ _ _ _ _ c.in_ok-found.ensures }
+loop-pair-init c = record { grown = Grown-refl _; so_far = loaded_none _ _ _ _ _ c.in_ok-found.ensures }
 
 pub read_where-requires-clause-pair : goal.read_where-requires-clause-pair
 read_where-requires-clause-pair c =

@@ -1,5 +1,5 @@
 use Rattle.bit_net.specs.Runs.{Grown}
-use Rattle.gl_store.specs.Concrete.{width_kind}
+use Rattle.run_store.specs.Concrete.{width_kind}
 use Rattle.gl_store.proofs.StoreLemmas.{LoadedSoFar}
 use Rattle.gl_store.proofs.stores.load_from.Given as goal
 

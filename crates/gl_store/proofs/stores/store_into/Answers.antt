@@ -1,10 +1,11 @@
 use Rattle.std.proofs.Common.{arith}
-use Rattle.gl_store.proofs.ValueLemmas.{Grown-same, Grown-trans}
-use Rattle.gl_store.proofs.StoreLemmas.{guard_below, stored_none, stored_step, stored_whole}
+use Rattle.bit_net.proofs.Growth.{Grown-refl, Grown-trans}
+use Rattle.gl_sets.proofs.GuardLemmas.{guard_below}
+use Rattle.gl_store.proofs.StoreLemmas.{stored_none, stored_step, stored_whole}
 use Rattle.gl_store.proofs.stores.store_into.Goals as goal
 
 pub loop-pair-init : goal.loop-pair-init
-loop-pair-init c = record { grown = Grown-same _; so_far = stored_none _ _ _ _ _ c.requires.locations }
+loop-pair-init c = record { grown = Grown-refl _; so_far = stored_none _ _ _ _ _ c.requires.locations }
 
 pub and-requires-clause-b : goal.and-requires-clause-b
 and-requires-clause-b c =

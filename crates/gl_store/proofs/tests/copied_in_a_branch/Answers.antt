@@ -1,4 +1,4 @@
-use Rattle.gl_store.specs.Concrete.{Numbers, load}
+use Rattle.run_store.specs.Concrete.{Numbers, load}
 use Rattle.gl_store.proofs.tests.copied_in_a_branch.Goals as goal
 
 -- the run of the last net is brought back by `grown.runs`, once a call, and the clauses are cited from the inside out

@@ -1,12 +1,13 @@
 use Rattle.std.proofs.Common.{length, ap, ◌∙◌, arith}
 use Rattle.reach_net.specs.Walks.{gates_top, rows_top, rows_of}
-use Rattle.reach_net.proofs.RowLemmas.{Grown-same, Grown-trans, same_square, length-rows_of}
+use Rattle.bit_net.proofs.Growth.{Grown-refl, Grown-trans}
+use Rattle.reach_net.proofs.RowLemmas.{same_square, length-rows_of}
 use Rattle.reach_net.proofs.WalkLemmas.{reached_none, reached_step, reached_whole}
 use Rattle.reach_net.proofs.rows.reached.Goals as goal
 
 pub loop-k-init : goal.loop-k-init
 loop-k-init c = record {
-  grown = Grown-same _;
+  grown = Grown-refl _;
   so_far = reached_none _ _ _ _ _ (c.in_ok-rows.ensures ∙ ap rows_of c.deref.ensures.value) (c.in_ok-found.ensures.items ∙ c.deref-2.ensures.value)
       (length-rows_of _ ∙ c.requires.count) c.requires.wide c.requires.points c.requires.roots;
 }
@@ -33,7 +34,13 @@ pub through-requires-clause-wide : goal.through-requires-clause-wide
 through-requires-clause-wide c = same_square _ _ _ c.deref-in-loop-k-3.ensures.value c.loop-k.invariant.so_far.count c.loop-k.invariant.so_far.wide
 
 pub through-requires-clause-below : goal.through-requires-clause-below
-through-requires-clause-below c = omega (arith, ap (λ l. rows_top (rows_of l)) c.deref-in-loop-k-3.ensures.value, c.loop-k.invariant.so_far.below, c.in_ok-more.ensures.grown.longer)
+through-requires-clause-below c = omega (
+  arith,
+  ap (λ l. rows_top
+      (rows_of l)) c.deref-in-loop-k-3.ensures.value,
+  c.loop-k.invariant.so_far.below,
+  c.in_ok-more.ensures.grown.longer,
+)
 
 pub loop-k-preserved : goal.loop-k-preserved
 loop-k-preserved c = record {

@@ -1,9 +1,10 @@
 use Rattle.std.proofs.Common.{◌∙◌, sym, arith}
-use Rattle.reach_net.proofs.RowLemmas.{Grown-same, Grown-trans, row_wide, row_below, through_none, through_step, through_whole}
+use Rattle.bit_net.proofs.Growth.{Grown-refl, Grown-trans}
+use Rattle.reach_net.proofs.RowLemmas.{row_wide, row_below, through_none, through_step, through_whole}
 use Rattle.reach_net.proofs.rows.through.Goals as goal
 
 pub loop-row-init : goal.loop-row-init
-loop-row-init c = record { grown = Grown-same _; so_far = through_none _ _ _ _ c.new-all.ensures.items }
+loop-row-init c = record { grown = Grown-refl _; so_far = through_none _ _ _ _ c.new-all.ensures.items }
 
 pub widened-requires-clause-place : goal.widened-requires-clause-place
 widened-requires-clause-place c = omega (arith, row_wide _ _ c.loop-row.row-index _ _ c.row-item.is c.deref.ensures.value c.loop-row-test.true c.requires.wide, c.requires.place)

@@ -1,17 +1,19 @@
 use Rattle.std.proofs.Common.{◌<◌, length, length-append, ap, arith, ◌∷◌, []}
 use Rattle.reach_net.specs.Walks.{gates_top, holds_at}
-use Rattle.reach_net.proofs.RowLemmas.{Grown-same, Grown-trans, gate_below, gates_top-push, gates_top-nil, Widens-none, Widens-step, widened_whole, widened_same}
+use Rattle.bit_net.proofs.Growth.{Grown-refl, Grown-trans}
+use Rattle.reach_net.proofs.RowLemmas.{gate_below, gates_top-push, gates_top-nil, Widens-none, Widens-step, widened_whole, widened_same}
 use Rattle.reach_net.proofs.rows.widened.Goals as goal
 
 pub is_never-requires : goal.is_never-requires
 is_never-requires c = omega (arith, gate_below c.args.row.now c.args.k record { at = 0 } c.requires.place, c.requires.row)
 
 pub returns-then-is_never-clause-ok : goal.returns-then-is_never-clause-ok
-returns-then-is_never-clause-ok c = widened_same _ _ c.args.k _ c.args.row.now c.args.next.now _ (Grown-same _) c.requires.place c.requires.row c.in_ok-same.ensures.items (c.is_never.ensures.never c.if-is_never.true).holds
+returns-then-is_never-clause-ok c = widened_same _ _ c.args.k _ c.args.row.now c.args.next.now _
+    (Grown-refl _) c.requires.place c.requires.row c.in_ok-same.ensures.items (c.is_never.ensures.never c.if-is_never.true).holds
 
 pub loop-j-init : goal.loop-j-init
 loop-j-init c = record {
-  grown = Grown-same _;
+  grown = Grown-refl _;
   wide = ap length c.new-wider.ensures.items;
   below = omega (arith, ap gates_top c.new-wider.ensures.items, gates_top-nil);
   value = record { holds = λ choice v r. Widens-none v (holds_at v c.args.row.now c.args.k) _ c.new-wider.ensures.items };
@@ -44,4 +46,5 @@ loop-j-preserved c =
 
 pub returns-clause-ok : goal.returns-clause-ok
 returns-clause-ok c =
-    widened_whole _ c.args.k c.loop-j.j c.args.row.now c.args.next.now _ c.requires.wide c.loop-j-test.false (omega (arith, c.loop-j.invariant.wide)) c.loop-j.invariant.below c.loop-j.invariant.value.holds
+    widened_whole _ c.args.k c.loop-j.j c.args.row.now c.args.next.now _ c.requires.wide c.loop-j-test.false (omega
+    (arith, c.loop-j.invariant.wide)) c.loop-j.invariant.below c.loop-j.invariant.value.holds

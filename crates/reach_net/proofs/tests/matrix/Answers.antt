@@ -3,7 +3,15 @@ use Rattle.reach_net.proofs.RowLemmas.{no_rows, pushed_row, gate_below}
 use Rattle.reach_net.proofs.tests.matrix.Goals as goal
 
 pub loop-i-init : goal.loop-i-init
-loop-i-init c = record { count = ap length c.new-rows.ensures.items; wide = (no_rows _ _ c.new-rows.ensures.items).0; below = omega (arith, (no_rows (length c.args.targets.now) c.new-rows.result.items c.new-rows.ensures.items).1) }
+loop-i-init c = record {
+  count = ap length c.new-rows.ensures.items;
+  wide = (no_rows _ _ c.new-rows.ensures.items).0;
+  below = omega (
+    arith,
+    (no_rows
+        (length c.args.targets.now) c.new-rows.result.items c.new-rows.ensures.items).1,
+  );
+}
 
 pub row-requires : goal.row-requires
 row-requires c =
