@@ -1,6 +1,7 @@
 -- No piece is empty, and a table in which no spelling stands before a longer one that begins with it gives
 -- the longest fit.
-use Rattle.std.proofs.Common.{◌≡◌, ℕ, ◌+◌, ◌<◌, ◌≤◌, Bool, true, List, [], ◌∷◌, length, take, drop, refl, sym, ap, ◌∙◌, arith, Option, Some, None, inl, inr, subst}
+use Rattle.std.proofs.Common.{◌≡◌, ℕ, ◌+◌, ◌<◌, ◌≤◌, Bool, true, List, [], ◌∷◌, length, take, drop, refl, sym, ap, ◌∙◌, arith, Option, Some}
+use Rattle.std.proofs.Common.{None, inl, inr, subst}
 use Rattle.std.specs.Prelude.{◌==◌, ◌&&◌, not, nat_lt, option_map, unwrap_or, bytes_eq}
 use Rattle.std.proofs.lemmas.Bool.{and_parts, and_from, or_cases, cond-false, cond-true, cases_Bool, cases_lt, eqb-false, lt-ltb}
 use Rattle.std.proofs.lemmas.List.{take-take}
@@ -9,7 +10,7 @@ use Rattle.sc_tree.specs.declared.token.Punct.{Punct}
 use Rattle.sc_tree.specs.declared.piece.Piece.{Piece}
 use Rattle.sc_tree.specs.declared.piece.Opening.{Opening}
 use Rattle.sc_tree.specs.Tables.{begins, first_fit}
-use Rattle.sc_lexer.specs.Spellings.{is_spelling}
+use Rattle.sc_lexer.specs.Laws.{is_spelling}
 use Rattle.sc_tree.specs.Puncts.{punctuators, punctuator}
 use Rattle.sc_tree.specs.Literals.{openings, opening, opened}
 use Rattle.sc_tree.specs.Pieces.{piece, plain_piece, closed, longest, piece_of}
@@ -43,7 +44,8 @@ opening_has_bytes : (bytes : List ℕ) (row : List ℕ × Opening) → opening b
 unfolding opening
 opening_has_bytes bytes row e = fit_has_bytes openings bytes row refl e
 
-piece_by : (o : Option (List ℕ × Opening)) (fresh : Bool) (bytes : List ℕ) (p : Piece) → opening bytes ≡ o → unwrap_or (option_map (λ row. closed (length row.0) row.1 bytes) o) (plain_piece fresh bytes) ≡ Some p → 0 < p.len
+piece_by : (o : Option (List ℕ × Opening)) (fresh : Bool) (bytes : List ℕ) (p : Piece) → opening bytes ≡ o
+    → unwrap_or (option_map (λ row. closed (length row.0) row.1 bytes) o) (plain_piece fresh bytes) ≡ Some p → 0 < p.len
 piece_by None fresh bytes p is e = plain_has_bytes fresh bytes p e
 piece_by (Some row) fresh bytes p is e = closed_has_bytes (length row.0) row.1 bytes p (opening_has_bytes bytes row is) e
 
@@ -72,28 +74,32 @@ front_of_front a b bytes ea eb le =
 
 contradiction : (a text : List ℕ) → begins a text ≡ true → length a < length text → not (begins a text && nat_lt (length a) (length text)) ≡ true → ⊥
 contradiction a text e lt h =
-    let both : (begins a text && nat_lt (length a) (length text)) ≡ true = and_from (begins a text) (nat_lt (length a) (length text)) e (lt-ltb (length a) (length text) lt) in
+    let both : (begins a text && nat_lt (length a) (length text)) ≡ true =
+    and_from (begins a text) (nat_lt (length a) (length text)) e (lt-ltb (length a) (length text) lt) in
     let bad : not true ≡ true = ap not (sym both) ∙ h in
     cc
 
 same_text : (r text : List ℕ) → bytes_eq r text ≡ true → r ≡ text
 same_text r text e = (bytes_eq-Decides r text).0 e
 
-not_longer : {A : Type 0} (a : List ℕ) (rows : List (List ℕ × A)) (text bytes : List ℕ) → stands_right a rows ≡ true → is_spelling rows text ≡ true → begins a bytes ≡ true → begins text bytes ≡ true → length text ≤ length a
+not_longer : {A : Type 0} (a : List ℕ) (rows : List (List ℕ × A)) (text bytes : List ℕ) → stands_right a rows ≡ true → is_spelling rows text
+    ≡ true → begins a bytes ≡ true → begins text bytes ≡ true → length text ≤ length a
 not_longer a [] text bytes right is ea et = absurd (cc)
 not_longer a (r ∷ rows) text bytes right is ea et =
     let p = and_parts (not (begins a r.0 && nat_lt (length a) (length r.0))) (stands_right a rows) right in
     elim (or_cases (bytes_eq r.0 text) (is_spelling rows text) is) [
       | inl e ↦ elim (cases_lt (length a) (length text)) [
         | inl lt ↦ absurd (
-            let here : not (begins a text && nat_lt (length a) (length text)) ≡ true = ap (λ (xs : List ℕ). not (begins a xs && nat_lt (length a) (length xs))) (sym (same_text r.0 text e)) ∙ p.0 in
+            let here : not (begins a text && nat_lt (length a) (length text)) ≡ true =
+            ap (λ (xs : List ℕ). not (begins a xs && nat_lt (length a) (length xs))) (sym (same_text r.0 text e)) ∙ p.0 in
             contradiction a text (front_of_front a text bytes ea et (omega arith)) lt here)
         | inr le ↦ le
       ]
       | inr e ↦ not_longer a rows text bytes p.1 e ea et
     ]
 
-fit_is_longest : {A : Type 0} (table : List (List ℕ × A)) (bytes text : List ℕ) (row : List ℕ × A) → is_ordered table ≡ true → first_fit table bytes ≡ Some row → is_spelling table text ≡ true → begins text bytes ≡ true → length text ≤ length row.0
+fit_is_longest : {A : Type 0} (table : List (List ℕ × A)) (bytes text : List ℕ) (row : List ℕ × A) → is_ordered table ≡ true
+    → first_fit table bytes ≡ Some row → is_spelling table text ≡ true → begins text bytes ≡ true → length text ≤ length row.0
 fit_is_longest [] bytes text row ordered fit is et = absurd (cc)
 fit_is_longest {A} (r ∷ rows) bytes text row ordered fit is et =
     let p = and_parts (stands_right r.0 rows) (is_ordered rows) ordered in
@@ -114,6 +120,7 @@ fit_is_longest {A} (r ∷ rows) bytes text row ordered fit is et =
           ]
     ]
 
-pub punctuator_is_longest : (bytes text : List ℕ) (row : List ℕ × Punct) → punctuator bytes ≡ Some row → is_spelling punctuators text ≡ true → begins text bytes ≡ true → length text ≤ length row.0
+pub punctuator_is_longest : (bytes text : List ℕ) (row : List ℕ × Punct) → punctuator bytes ≡ Some row → is_spelling punctuators text ≡ true
+    → begins text bytes ≡ true → length text ≤ length row.0
 unfolding punctuator
 punctuator_is_longest bytes text row fit is et = fit_is_longest punctuators bytes text row refl fit is et

@@ -26,15 +26,19 @@ pub stays_too_large : (m n : ℕ) → m ≤ n → fitting m ≡ None → fitting
 stays_too_large m n le none = elim (cases_lt n (2 ^ 64)) [ inl h ↦ above m n le none h | inr h ↦ fits_not n h ]
 
 -- where one digit more is too much, the whole number is too large
-pub number_stops : (base n : ℕ) (digits : List ℕ) (i : ℕ) (d : ℕ) → 0 < base → i < length digits → d ≡ get_or digits i 0 → fitting (n * base + digit_value d) ≡ None → number_from base n (drop i digits) ≡ number_from base 0 digits → None ≡ fitting (number_from base 0 digits)
+pub number_stops : (base n : ℕ) (digits : List ℕ) (i : ℕ) (d : ℕ) → 0 < base → i < length digits → d ≡ get_or digits i 0
+    → fitting (n * base + digit_value d) ≡ None → number_from base n (drop i digits) ≡ number_from base 0 digits → None
+    ≡ fitting (number_from base 0 digits)
 number_stops base n digits i d pos lt is none whole =
     let e : drop i digits ≡ d ∷ drop (i + 1) digits = drop_more digits i 0 lt ∙ ap (λ (x : ℕ). x ∷ drop (i + 1) digits) (sym is) in
-    let w : number_from base (n * base + digit_value d) (drop (i + 1) digits) ≡ number_from base 0 digits = ap (λ (xs : List ℕ). number_from base n xs) (sym e) ∙ whole in
+    let w : number_from base (n * base + digit_value d) (drop (i + 1) digits) ≡ number_from base 0 digits =
+    ap (λ (xs : List ℕ). number_from base n xs) (sym e) ∙ whole in
     let g = grows base (n * base + digit_value d) (drop (i + 1) digits) pos in
     sym (ap fitting (sym w) ∙ stays_too_large (n * base + digit_value d) (number_from base (n * base + digit_value d) (drop (i + 1) digits)) g none)
 
 -- where no digit is left, the number so far is the whole
-pub number_ends : (base n : ℕ) (digits : List ℕ) (i : ℕ) → length digits ≤ i → n < 2 ^ 64 → number_from base n (drop i digits) ≡ number_from base 0 digits → Some n ≡ fitting (number_from base 0 digits)
+pub number_ends : (base n : ℕ) (digits : List ℕ) (i : ℕ) → length digits ≤ i → n < 2 ^ 64 → number_from base n (drop i digits)
+    ≡ number_from base 0 digits → Some n ≡ fitting (number_from base 0 digits)
 number_ends base n digits i le small whole =
     let e : number_from base n (drop i digits) ≡ n = ap (λ (xs : List ℕ). number_from base n xs) (drop_all i digits le) in
     sym (ap fitting (sym whole ∙ e) ∙ fits n small)

@@ -1,5 +1,6 @@
 -- Counting byte by byte gives the place that is counted from all bytes before.
-use Rattle.std.proofs.Common.{◌≡◌, ℕ, ◌+◌, ◌-◌, ◌<◌, ◌≤◌, Bool, true, false, cond, List, [], ◌∷◌, ◌++◌, length, take, drop, refl, sym, ap, ◌∙◌, arith, append_assoc, inl, inr}
+use Rattle.std.proofs.Common.{◌≡◌, ℕ, ◌+◌, ◌-◌, ◌<◌, ◌≤◌, Bool, true, false, cond, List, [], ◌∷◌, ◌++◌, length, take, drop, refl, sym, ap}
+use Rattle.std.proofs.Common.{◌∙◌, arith, append_assoc, inl, inr}
 use Rattle.std.specs.Prelude.{◌&&◌, not}
 use Rattle.std.specs.List.{list_all, suffix_len, prefix_len, count_by}
 use Rattle.std.proofs.lemmas.Bool.{cases_Bool}
@@ -11,7 +12,7 @@ use Rattle.sc_tree.specs.Bytes.{is_feed, is_blank}
 use Rattle.sc_base.specs.declared.pos.Pos.{Pos}
 use Rattle.sc_tree.specs.Places.{line_at, line_so_far, column_at, pos_at}
 use Rattle.sc_lexer.specs.declared.place.Place.{Place}
-use Rattle.sc_lexer.specs.Stepping.{place_at, stepped, passed}
+use Rattle.sc_lexer.specs.Place.{place_at, stepped, passed}
 
 count_push : (p : ℕ → Bool) (xs : List ℕ) (c : ℕ) → count_by p (xs ++ c ∷ []) ≡ count_by p xs + cond (p c) 1 0
 count_push p xs c =
@@ -53,8 +54,11 @@ stepped_is before c =
           rw (e, n, line_at_feed before c e) refl
       | inr e ↦
           let n : line_at (before ++ c ∷ []) ≡ line_at before = line_number before c ∙ (rw e (omega arith)) in
-          let col : length (line_so_far before ++ c ∷ []) + 1 ≡ length (line_so_far before) + 1 + 1 = (let l = length_push (line_so_far before) c in omega arith) in
-          let fresh : list_all is_blank (line_so_far before ++ c ∷ []) ≡ (list_all is_blank (line_so_far before) && is_blank c) = list_all-append is_blank (line_so_far before) (c ∷ []) ∙ ap (λ (b : Bool). list_all is_blank (line_so_far before) && b) (and-true (is_blank c)) in
+          let col : length (line_so_far before ++ c ∷ []) + 1 ≡ length (line_so_far before) + 1 + 1 =
+          (let l = length_push (line_so_far before) c in omega arith) in
+          let fresh : list_all is_blank (line_so_far before ++ c ∷ []) ≡ (list_all is_blank (line_so_far before) && is_blank c) =
+          list_all-append is_blank (line_so_far before) (c ∷ [])
+          ∙ ap (λ (b : Bool). list_all is_blank (line_so_far before) && b) (and-true (is_blank c)) in
           rw (e, n, line_in_line before c e, col, fresh) refl
     ]
 
@@ -75,11 +79,13 @@ unfolding line_so_far
 column_small before = let h = length-drop (length before - suffix_len in_line before) before in omega arith
 
 -- the position of a place that is counted so
-pub pos_is : (file : ℕ) (p : Place) (before : List ℕ) (pos : Pos) → pos ≡ record { file = file; line = p.line; col = p.col } → p ≡ place_at before → pos ≡ pos_at file before
+pub pos_is : (file : ℕ) (p : Place) (before : List ℕ) (pos : Pos) → pos ≡ record { file = file; line = p.line; col = p.col } → p
+    ≡ place_at before → pos ≡ pos_at file before
 pos_is file p before pos is same = is ∙ rw same refl
 
 -- while the bytes are fewer than 2^32 - 1, lines and columns fit 32 bits
-pub place_room : (p : Place) (at n : ℕ) (bytes text : List ℕ) → p ≡ place_at (take at bytes) → at + n ≤ length bytes → length text ≡ n → length bytes < 4294967295 → (p.line + length text < 4294967296) × (p.col + length text < 4294967296)
+pub place_room : (p : Place) (at n : ℕ) (bytes text : List ℕ) → p ≡ place_at (take at bytes) → at + n ≤ length bytes → length text ≡ n
+    → length bytes < 4294967295 → (p.line + length text < 4294967296) × (p.col + length text < 4294967296)
 place_room p at n bytes text is le len small =
     let line : p.line ≡ line_at (take at bytes) = ap (λ (q : Place). q.line) is in
     let col : p.col ≡ column_at (take at bytes) = ap (λ (q : Place). q.col) is in

@@ -3,7 +3,8 @@ use Rattle.std.proofs.Common.{◌≡◌, ℕ, ◌<◌, ◌≤◌, Bool, true, fa
 use Rattle.std.specs.Prelude.{◌==◌, ◌&&◌, ◌||◌, nat_lt, nat_le}
 use Rattle.std.specs.List.{list_all, list_any}
 use Rattle.std.specs.Char.{is_ascii_digit, is_ascii_alphanumeric}
-use Rattle.std.proofs.lemmas.Bool.{and_parts, or_parts, cond-false, cond-true, cases_Bool, leb-true, ltb-true, ne_eqb, eqb-true, or_cases, agree_below_at, both_ways}
+use Rattle.std.proofs.lemmas.Bool.{and_parts, or_parts, cond-false, cond-true, cases_Bool, leb-true, ltb-true, ne_eqb, eqb-true, or_cases}
+use Rattle.std.proofs.lemmas.Bool.{agree_below_at, both_ways}
 use Rattle.sc_tree.specs.declared.token.Punct.{Punct}
 use Rattle.sc_tree.specs.declared.piece.Form.TheVariants as form
 use Rattle.sc_tree.specs.Bytes.{is_space, is_letter, is_word_byte}
@@ -28,7 +29,8 @@ no_fit (row ∷ rows) c cs h =
     cond-false (begins row.0 (c ∷ cs)) (Some row) (first_fit rows (c ∷ cs)) (head_of_fit row.0 c cs p.0) ∙ no_fit rows c cs p.1
 
 -- a row that fits is one of the table's, so its spelling has a byte where all have one
-pub fit_has_bytes : {A : Type 0} (table : List (List ℕ × A)) (bytes : List ℕ) (row : List ℕ × A) → list_all (λ (r : List ℕ × A). nat_lt 0 (length r.0)) table ≡ true → first_fit table bytes ≡ Some row → 0 < length row.0
+pub fit_has_bytes : {A : Type 0} (table : List (List ℕ × A)) (bytes : List ℕ) (row : List ℕ × A)
+    → list_all (λ (r : List ℕ × A). nat_lt 0 (length r.0)) table ≡ true → first_fit table bytes ≡ Some row → 0 < length row.0
 fit_has_bytes [] bytes row h e = absurd (cc)
 fit_has_bytes {A} (r ∷ rows) bytes row h e =
     let p = and_parts (nat_lt 0 (length r.0)) (list_all (λ (r : List ℕ × A). nat_lt 0 (length r.0)) rows) h in

@@ -15,7 +15,7 @@ use Rattle.sc_base.specs.Names.{place_of, with_text}
 use Rattle.sc_tree.specs.Bytes.{is_word_byte}
 use Rattle.sc_tree.specs.Cut.{word_kind}
 use Rattle.sc_tree.specs.Words.{reserved}
-use Rattle.sc_lexer.specs.Answers.{Grow}
+use Rattle.sc_lexer.specs.Answer.{Grow}
 use Rattle.sc_lexer.proofs.PunctProofs.{ascii_word}
 
 word_bytes_below : (word : List ℕ) → list_all is_word_byte word ≡ true → IsAscii word
@@ -47,8 +47,12 @@ place_first text more = let same : bytes_eq text text ≡ true = (bytes_eq-Decid
 pub place_stays : (text : List ℕ) (old more : List (List ℕ)) → place_of text (with_text old text ++ more) ≡ place_of text old
 place_stays text old more =
     elim (cases_Bool (is_named text old)) [
-      | inl e ↦ (let w : with_text old text ≡ old = cond-true (is_named text old) old (old ++ text ∷ []) e in ap (λ (xs : List (List ℕ)). place_of text (xs ++ more)) w ∙ place_named text old more e)
-      | inr e ↦ (let w : with_text old text ≡ old ++ text ∷ [] = cond-false (is_named text old) old (old ++ text ∷ []) e in ap (λ (xs : List (List ℕ)). place_of text (xs ++ more)) w ∙ ap (λ (xs : List (List ℕ)). place_of text xs) (append_assoc old (text ∷ []) more) ∙ place_then text old (text ∷ more) (place_first text more))
+      | inl e ↦ (let w : with_text old text ≡ old = cond-true (is_named text old) old (old ++ text ∷ []) e in
+          ap (λ (xs : List (List ℕ)). place_of text (xs ++ more)) w ∙ place_named text old more e)
+      | inr e ↦ (let w : with_text old text ≡ old ++ text ∷ [] = cond-false (is_named text old) old (old ++ text ∷ []) e in
+          ap (λ (xs : List (List ℕ)). place_of text (xs ++ more)) w
+          ∙ ap (λ (xs : List (List ℕ)). place_of text xs) (append_assoc old (text ∷ []) more)
+          ∙ place_then text old (text ∷ more) (place_first text more))
     ]
 
 -- ---- how the names grow
@@ -83,7 +87,8 @@ pub word_reserved : (names : List (List ℕ)) (text : List ℕ) (word : Reserved
 unfolding word_kind
 word_reserved names text word e = rw e refl
 
-pub word_named : (old new more : List (List ℕ)) (text : List ℕ) (id : NameId) → reserved text ≡ None → id.at ≡ place_of text old → new ≡ with_text old text → kind.Word id ≡ word_kind (new ++ more) text
+pub word_named : (old new more : List (List ℕ)) (text : List ℕ) (id : NameId) → reserved text ≡ None → id.at ≡ place_of text old → new
+    ≡ with_text old text → kind.Word id ≡ word_kind (new ++ more) text
 unfolding word_kind
 word_named old new more text id e is grown =
     let p : id.at ≡ place_of text (new ++ more) = is ∙ sym (place_stays text old more) ∙ ap (λ (xs : List (List ℕ)). place_of text (xs ++ more)) (sym grown) in

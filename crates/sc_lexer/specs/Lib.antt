@@ -1,5 +1,5 @@
 pub mod Texts
-pub mod Stepping
-pub mod Answers
+pub mod Place
+pub mod Answer
 pub mod OpenBrackets
-pub mod Spellings
+pub mod Laws

@@ -8,7 +8,7 @@ ghost use Rattle.sc_tree.specs.declared.token.Punct.{Punct};
 ghost use Rattle.sc_tree.specs.Pieces.{piece};
 ghost use Rattle.sc_tree.specs.Puncts.{punctuator, punctuators};
 ghost use Rattle.sc_tree.specs.Tables.{Row, begins};
-ghost use Rattle.sc_lexer.specs.Spellings.{is_spelling};
+ghost use Rattle.sc_lexer.specs.Laws.{is_spelling};
 
 /// No piece is empty.
 pub fn pieces_have_bytes()
@@ -17,5 +17,6 @@ pub fn pieces_have_bytes()
 
 /// No punctuator of the table that stands at the front is longer than the one that is taken.
 pub fn punctuator_is_the_longest()
-    ensures { (bytes text : List ℕ) (row : Row Punct) → punctuator bytes ≡ Some row → is_spelling punctuators text ≡ true → begins text bytes ≡ true → length text ≤ length row.0 }
+    ensures { (bytes text : List ℕ) (row : Row Punct) → punctuator bytes ≡ Some row → is_spelling punctuators text ≡ true
+        → begins text bytes ≡ true → length text ≤ length row.0 }
 {}

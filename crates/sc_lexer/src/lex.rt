@@ -4,7 +4,7 @@
 ghost use Rattle.std.specs.Prelude.{◌≡◌, ◌+◌, ◌-◌, ◌^◌, ◌<◌, IfOk, length};
 ghost use Rattle.sc_tree.specs.Lexed.{lexed};
 ghost use Rattle.sc_tree.specs.Segments.{Cuts};
-ghost use Rattle.sc_lexer.specs.Answers.{Answers, Grow};
+ghost use Rattle.sc_lexer.specs.Answer.{Answers, Grow};
 
 use crate::answer::LexAnswer;
 use crate::brackets::unbalanced;

@@ -6,11 +6,11 @@
 //! are is defined in `sc_tree`, in `specs/Lexed.antt`.
 #![tactic(auto)]
 
-pub mod answer;
+mod answer;
 mod brackets;
 mod bytes;
-pub mod laws;
-pub mod lex;
+mod laws;
+mod lex;
 mod literals;
 mod numbers;
 mod pieces;
@@ -23,4 +23,5 @@ mod tables;
 mod words;
 
 pub use answer::LexAnswer;
+pub use laws::{pieces_have_bytes, punctuator_is_the_longest};
 pub use lex::tokens;

@@ -2,7 +2,8 @@
 #![tactic(auto)]
 
 ghost use Rattle.std.specs.Prelude.{◌≡◌, ℕ, ◌+◌, ◌^◌, ◌<◌, ◌≤◌, List, false, IfSome, length, option_map};
-ghost use Rattle.sc_tree.specs.Literals.{byte_value, char_kind, comment_len, digits_escape, escape, number_escape, only_byte, opened, quoted_len, spelled_byte, spelled_bytes, string_kind};
+ghost use Rattle.sc_tree.specs.Literals.{byte_value, char_kind, comment_len, digits_escape, escape, number_escape, only_byte, opened};
+ghost use Rattle.sc_tree.specs.Literals.{quoted_len, spelled_byte, spelled_bytes, string_kind};
 ghost use Rattle.sc_tree.specs.Numbers.{number_from};
 ghost use Rattle.sc_lexer.specs.Texts.{HasText};
 

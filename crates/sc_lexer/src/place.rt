@@ -15,7 +15,7 @@ pub(crate) struct Place {
 
 impl Place {
     ghost use Rattle.std.specs.Prelude.{◌≡◌, ◌+◌, ◌^◌, ◌<◌, ◌≤◌, [], length};
-    ghost use Rattle.sc_lexer.specs.Stepping.{passed, place_at, stepped};
+    ghost use Rattle.sc_lexer.specs.Place.{passed, place_at, stepped};
 
     /// The place of the first byte.
     #[tactic(auto, unfolding(sc_tree::specs::Places::line_at, sc_tree::specs::Places::line_so_far))]
@@ -40,7 +40,7 @@ impl Place {
         }
     }
 
-    #[tactic(auto, unfolding(crate::specs::Stepping::stepped))]
+    #[tactic(auto, unfolding(crate::specs::Place::stepped))]
     fn step(self, byte: u8) -> Place
         requires line { self.line + 1 < 2 ^ 32 }
         requires col { self.col + 1 < 2 ^ 32 }

@@ -3,7 +3,7 @@
 
 ghost use Rattle.std.specs.Prelude.{◌≡◌, ◌+◌, ◌-◌, ◌^◌, ◌<◌, ◌≤◌, ◌++◌, [], length, IfOk, OnOk};
 ghost use Rattle.sc_tree.specs.Cut.{cut, token_of};
-ghost use Rattle.sc_lexer.specs.Answers.{Grow, Scans};
+ghost use Rattle.sc_lexer.specs.Answer.{Grow, Scans};
 
 use crate::answer::LexAnswer;
 use crate::pieces::piece;

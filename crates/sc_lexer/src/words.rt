@@ -5,7 +5,7 @@ ghost use Rattle.std.specs.Prelude.{◌≡◌, ℕ, ◌-◌, ◌^◌, ◌<◌, �
 ghost use Rattle.std.specs.List.{list_all};
 ghost use Rattle.sc_tree.specs.Bytes.{is_word_byte};
 ghost use Rattle.sc_tree.specs.Cut.{kind_of, word_kind};
-ghost use Rattle.sc_lexer.specs.Answers.{Grow};
+ghost use Rattle.sc_lexer.specs.Answer.{Grow};
 ghost use Rattle.sc_lexer.specs.Texts.{HasText};
 
 use crate::tables::reserved;

@@ -1,5 +1,6 @@
 -- How phrases begin: by recursion on what spells them.
-use Rattle.std.proofs.Common.{◌≡◌, ℕ, ◌≤◌, Bool, true, false, not, ◌&&◌, ◌||◌, List, [], ◌∷◌, ◌++◌, length, Some, None, refl, sym, ap, subst, ◌∙◌, append_assoc, arith}
+use Rattle.std.proofs.Common.{◌≡◌, ℕ, ◌≤◌, Bool, true, false, not, ◌&&◌, ◌||◌, List, [], ◌∷◌, ◌++◌, length, Some, None, refl, sym, ap}
+use Rattle.std.proofs.Common.{subst, ◌∙◌, append_assoc, arith}
 use Rattle.std.proofs.lemmas.Bool.{and_left, not-true, or_left, or_right}
 use Rattle.sc_base.specs.declared.pos.NameId.{NameId}
 use Rattle.sc_tree.specs.declared.token.Token.{Token}
@@ -26,8 +27,12 @@ use Rattle.sc_tree.specs.TypeWords.{storage_word, type_word}
 use Rattle.sc_tree.specs.Specifiers.{no_pieces, with_pieces, finished}
 use Rattle.sc_tree.specs.Tokens.{token, word, punct, reserved, first_pos, is_type}
 use Rattle.sc_tree.specs.Grammar as g
-use Rattle.sc_tree.specs.Grammar.{record_word, may_name, may_lack, Strings, one_string, more_strings, Spells, Arguments, Listed, Heads, a_head, Specifies, pieces, Pieces, no_piece, more_pieces, APiece, Members, AMember, Parts, APart, Enumerators, AnEnumerator, Declares, a_direct, a_pointer, Directs, Parameters, ManyHeads}
-use Rattle.sc_parse_front.specs.Front.{punct_of, word_of, reserved_of, front, front_reserved, behind, is_left_paren, is_right_paren, is_left_bracket, is_right_bracket, is_star, is_some, is_sizeof, is_type_word, begins_piece, begins_type, unary_at, step_at}
+use Rattle.sc_tree.specs.Grammar.{record_word, may_name, may_lack, Strings, one_string, more_strings, Spells, Arguments, Listed, Heads}
+use Rattle.sc_tree.specs.Grammar.{a_head, Specifies, pieces, Pieces, no_piece, more_pieces, APiece, Members, AMember, Parts, APart}
+use Rattle.sc_tree.specs.Grammar.{Enumerators, AnEnumerator, Declares, a_direct, a_pointer, Directs, Parameters, ManyHeads}
+use Rattle.sc_parse_front.specs.Front.{punct_of, word_of, reserved_of, front, front_reserved, behind, is_left_paren, is_right_paren}
+use Rattle.sc_parse_front.specs.Front.{is_left_bracket, is_right_bracket, is_star, is_some, is_sizeof, is_type_word, begins_piece}
+use Rattle.sc_parse_front.specs.Front.{begins_type, unary_at, step_at}
 use Rattle.sc_parse_expr.specs.Laws.{opens_expr, BeginsExpr, BeginsSpecs, opens_declarator, BeginsDeclarator}
 
 -- ---- tokens that begin with one that the test takes
@@ -83,7 +88,12 @@ primary_begins types (g.an_int i p) = record { first = token (k.Int i) p; others
 primary_begins types (g.a_char c p) = record { first = token (k.Char c) p; others = []; whole = refl; opens = refl }
 primary_begins types (g.an_odd p) = record { first = token k.Odd p; others = []; whole = refl; opens = refl }
 primary_begins types (g.a_string ss) = strings_begin types ss
-primary_begins types (g.brackets {s = s} p q d) = record { first = punct sign.LeftParen p; others = s ++ punct sign.RightParen q ∷ []; whole = refl; opens = refl }
+primary_begins types (g.brackets {s = s} p q d) = record {
+  first = punct sign.LeftParen p;
+  others = s ++ punct sign.RightParen q ∷ [];
+  whole = refl;
+  opens = refl;
+}
 
 pub postfix_begins : (types : List NameId) {h : ℕ} {t : Expr} {s : List Token} → Spells types Postfix h t s → Begins (opens_postfix types) s
 postfix_begins types (g.a_primary d) = primary_begins types d
@@ -106,13 +116,27 @@ expr_begins types (g.a_field o arrow w p q e d) = longer (expr_begins types d) _
 expr_begins types (g.a_step_behind o by p e d) = longer (expr_begins types d) _
 expr_begins types (g.a_postfix d) = expr_begins types d
 expr_begins types (g.a_unary {s = s} o op p e d) =
-    record { first = punct o p; others = s; whole = refl; opens = or_right (is_left_paren (Some o)) _ (or_left (is_some (unary o)) (is_some (step o)) (ap is_some e)) }
+    record {
+      first = punct o p;
+      others = s;
+      whole = refl;
+      opens =
+          or_right (is_left_paren (Some o)) _ (or_left (is_some (unary o)) (is_some (step o)) (ap is_some e));
+    }
 expr_begins types (g.a_step_before {s = s} o by p e d) =
-    record { first = punct o p; others = s; whole = refl; opens = or_right (is_left_paren (Some o)) _ (or_right (is_some (unary o)) (is_some (step o)) (ap is_some e)) }
+    record {
+      first = punct o p;
+      others = s;
+      whole = refl;
+      opens =
+          or_right (is_left_paren (Some o)) _ (or_right (is_some (unary o)) (is_some (step o)) (ap is_some e));
+    }
 expr_begins types (g.a_size {s = s} p d) = record { first = reserved key.Sizeof p; others = s; whole = refl; opens = refl }
-expr_begins types (g.a_size_of_type {s = s} p q o d) = record { first = reserved key.Sizeof p; others = punct sign.LeftParen q ∷ (s ++ punct sign.RightParen o ∷ []); whole = refl; opens = refl }
+expr_begins types (g.a_size_of_type {s = s} p q o d) = record
+    { first = reserved key.Sizeof p; others = punct sign.LeftParen q ∷ (s ++ punct sign.RightParen o ∷ []); whole = refl; opens = refl }
 expr_begins types (g.a_prefix d) = expr_begins types d
-expr_begins types (g.a_cast {s = s} {r = r} p q d x) = record { first = punct sign.LeftParen p; others = s ++ punct sign.RightParen q ∷ r; whole = refl; opens = refl }
+expr_begins types (g.a_cast {s = s} {r = r} p q d x) = record
+    { first = punct sign.LeftParen p; others = s ++ punct sign.RightParen q ∷ r; whole = refl; opens = refl }
 expr_begins types (g.an_operand d) = expr_begins types d
 expr_begins types (g.stronger d) = expr_begins types d
 expr_begins types (g.a_binary o op p e d x) = longer (expr_begins types d) _
@@ -187,7 +211,8 @@ strings_no_cast : (types : List NameId) {xs : List StrToken} {s : List Token} �
 strings_no_cast types (one_string x p) rest = refl
 strings_no_cast types (more_strings x p more) rest = refl
 
-primary_no_cast : (types : List NameId) {h : ℕ} {t : Expr} {s : List Token} → Spells types Primary h t s → (rest : List Token) → opens_cast types (s ++ rest) ≡ false
+primary_no_cast : (types : List NameId) {h : ℕ} {t : Expr} {s : List Token} → Spells types Primary h t s → (rest : List Token)
+    → opens_cast types (s ++ rest) ≡ false
 primary_no_cast types (g.a_name w p e) rest = refl
 primary_no_cast types (g.an_int i p) rest = refl
 primary_no_cast types (g.a_char c p) rest = refl
@@ -195,7 +220,8 @@ primary_no_cast types (g.an_odd p) rest = refl
 primary_no_cast types (g.a_string ss) rest = strings_no_cast types ss rest
 primary_no_cast types (g.brackets {s = s} p q d) rest = no_type types (longer (longer (expr_begins types d) _) rest)
 
-postfix_no_cast : (types : List NameId) {h : ℕ} {t : Expr} {s : List Token} → Spells types Postfix h t s → (rest : List Token) → opens_cast types (s ++ rest) ≡ false
+postfix_no_cast : (types : List NameId) {h : ℕ} {t : Expr} {s : List Token} → Spells types Postfix h t s → (rest : List Token)
+    → opens_cast types (s ++ rest) ≡ false
 postfix_no_cast types (g.a_primary d) rest = primary_no_cast types d rest
 postfix_no_cast types (g.an_index p q d x) rest = rw (append_assoc _ _ rest) (postfix_no_cast types d _)
 postfix_no_cast types (g.a_call p q d x) rest = rw (append_assoc _ _ rest) (postfix_no_cast types d _)
@@ -210,7 +236,8 @@ step_no_bracket : (o : Punct) → is_some (step o) ≡ true → is_left_paren (S
 step_no_bracket sign.LeftParen e = absurd cc
 step_no_bracket _ e = refl
 
-pub prefix_no_cast : (types : List NameId) {h : ℕ} {t : Expr} {s : List Token} → Spells types Prefix h t s → (rest : List Token) → opens_cast types (s ++ rest) ≡ false
+pub prefix_no_cast : (types : List NameId) {h : ℕ} {t : Expr} {s : List Token} → Spells types Prefix h t s → (rest : List Token)
+    → opens_cast types (s ++ rest) ≡ false
 prefix_no_cast types (g.a_postfix d) rest = postfix_no_cast types d rest
 prefix_no_cast types (g.a_unary o op p e d) rest = and_left (is_left_paren (Some o)) _ (unary_no_bracket o (ap is_some e))
 prefix_no_cast types (g.a_step_before o by p e d) rest = and_left (is_left_paren (Some o)) _ (step_no_bracket o (ap is_some e))
@@ -231,7 +258,8 @@ word_opens w e = or_right (is_some (storage_word w)) _ (or_left _ _ e)
 record_opens : (w : Reserved) → is_some (record_word w) ≡ true → begins_piece (Some w) ≡ true
 record_opens w e = or_right (is_some (storage_word w)) _ (or_right (is_some (type_word w)) _ (or_left _ _ e))
 
-begun_by : (types : List NameId) (w : Reserved) (p : _) (others : List Token) → begins_piece (Some w) ≡ true → Begins (opens_piece types) (reserved w p ∷ others)
+begun_by : (types : List NameId) (w : Reserved) (p : _) (others : List Token) → begins_piece (Some w) ≡ true
+    → Begins (opens_piece types) (reserved w p ∷ others)
 begun_by types w p others e = record { first = reserved w p; others = others; whole = refl; opens = or_left _ _ e }
 
 pub piece_begins : (types : List NameId) {h : ℕ} {x : Piece} {s : List Token} → APiece types h x s → Begins (opens_piece types) s
@@ -264,7 +292,8 @@ begins_specs types h f s d =
     let b = specs_begin types d in
     record { first = b.first; others = b.others; whole = b.whole; opens = b.opens }
 
-pub head_begins : (types : List NameId) {n : Naming} {named : Bool} {h : ℕ} {t : Head} {s : List Token} → Heads types n named h t s → Begins (opens_piece types) s
+pub head_begins : (types : List NameId) {n : Naming} {named : Bool} {h : ℕ} {t : Head} {s : List Token} → Heads types n named h t s
+    → Begins (opens_piece types) s
 head_begins types (a_head d x) = longer (specs_begin types d) _
 
 pub is_a_type : (types : List NameId) {s : List Token} → Begins (opens_piece types) s → begins_type types s ≡ true
@@ -294,11 +323,13 @@ pub data MayBegin (n : Naming) (test : Kind → Bool) (s : List Token) : Type 0 
   left_out : may_lack n ≡ true → s ≡ [] → MayBegin n test s
   opened : Begins test s → MayBegin n test s
 
-then_token : {n : Naming} {test : Kind → Bool} {s : List Token} → MayBegin n test s → (x : Token) (r : List Token) → (may_lack n ≡ true → test x.kind ≡ true) → MayBegin n test (s ++ x ∷ r)
+then_token : {n : Naming} {test : Kind → Bool} {s : List Token} → MayBegin n test s → (x : Token) (r : List Token)
+    → (may_lack n ≡ true → test x.kind ≡ true) → MayBegin n test (s ++ x ∷ r)
 then_token (left_out lack e) x r f = opened (record { first = x; others = r; whole = ap (λ (z : List Token). z ++ x ∷ r) e; opens = f lack })
 then_token (opened b) x r f = opened (longer b _)
 
-pub direct_begins : (types : List NameId) {n : Naming} {c : Core} {h : ℕ} {t : Declarator} {s : List Token} → Directs types n c h t s → MayBegin n (opens_direct n types) s
+pub direct_begins : (types : List NameId) {n : Naming} {c : Core} {h : ℕ} {t : Declarator} {s : List Token} → Directs types n c h t s
+    → MayBegin n (opens_direct n types) s
 direct_begins types (g.a_declared_name n w p e) = opened (record { first = word w p; others = []; whole = refl; opens = e })
 direct_begins types (g.no_name n e) = left_out e refl
 direct_begins types (g.in_brackets p q d) = opened (record { first = punct sign.LeftParen p; others = _; whole = refl; opens = refl })
@@ -310,7 +341,8 @@ may_weaker : {n : Naming} {test other : Kind → Bool} {s : List Token} → ((x 
 may_weaker f (left_out lack e) = left_out lack e
 may_weaker f (opened b) = opened (weaker f b)
 
-pub declarator_begins : (types : List NameId) {n : Naming} {c : Core} {h : ℕ} {t : Declarator} {s : List Token} → Declares types n c h t s → MayBegin n (opens_declared n types) s
+pub declarator_begins : (types : List NameId) {n : Naming} {c : Core} {h : ℕ} {t : Declarator} {s : List Token} → Declares types n c h t s
+    → MayBegin n (opens_declared n types) s
 declarator_begins types (a_direct d) = may_weaker (λ x e. or_right _ _ e) (direct_begins types d)
 declarator_begins types (a_pointer p d) = opened (record { first = punct sign.Star p; others = _; whole = refl; opens = refl })
 
@@ -332,10 +364,12 @@ must_begin : (types : List NameId) {n : Naming} {s : List Token} → may_lack n 
 must_begin types lack (left_out may e) = absurd cc
 must_begin types {n = n} lack (opened b) = weaker (λ x e. kind_named n types x lack e) b
 
-pub named_begins : (types : List NameId) {n : Naming} {c : Core} {h : ℕ} {t : Declarator} {s : List Token} → may_lack n ≡ false → Declares types n c h t s → Begins opens_declarator s
+pub named_begins : (types : List NameId) {n : Naming} {c : Core} {h : ℕ} {t : Declarator} {s : List Token} → may_lack n ≡ false
+    → Declares types n c h t s → Begins opens_declarator s
 named_begins types lack d = must_begin types lack (declarator_begins types d)
 
-pub begins_declarator : (types : List NameId) (n : Naming) (c : Core) (h : ℕ) (t : Declarator) (s : List Token) → may_lack n ≡ false → Declares types n c h t s → BeginsDeclarator s
+pub begins_declarator : (types : List NameId) (n : Naming) (c : Core) (h : ℕ) (t : Declarator) (s : List Token) → may_lack n ≡ false
+    → Declares types n c h t s → BeginsDeclarator s
 begins_declarator types n c h t s lack d =
     let b = named_begins types lack d in
     record { first = b.first; others = b.others; whole = b.whole; opens = b.opens }

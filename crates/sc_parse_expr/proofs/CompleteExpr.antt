@@ -1,6 +1,7 @@
 -- What is spelled is read: expressions. By recursion on what spells them; parts under a node are read by
 -- `inner`.
-use Rattle.std.proofs.Common.{◌≡◌, ℕ, zero, suc, ◌+◌, ◌≤◌, max, nat_eq, Bool, true, false, not, ◌&&◌, List, [], ◌∷◌, ◌++◌, length, Option, Some, None, refl, sym, ap, ◌∙◌, ap₂, append_assoc, arith, length-append, ne_eqb, eq-eqb, le-leb}
+use Rattle.std.proofs.Common.{◌≡◌, ℕ, zero, suc, ◌+◌, ◌≤◌, max, nat_eq, Bool, true, false, not, ◌&&◌, List, [], ◌∷◌, ◌++◌, length, Option}
+use Rattle.std.proofs.Common.{Some, None, refl, sym, ap, ◌∙◌, ap₂, append_assoc, arith, length-append, ne_eqb, eq-eqb, le-leb}
 use Rattle.std.proofs.lemmas.Bool.{and_parts, leb-true, not-true}
 use Rattle.sc_base.specs.declared.pos.Pos.{Pos}
 use Rattle.sc_base.specs.declared.pos.NameId.{NameId}
@@ -25,12 +26,18 @@ use Rattle.sc_tree.specs.Grammar.{Strings, one_string, more_strings, Spells, Arg
 use Rattle.sc_parse_expr.specs.declared.found.Wanted.{Wanted}
 use Rattle.sc_parse_expr.specs.declared.found.Phrase.{Phrase}
 use Rattle.sc_parse_expr.specs.declared.found.Operand.{Operand}
-use Rattle.sc_parse_front.specs.Front.{string_of, is_left_paren, begins_type, front, front_string, behind, is_comma, is_question, is_some, at_level, binary_at, assign_at, Suffix, Fielding, Stepping, NoSuffix, suffix}
+use Rattle.sc_parse_front.specs.Front.{string_of, is_left_paren, begins_type, front, front_string, behind, is_comma, is_question, is_some}
+use Rattle.sc_parse_front.specs.Front.{at_level, binary_at, assign_at, Suffix, Fielding, Stepping, NoSuffix, suffix}
 use Rattle.sc_parse_expr.specs.Read.{Read, read, Parse, commas}
 use Rattle.sc_parse_expr.specs.Reading
-use Rattle.sc_parse_expr.specs.Reading.{operand, strings, past_strings, with_tree, never, inner_expr, inner_head, bracketed, primary_by, primary, arguments, indexed, calling, fielded, stepped, suffixed, suffixes, postfix, applied, stepped_first, size_of_type, size_of, sized, prefix_by, prefix, cast, casts, combined, chained, chain, operators, chosen, choosing, choice, assigned, assigning, assignment, sequenced, sequencing, sequence, whole}
-use Rattle.sc_parse_expr.specs.Laws.{is_no_suffix, is_weaker, ends_operators, ends_choice, ends_assignment, ends_expr, opens_expr}
-use Rattle.sc_parse_expr.proofs.Begins.{Begins, longer, not_empty, first_stays, expr_begins, postfix_begins, prefix_no_cast, no_right_paren, no_unary, no_step, no_sizeof, head_begins, is_a_type}
+use Rattle.sc_parse_expr.specs.Reading.{operand, strings, past_strings, with_tree, never, inner_expr, inner_head, bracketed, primary_by}
+use Rattle.sc_parse_expr.specs.Reading.{primary, arguments, indexed, calling, fielded, stepped, suffixed, suffixes, postfix, applied}
+use Rattle.sc_parse_expr.specs.Reading.{stepped_first, size_of_type, size_of, sized, prefix_by, prefix, cast, casts, combined, chained}
+use Rattle.sc_parse_expr.specs.Reading.{chain, operators, conditioned, conditioning, conditional, assigned, assigning, assignment}
+use Rattle.sc_parse_expr.specs.Reading.{sequenced, sequencing, sequence, whole}
+use Rattle.sc_parse_expr.specs.Laws.{is_no_suffix, is_weaker, ends_operators, ends_conditional, ends_assignment, ends_expr, opens_expr}
+use Rattle.sc_parse_expr.proofs.Begins.{Begins, longer, not_empty, first_stays, expr_begins, postfix_begins, prefix_no_cast, no_right_paren}
+use Rattle.sc_parse_expr.proofs.Begins.{no_unary, no_step, no_sizeof, head_begins, is_a_type}
 use Rattle.sc_parse_expr.proofs.Inner.{no_value, node_is, has_turn, commas_last, commas_more, IsInner, head_read}
 
 -- ---- what follows
@@ -93,7 +100,8 @@ strings_read (more_strings x p more) rest e =
 
 -- ---- left recursion: the reading comes to its loop with the tree in hand
 
-pub record Comes (limit : ℕ) (f : Parse Operand) (loop : ℕ → Pos → Read Operand → Option (Read Operand)) (h : ℕ) (t : Expr) (u : Bool) (s rest : List Token) : Type 0 where
+pub record Comes (limit : ℕ) (f : Parse Operand) (loop : ℕ → Pos → Read Operand → Option (Read Operand)) (h : ℕ) (t : Expr) (u : Bool)
+    (s rest : List Token) : Type 0 where
   pub turns : ℕ
   pub enough : limit ≤ h + turns
   pub comes : f (s ++ rest) ≡ loop turns (first_pos s) (read (operand t u) h rest)
@@ -137,7 +145,8 @@ module _ (types : List NameId) (below : ℕ) (inner : Wanted → Parse Phrase) w
   call_step n begin p q a bs h m r rest low one =
       rw (one, node_is below (operand (e.Call a bs (record { token = p; first = begin })) true) (max h m) rest low) refl
 
-  field_step : (n : ℕ) (begin p q : Pos) (o : Punct) (arrow : Bool) (w : NameId) (a : Expr) (h : ℕ) (rest : List Token) → h ≤ below → suffix (Some o) ≡ Fielding arrow
+  field_step : (n : ℕ) (begin p q : Pos) (o : Punct) (arrow : Bool) (w : NameId) (a : Expr) (h : ℕ) (rest : List Token) → h ≤ below
+      → suffix (Some o) ≡ Fielding arrow
       → suffixes types (suc below) inner (suc n) begin (read (operand a true) h (punct o p ∷ word w q ∷ rest))
       ≡ suffixes types (suc below) inner n begin (read (operand (e.Field a w arrow (record { token = q; first = begin })) true) (suc h) rest)
   unfolding suffixes suffixed fielded
@@ -183,16 +192,18 @@ module _ (types : List NameId) (below : ℕ) (inner : Wanted → Parse Phrase) w
   sequence_stop zero begin a one = rw one refl
   sequence_stop (suc n) begin a one = rw one refl
 
-  choice_stop : (ts : List Token) (a : Read Operand) → operators types (suc below) inner 10 ts ≡ Some a → is_question (front a.rest) ≡ false → choice types (suc below) inner ts ≡ Some a
-  unfolding choice choosing
-  choice_stop ts a one two = rw (one, two) refl
+  conditional_stop : (ts : List Token) (a : Read Operand) → operators types (suc below) inner 10 ts ≡ Some a → is_question (front a.rest)
+      ≡ false → conditional types (suc below) inner ts ≡ Some a
+  unfolding conditional conditioning
+  conditional_stop ts a one two = rw (one, two) refl
 
   no_assign : (begin : Pos) (u : Bool) (a : Read Operand) → assigning types (suc below) inner begin u None a ≡ Some a
   unfolding assigning
   no_assign begin true a = refl
   no_assign begin false a = refl
 
-  assignment_stop : (ts : List Token) (a : Read Operand) → choice types (suc below) inner ts ≡ Some a → assign_at (front a.rest) ≡ None → assignment types (suc below) inner ts ≡ Some a
+  assignment_stop : (ts : List Token) (a : Read Operand) → conditional types (suc below) inner ts ≡ Some a → assign_at (front a.rest) ≡ None
+      → assignment types (suc below) inner ts ≡ Some a
   unfolding assignment
   assignment_stop ts a one two = rw (one, two) (no_assign (first_pos ts) a.it.unary a)
 
@@ -272,37 +283,42 @@ module _ (types : List NameId) (below : ℕ) (inner : Wanted → Parse Phrase) w
   prefix_up (suc l) ts a e no_cast ends =
       rw (prefix_up l ts a e no_cast ends) (chain_stop types below inner (suc below) l (first_pos ts) a (ends_binary (suc l) a.rest (ends (suc l))))
 
-  assignment_step : (begin : Pos) (ts : List Token) (o : Punct) (op : AssignOp) (p : Pos) (a b : Expr) (v : Bool) (h m : ℕ) (r rest : List Token) → max h m ≤ below
+  assignment_step : (begin : Pos) (ts : List Token) (o : Punct) (op : AssignOp) (p : Pos) (a b : Expr) (v : Bool) (h m : ℕ)
+      (r rest : List Token) → max h m ≤ below
       → assign o ≡ Some op → first_pos ts ≡ begin
-      → choice types (suc below) inner ts ≡ Some (read (operand a true) h (punct o p ∷ (r ++ rest)))
+      → conditional types (suc below) inner ts ≡ Some (read (operand a true) h (punct o p ∷ (r ++ rest)))
       → inner_expr types (suc below) inner Assignment (r ++ rest) ≡ Some (read (operand b v) m rest)
       → assignment types (suc below) inner ts ≡ Some (read (operand (e.Assign op a b (record { token = p; first = begin })) false) (suc (max h m)) rest)
   unfolding assignment assigning assigned
   assignment_step begin ts o op p a b v h m r rest low is start one two =
       rw (one, is, two, start) (node_is below (operand (e.Assign op a b (record { token = p; first = begin })) false) (max h m) rest low)
 
-  choice_step : (begin : Pos) (ts : List Token) (p q : Pos) (a b c : Expr) (u v w : Bool) (h m n : ℕ) (r x rest : List Token) → max h (max m n) ≤ below → first_pos ts ≡ begin
+  conditional_step : (begin : Pos) (ts : List Token) (p q : Pos) (a b c : Expr) (u v w : Bool) (h m n : ℕ) (r x rest : List Token)
+      → max h (max m n) ≤ below → first_pos ts ≡ begin
       → operators types (suc below) inner 10 ts ≡ Some (read (operand a u) h (punct sign.Question p ∷ (r ++ punct sign.Colon q ∷ (x ++ rest))))
       → inner_expr types (suc below) inner Whole (r ++ punct sign.Colon q ∷ (x ++ rest)) ≡ Some (read (operand b v) m (punct sign.Colon q ∷ (x ++ rest)))
       → inner_expr types (suc below) inner Choice (x ++ rest) ≡ Some (read (operand c w) n rest)
-      → choice types (suc below) inner ts ≡ Some (read (operand (e.Cond a b c (record { token = p; first = begin })) false) (suc (max h (max m n))) rest)
-  unfolding choice choosing chosen
-  choice_step begin ts p q a b c u v w h m n r x rest low start one two three =
+      → conditional types (suc below) inner ts ≡ Some (read (operand (e.Cond a b c (record { token = p; first = begin })) false) (suc (max h (max m n))) rest)
+  unfolding conditional conditioning conditioned
+  conditional_step begin ts p q a b c u v w h m n r x rest low start one two three =
       rw (one, two, three, start) (node_is below (operand (e.Cond a b c (record { token = p; first = begin })) false) (max h (max m n)) rest low)
 
   -- ---- what is read of a phrase of each level
 
   abbrev pub Reads : Level → ℕ → Expr → List Token → List Token → Type 0
   Reads Primary h t s rest = ends_expr Primary rest ≡ true → primary types (suc below) inner (s ++ rest) ≡ Some (read (operand t true) h rest)
-  Reads Postfix h t s rest = ends_expr Primary rest ≡ true → Comes (suc below) (postfix types (suc below) inner) (suffixes types (suc below) inner) h t true s rest
+  Reads Postfix h t s rest = ends_expr Primary rest ≡ true → Comes (suc below) (postfix types (suc below) inner)
+      (suffixes types (suc below) inner) h t true s rest
   Reads Prefix h t s rest = ends_operators 0 rest ≡ true → prefix types (suc below) inner (s ++ rest) ≡ Some (read (operand t true) h rest)
   Reads Cast h t s rest = ends_operators 0 rest ≡ true → (u : Bool) × (casts types (suc below) inner (s ++ rest) ≡ Some (read (operand t u) h rest))
-  Reads (Operators zero) h t s rest = ends_operators 0 rest ≡ true → (u : Bool) × (operators types (suc below) inner 0 (s ++ rest) ≡ Some (read (operand t u) h rest))
+  Reads (Operators zero) h t s rest = ends_operators 0 rest ≡ true → (u : Bool)
+      × (operators types (suc below) inner 0 (s ++ rest) ≡ Some (read (operand t u) h rest))
   Reads (Operators (suc l)) h t s rest = ends_operators l rest ≡ true
       → (u : Bool) × Comes (suc below) (operators types (suc below) inner (suc l)) (λ n begin a. chain types (suc below) inner n l begin a) h t u s rest
-  Reads Choice h t s rest = ends_choice rest ≡ true → (u : Bool) × (choice types (suc below) inner (s ++ rest) ≡ Some (read (operand t u) h rest))
+  Reads Choice h t s rest = ends_conditional rest ≡ true → (u : Bool) × (conditional types (suc below) inner (s ++ rest) ≡ Some (read (operand t u) h rest))
   Reads Assignment h t s rest = ends_assignment rest ≡ true → (u : Bool) × (assignment types (suc below) inner (s ++ rest) ≡ Some (read (operand t u) h rest))
-  Reads Whole h t s rest = ends_assignment rest ≡ true → (u : Bool) × Comes (suc below) (whole types (suc below) inner) (sequence types (suc below) inner) h t u s rest
+  Reads Whole h t s rest = ends_assignment rest ≡ true → (u : Bool)
+      × Comes (suc below) (whole types (suc below) inner) (sequence types (suc below) inner) h t u s rest
 
   operators_read : (l h : ℕ) (t : Expr) (s rest : List Token) → Reads (Operators l) h t s rest → ends_operators l rest ≡ true
       → (u : Bool) × (operators types (suc below) inner l (s ++ rest) ≡ Some (read (operand t u) h rest))
@@ -312,17 +328,20 @@ module _ (types : List NameId) (below : ℕ) (inner : Wanted → Parse Phrase) w
       (c.0, c.1.comes ∙ chain_stop types below inner c.1.turns l (first_pos s) (read (operand t c.0) h rest) (ends_binary (suc l) rest ends))
 
   -- the loops begin with what the stronger level reads
-  postfix_begun : (test : Kind → Bool) (h : ℕ) (t : Expr) (s rest : List Token) → Begins test s → primary types (suc below) inner (s ++ rest) ≡ Some (read (operand t true) h rest)
+  postfix_begun : (test : Kind → Bool) (h : ℕ) (t : Expr) (s rest : List Token) → Begins test s
+      → primary types (suc below) inner (s ++ rest) ≡ Some (read (operand t true) h rest)
       → Comes (suc below) (postfix types (suc below) inner) (suffixes types (suc below) inner) h t true s rest
   unfolding postfix
   postfix_begun test h t s rest begins one = record { turns = suc below; enough = omega arith; comes = rw (one, first_stays begins rest) refl }
 
-  operators_begun : (test : Kind → Bool) (l h : ℕ) (t : Expr) (u : Bool) (s rest : List Token) → Begins test s → operators types (suc below) inner l (s ++ rest) ≡ Some (read (operand t u) h rest)
+  operators_begun : (test : Kind → Bool) (l h : ℕ) (t : Expr) (u : Bool) (s rest : List Token) → Begins test s
+      → operators types (suc below) inner l (s ++ rest) ≡ Some (read (operand t u) h rest)
       → Comes (suc below) (operators types (suc below) inner (suc l)) (λ n begin a. chain types (suc below) inner n l begin a) h t u s rest
   unfolding operators
   operators_begun test l h t u s rest begins one = record { turns = suc below; enough = omega arith; comes = rw (one, first_stays begins rest) refl }
 
-  whole_begun : (test : Kind → Bool) (h : ℕ) (t : Expr) (u : Bool) (s rest : List Token) → Begins test s → assignment types (suc below) inner (s ++ rest) ≡ Some (read (operand t u) h rest)
+  whole_begun : (test : Kind → Bool) (h : ℕ) (t : Expr) (u : Bool) (s rest : List Token) → Begins test s
+      → assignment types (suc below) inner (s ++ rest) ≡ Some (read (operand t u) h rest)
       → Comes (suc below) (whole types (suc below) inner) (sequence types (suc below) inner) h t u s rest
   unfolding whole
   whole_begun test h t u s rest begins one = record { turns = suc below; enough = omega arith; comes = rw (one, first_stays begins rest) refl }
@@ -330,23 +349,27 @@ module _ (types : List NameId) (below : ℕ) (inner : Wanted → Parse Phrase) w
 module _ (types : List NameId) (below : ℕ) (inner : Wanted → Parse Phrase) (parts : IsInner types below inner) where
   -- ---- arguments
 
-  args_listed : {m : ℕ} {ts : List Expr} {s : List Token} → Listed types m ts s → m ≤ below → (n : ℕ) → length s ≤ n → (xs : List Expr) (h : ℕ) (q : Pos) (rest : List Token)
+  args_listed : {m : ℕ} {ts : List Expr} {s : List Token} → Listed types m ts s → m ≤ below → (n : ℕ) → length s ≤ n
+      → (xs : List Expr) (h : ℕ) (q : Pos) (rest : List Token)
       → commas (inner_expr types (suc below) inner Assignment) with_tree never n xs h (s ++ punct sign.RightParen q ∷ rest)
       ≡ Some (read (record { items = xs ++ ts; comma = false }) (max h m) (punct sign.RightParen q ∷ rest))
   args_listed (one_argument {h = m} {t = t} {s = s} d) low n room xs h q rest =
       let one = parts.expr Assignment m t s (punct sign.RightParen q ∷ rest) d low refl in
       let some = not_empty (expr_begins types d) in
       let turn = has_turn n (omega (arith, room, some)) in
-      rw turn.1 (commas_last (inner_expr types (suc below) inner Assignment) with_tree never turn.0 xs h (s ++ punct sign.RightParen q ∷ rest) (operand t one.0) m (punct sign.RightParen q ∷ rest) one.1 refl)
+      rw turn.1 (commas_last (inner_expr types (suc below) inner Assignment) with_tree never turn.0 xs h
+      (s ++ punct sign.RightParen q ∷ rest) (operand t one.0) m (punct sign.RightParen q ∷ rest) one.1 refl)
   args_listed (more_arguments {h = m} {m = j} {t = t} {ts = ts} {s = s} {r = r} p d more) low n room xs h q rest =
       let one = parts.expr Assignment m t s (punct sign.Comma p ∷ (r ++ punct sign.RightParen q ∷ rest)) d (omega arith) refl in
       let long = length-append s (punct sign.Comma p ∷ r) in
       let turn = has_turn n (omega (arith, room, long)) in
       let same = turn.1 in
-      let step = commas_more (inner_expr types (suc below) inner Assignment) with_tree never turn.0 xs h (s ++ punct sign.Comma p ∷ (r ++ punct sign.RightParen q ∷ rest)) (operand t one.0) m p (r ++ punct sign.RightParen q ∷ rest) one.1 refl in
+      let step = commas_more (inner_expr types (suc below) inner Assignment) with_tree never turn.0 xs h
+      (s ++ punct sign.Comma p ∷ (r ++ punct sign.RightParen q ∷ rest)) (operand t one.0) m p (r ++ punct sign.RightParen q ∷ rest) one.1 refl in
       let others = args_listed more (omega arith) turn.0 (omega (arith, room, long, same)) (xs ++ t ∷ []) (max h m) q rest in
       rw (same, append_assoc s (punct sign.Comma p ∷ r) (punct sign.RightParen q ∷ rest))
-      (step ∙ (others ∙ ap₂ (λ (z : List Expr) (w : ℕ). Some (read (record { items = z; comma = false }) w (punct sign.RightParen q ∷ rest))) (append_assoc xs (t ∷ []) ts) (omega arith)))
+      (step ∙ (others ∙ ap₂ (λ (z : List Expr) (w : ℕ). Some (read (record { items = z; comma = false }) w
+      (punct sign.RightParen q ∷ rest))) (append_assoc xs (t ∷ []) ts) (omega arith)))
 
   listed_begins : {m : ℕ} {ts : List Expr} {s : List Token} → Listed types m ts s → Begins (opens_expr types) s
   listed_begins (one_argument d) = expr_begins types d
@@ -360,11 +383,13 @@ module _ (types : List NameId) (below : ℕ) (inner : Wanted → Parse Phrase) (
       let long = length-append s (punct sign.RightParen q ∷ rest) in
       let all = args_listed d low (length (s ++ punct sign.RightParen q ∷ rest)) (omega (arith, long)) [] 0 q rest in
       let high : max 0 m ≡ m = omega arith in
-      rw (no_right_paren types (longer (listed_begins d) (punct sign.RightParen q ∷ rest)), all) (ap (λ (w : ℕ). Some (read ts w (punct sign.RightParen q ∷ rest))) high)
+      rw (no_right_paren types (longer (listed_begins d) (punct sign.RightParen q ∷ rest)), all)
+      (ap (λ (w : ℕ). Some (read ts w (punct sign.RightParen q ∷ rest))) high)
 
   -- ---- expressions
 
-  pub read_expr : {level : Level} {h : ℕ} {t : Expr} {s : List Token} → Spells types level h t s → h ≤ suc below → (rest : List Token) → Reads types below inner level h t s rest
+  pub read_expr : {level : Level} {h : ℕ} {t : Expr} {s : List Token} → Spells types level h t s → h ≤ suc below → (rest : List Token)
+      → Reads types below inner level h t s rest
   unfolding primary primary_by bracketed prefix prefix_by applied stepped_first size_of_type size_of sized casts cast operators
   read_expr (g.a_name w p other) low rest = λ ends. rw other (node_is below (operand (e.Name w (at p)) true) 0 rest (omega arith))
   read_expr (g.an_int i p) low rest = λ ends. node_is below (operand (e.Int i (at p)) true) 0 rest (omega arith)
@@ -374,35 +399,41 @@ module _ (types : List NameId) (below : ℕ) (inner : Wanted → Parse Phrase) (
   read_expr (g.brackets {h = h} {t = t} {s = s} p q d) low rest = λ ends.
       let one = parts.expr Whole h t s (punct sign.RightParen q ∷ rest) d (omega arith) refl in
       rw (append_assoc s (punct sign.RightParen q ∷ []) rest, one.1) (node_is below (operand t true) h rest (omega arith))
-  read_expr (g.a_primary {h = h} {t = t} {s = s} d) low rest = λ ends. postfix_begun types below inner (opens_expr types) h t s rest (expr_begins types d) (read_expr d low rest ends)
+  read_expr (g.a_primary {h = h} {t = t} {s = s} d) low rest = λ ends.
+      postfix_begun types below inner (opens_expr types) h t s rest (expr_begins types d) (read_expr d low rest ends)
   read_expr (g.an_index {h = h} {m = m} {a = a} {b = b} {s = s} {r = r} p q d x) low rest = λ ends.
       let tail = punct sign.LeftBracket p ∷ (r ++ punct sign.RightBracket q ∷ rest) in
       let one = parts.expr Whole m b r (punct sign.RightBracket q ∷ rest) x (omega arith) refl in
-      further below (postfix types (suc below) inner) (suffixes types (suc below) inner) (opens_expr types) h a true s tail (expr_begins types d) (read_expr d (omega arith) tail refl) (omega arith)
+      further below (postfix types (suc below) inner) (suffixes types (suc below) inner) (opens_expr types) h a true s tail
+      (expr_begins types d) (read_expr d (omega arith) tail refl) (omega arith)
       (max h m) (e.Index a b (after s p)) true (punct sign.LeftBracket p ∷ (r ++ punct sign.RightBracket q ∷ [])) rest
       (ap (λ (z : List Token). punct sign.LeftBracket p ∷ z) (append_assoc r (punct sign.RightBracket q ∷ []) rest)) (omega arith)
       (λ n. index_step types below inner n (first_pos s) p q a b one.0 h m r rest (omega arith) one.1)
   read_expr (g.a_call {h = h} {m = m} {a = a} {args = bs} {s = s} {r = r} p q d x) low rest = λ ends.
       let tail = punct sign.LeftParen p ∷ (r ++ punct sign.RightParen q ∷ rest) in
       let one = args_read x (omega arith) q rest in
-      further below (postfix types (suc below) inner) (suffixes types (suc below) inner) (opens_expr types) h a true s tail (expr_begins types d) (read_expr d (omega arith) tail refl) (omega arith)
+      further below (postfix types (suc below) inner) (suffixes types (suc below) inner) (opens_expr types) h a true s tail
+      (expr_begins types d) (read_expr d (omega arith) tail refl) (omega arith)
       (max h m) (e.Call a bs (after s p)) true (punct sign.LeftParen p ∷ (r ++ punct sign.RightParen q ∷ [])) rest
       (ap (λ (z : List Token). punct sign.LeftParen p ∷ z) (append_assoc r (punct sign.RightParen q ∷ []) rest)) (omega arith)
       (λ n. call_step types below inner n (first_pos s) p q a bs h m r rest (omega arith) one)
   read_expr (g.a_field {h = h} {a = a} {s = s} o arrow w p q is d) low rest = λ ends.
       let tail = punct o p ∷ word w q ∷ rest in
-      further below (postfix types (suc below) inner) (suffixes types (suc below) inner) (opens_expr types) h a true s tail (expr_begins types d) (read_expr d (omega arith) tail refl) (omega arith)
+      further below (postfix types (suc below) inner) (suffixes types (suc below) inner) (opens_expr types) h a true s tail
+      (expr_begins types d) (read_expr d (omega arith) tail refl) (omega arith)
       h (e.Field a w arrow (after s q)) true (punct o p ∷ word w q ∷ []) rest refl (omega arith)
       (λ n. field_step types below inner n (first_pos s) p q o arrow w a h rest (omega arith) (field_suffix o arrow is))
   read_expr (g.a_step_behind {h = h} {a = a} {s = s} o by p is d) low rest = λ ends.
       let tail = punct o p ∷ rest in
-      further below (postfix types (suc below) inner) (suffixes types (suc below) inner) (opens_expr types) h a true s tail (expr_begins types d) (read_expr d (omega arith) tail refl) (omega arith)
+      further below (postfix types (suc below) inner) (suffixes types (suc below) inner) (opens_expr types) h a true s tail
+      (expr_begins types d) (read_expr d (omega arith) tail refl) (omega arith)
       h (e.PostInc by a (after s p)) true (punct o p ∷ []) rest refl (omega arith)
       (λ n. step_step types below inner n (first_pos s) p o by a h rest (omega arith) (step_suffix o by is))
   read_expr (g.a_postfix {h = h} {t = t} {s = s} d) low rest = λ ends.
       let c = read_expr d low rest (ends_string 0 rest ends) in
       let b = longer (postfix_begins types d) rest in
-      rw (no_unary types b, no_step types b, no_sizeof types b) (c.comes ∙ suffix_stop types below inner c.turns (first_pos s) (read (operand t true) h rest) (ends_suffix 0 rest ends))
+      rw (no_unary types b, no_step types b, no_sizeof types b)
+      (c.comes ∙ suffix_stop types below inner c.turns (first_pos s) (read (operand t true) h rest) (ends_suffix 0 rest ends))
   read_expr (g.a_unary {h = h} {a = a} {s = s} o op p is d) low rest = λ ends.
       let one = parts.expr Cast h a s rest d (omega arith) ends in
       rw (is, one.1) (node_is below (operand (e.Unary op a (at p)) true) h rest (omega arith))
@@ -421,7 +452,12 @@ module _ (types : List NameId) (below : ℕ) (inner : Wanted → Parse Phrase) (
       let one = head_read types below inner parts d (omega arith) (punct sign.RightParen q ∷ (r ++ rest)) refl refl in
       let two = parts.expr Cast m a r rest x (omega arith) ends in (
         false,
-        rw (append_assoc s (punct sign.RightParen q ∷ r) rest, is_a_type types (longer (head_begins types d) (punct sign.RightParen q ∷ (r ++ rest))), one, two.1)
+        rw (
+          append_assoc s (punct sign.RightParen q ∷ r) rest,
+          is_a_type types (longer (head_begins types d) (punct sign.RightParen q ∷ (r ++ rest))),
+          one,
+          two.1,
+        )
             (node_is below (operand (e.Cast t a (at p)) false) (max h m) rest (omega arith)),
       )
   read_expr (g.an_operand d) low rest = λ ends. read_expr d low rest ends
@@ -433,33 +469,45 @@ module _ (types : List NameId) (below : ℕ) (inner : Wanted → Parse Phrase) (
       let c = read_expr d (omega arith) tail (binary_ends l o op p (r ++ rest) is) in
       let one = parts.expr (Operators l) m b r rest x (omega arith) ends in (
         false,
-        further below (operators types (suc below) inner (suc l)) (λ n begin y. chain types (suc below) inner n l begin y) (opens_expr types) h a c.0 s tail (expr_begins types d) c.1 (omega arith)
+        further below (operators types (suc below) inner (suc l)) (λ n begin y. chain types (suc below) inner n l begin y)
+            (opens_expr types) h a c.0 s tail (expr_begins types d) c.1 (omega arith)
             (max h m) (e.Binary op a b (after s p)) false (punct o p ∷ r) rest refl (omega arith)
             (λ n. chain_step types below inner n l (first_pos s) p o op a b c.0 one.0 h m r rest (omega arith) (binary_is_at l o op is) one.1),
       )
   read_expr (g.no_choice {h = h} {t = t} {s = s} d) low rest = λ ends.
       let both = and_parts (ends_operators 10 rest) _ ends in
       let one = operators_read types below inner 10 h t s rest (read_expr d low rest) both.0 in
-      (one.0, choice_stop types below inner (s ++ rest) (read (operand t one.0) h rest) one.1 (not-true (is_question (front rest)) both.1))
+      (one.0, conditional_stop types below inner (s ++ rest) (read (operand t one.0) h rest) one.1 (not-true (is_question (front rest)) both.1))
   read_expr (g.a_choice {h = h} {m = m} {n = n} {a = a} {b = b} {c = c} {s = s} {r = r} {u = x} p q d y z) low rest = λ ends.
       let tail = punct sign.Question p ∷ (r ++ punct sign.Colon q ∷ (x ++ rest)) in
       let one = operators_read types below inner 10 h a s tail (read_expr d (omega arith) tail) refl in
       let two = parts.expr Whole m b r (punct sign.Colon q ∷ (x ++ rest)) y (omega arith) refl in
       let three = parts.expr Choice n c x rest z (omega arith) ends in
       let flat : (s ++ punct sign.Question p ∷ (r ++ punct sign.Colon q ∷ x)) ++ rest ≡ s ++ tail
-      = append_assoc s (punct sign.Question p ∷ (r ++ punct sign.Colon q ∷ x)) rest ∙ ap (λ (w : List Token). s ++ punct sign.Question p ∷ w) (append_assoc r (punct sign.Colon q ∷ x) rest) in
-      (false, rw flat (choice_step types below inner (first_pos s) (s ++ tail) p q a b c one.0 two.0 three.0 h m n r x rest (omega arith) (first_stays (expr_begins types d) tail) one.1 two.1 three.1))
+      = append_assoc s (punct sign.Question p ∷ (r ++ punct sign.Colon q ∷ x)) rest
+      ∙ ap (λ (w : List Token). s ++ punct sign.Question p ∷ w) (append_assoc r (punct sign.Colon q ∷ x) rest) in (
+        false,
+        rw flat (conditional_step types below inner (first_pos s) (s ++ tail) p q a b c one.0 two.0 three.0 h m n r x rest
+            (omega arith) (first_stays (expr_begins types d) tail) one.1 two.1 three.1),
+      )
   read_expr (g.no_assignment {h = h} {t = t} {s = s} d) low rest = λ ends.
-      let both = and_parts (ends_choice rest) _ ends in
-      let one = read_expr d low rest both.0 in
-      (one.0, assignment_stop types below inner (s ++ rest) (read (operand t one.0) h rest) one.1 (no_value (assign_at (front rest)) (not-true (is_some (assign_at (front rest))) both.1)))
+      let both = and_parts (ends_conditional rest) _ ends in
+      let one = read_expr d low rest both.0 in (
+        one.0,
+        assignment_stop types below inner (s ++ rest) (read (operand t one.0) h rest) one.1
+            (no_value (assign_at (front rest)) (not-true (is_some (assign_at (front rest))) both.1)),
+      )
   read_expr (g.an_assignment {h = h} {m = m} {a = a} {b = b} {s = s} {r = r} o op p is d x) low rest = λ ends.
       let tail = punct o p ∷ (r ++ rest) in
       let one = read_expr d (omega arith) tail (assign_ends 0 o op p (r ++ rest) is) in
-      let up = prefix_up types below inner 10 (s ++ tail) (read (operand a true) h tail) one (prefix_no_cast types d tail) (λ j. assign_ends j o op p (r ++ rest) is) in
-      let chosen = choice_stop types below inner (s ++ tail) (read (operand a true) h tail) up (assign_is o op is).no_question in
-      let two = parts.expr Assignment m b r rest x (omega arith) ends in
-      (false, rw (append_assoc s (punct o p ∷ r) rest) (assignment_step types below inner (first_pos s) (s ++ tail) o op p a b two.0 h m r rest (omega arith) is (first_stays (expr_begins types d) tail) chosen two.1))
+      let up = prefix_up types below inner 10 (s ++ tail) (read (operand a true) h tail) one (prefix_no_cast types d tail)
+      (λ j. assign_ends j o op p (r ++ rest) is) in
+      let conditioned = conditional_stop types below inner (s ++ tail) (read (operand a true) h tail) up (assign_is o op is).no_question in
+      let two = parts.expr Assignment m b r rest x (omega arith) ends in (
+        false,
+        rw (append_assoc s (punct o p ∷ r) rest) (assignment_step types below inner (first_pos s) (s ++ tail) o op p a b two.0 h m r
+            rest (omega arith) is (first_stays (expr_begins types d) tail) conditioned two.1),
+      )
   read_expr (g.no_comma {h = h} {t = t} {s = s} d) low rest = λ ends.
       let one = read_expr d low rest ends in
       (one.0, whole_begun types below inner (opens_expr types) h t one.0 s rest (expr_begins types d) one.1)
@@ -468,7 +516,8 @@ module _ (types : List NameId) (below : ℕ) (inner : Wanted → Parse Phrase) (
       let c = read_expr d (omega arith) tail refl in
       let one = parts.expr Assignment m b r rest x (omega arith) ends in (
         false,
-        further below (whole types (suc below) inner) (sequence types (suc below) inner) (opens_expr types) h a c.0 s tail (expr_begins types d) c.1 (omega arith)
+        further below (whole types (suc below) inner) (sequence types (suc below) inner) (opens_expr types) h a c.0 s tail
+            (expr_begins types d) c.1 (omega arith)
             (max h m) (e.Comma a b (after s p)) false (punct sign.Comma p ∷ r) rest refl (omega arith)
             (λ n. sequence_step types below inner n (first_pos s) p a b c.0 one.0 h m r rest (omega arith) one.1),
       )

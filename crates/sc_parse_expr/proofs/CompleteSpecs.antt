@@ -1,6 +1,7 @@
 -- What is spelled is read: specifiers, and the members and enumerators between their braces. By recursion
 -- on what spells them; parts under a node are read by `inner`.
-use Rattle.std.proofs.Common.{◌≡◌, ℕ, zero, suc, ◌≤◌, max, Bool, true, false, not, ◌&&◌, ◌||◌, List, [], ◌∷◌, ◌++◌, length, Option, Some, None, refl, sym, ap, ap₂, ◌∙◌, append_assoc, append-nil, arith, length-append}
+use Rattle.std.proofs.Common.{◌≡◌, ℕ, zero, suc, ◌≤◌, max, Bool, true, false, not, ◌&&◌, ◌||◌, List, [], ◌∷◌, ◌++◌, length, Option, Some}
+use Rattle.std.proofs.Common.{None, refl, sym, ap, ap₂, ◌∙◌, append_assoc, append-nil, arith, length-append}
 use Rattle.std.proofs.lemmas.Bool.{and_parts, both_ways, not-true, or_parts}
 use Rattle.sc_base.specs.declared.pos.Pos.{Pos}
 use Rattle.sc_base.specs.declared.pos.NameId.{NameId}
@@ -31,18 +32,27 @@ use Rattle.sc_tree.specs.declared.grammar.Specified.{Specified}
 use Rattle.sc_tree.specs.declared.ctype.CType.{CType}
 use Rattle.sc_tree.specs.Tokens.{word, punct}
 use Rattle.sc_tree.specs.TypeWords.{storage_word, type_word, with_word, no_words, type_of}
-use Rattle.sc_tree.specs.Specifiers.{no_pieces, words_so_far, typed, stored, gathered_as, with_piece, with_pieces, specified, specified_words, finished_by, finished}
+use Rattle.sc_tree.specs.Specifiers.{no_pieces, words_so_far, typed, stored, gathered_as, with_piece, with_pieces, specified}
+use Rattle.sc_tree.specs.Specifiers.{specified_words, finished_by, finished}
 use Rattle.sc_tree.specs.Tables.{◌>>=◌}
 use Rattle.sc_tree.specs.Grammar as g
-use Rattle.sc_tree.specs.Grammar.{record_word, body_form, Spells, Specifies, pieces, Pieces, no_piece, more_pieces, APiece, Members, no_member, more_members, AMember, a_member, an_untagged, Parts, one_part, more_parts, APart, a_plain_part, a_bit_field, a_padding, Enumerators, last_enumerator, last_with_comma, more_enumerators, AnEnumerator, an_enumerator, an_enumerator_set, Declares}
+use Rattle.sc_tree.specs.Grammar.{record_word, body_form, Spells, Specifies, pieces, Pieces, no_piece, more_pieces, APiece, Members}
+use Rattle.sc_tree.specs.Grammar.{no_member, more_members, AMember, a_member, an_untagged, Parts, one_part, more_parts, APart, a_plain_part}
+use Rattle.sc_tree.specs.Grammar.{a_bit_field, a_padding, Enumerators, last_enumerator, last_with_comma, more_enumerators, AnEnumerator}
+use Rattle.sc_tree.specs.Grammar.{an_enumerator, an_enumerator_set, Declares}
 use Rattle.sc_parse_expr.specs.declared.found.Wanted.{Wanted}
 use Rattle.sc_parse_expr.specs.declared.found.Phrase.{Phrase}
-use Rattle.sc_parse_front.specs.Front.{punct_of, reserved_of, front, front_word, front_reserved, is_left_brace, is_right_brace, is_colon, is_semicolon, is_equals, is_enum, is_some, begins_piece}
+use Rattle.sc_parse_front.specs.Front.{punct_of, reserved_of, front, front_word, front_reserved, is_left_brace, is_right_brace, is_colon}
+use Rattle.sc_parse_front.specs.Front.{is_semicolon, is_equals, is_enum, is_some, begins_piece}
 use Rattle.sc_parse_expr.specs.Read.{read, Parse, commas, many}
-use Rattle.sc_parse_front.specs.Start.{Start, AStorage, AWord, ARecord, AnEnum, AName, NoStart, enum_start, record_start, word_start, storage_start, reserved_start, name_start, start}
-use Rattle.sc_parse_expr.specs.Reading.{with_item, never, padding, with_width, part, parts, member, member_of, record_piece, record_body, tagged_record, record_by, enumerator, enum_piece, enum_body, tagged_enum, enum_by, piece_by, starts, gathering, gather, specs}
-use Rattle.sc_parse_expr.specs.Laws.{ends_choice, ends_specs, ends_declarator, opens_declarator}
-use Rattle.sc_parse_expr.proofs.Begins.{Begins, by_first, longer, weaker, not_empty, opens_piece, piece_begins, piece_no_sign, specs_begin, named_begins, expr_is_high, declarator_is_high}
+use Rattle.sc_parse_front.specs.Start.{Start, AStorage, AWord, ARecord, AnEnum, AName, NoStart, enum_start, record_start, word_start}
+use Rattle.sc_parse_front.specs.Start.{storage_start, reserved_start, name_start, start}
+use Rattle.sc_parse_expr.specs.Reading.{with_item, never, padding, with_width, part, parts, member, member_of, record_piece, record_body}
+use Rattle.sc_parse_expr.specs.Reading.{tagged_record, record_by, enumerator, enum_piece, enum_body, tagged_enum, enum_by, piece_by, starts}
+use Rattle.sc_parse_expr.specs.Reading.{gathering, gather, specs}
+use Rattle.sc_parse_expr.specs.Laws.{ends_conditional, ends_specs, ends_declarator, opens_declarator}
+use Rattle.sc_parse_expr.proofs.Begins.{Begins, by_first, longer, weaker, not_empty, opens_piece, piece_begins, piece_no_sign, specs_begin}
+use Rattle.sc_parse_expr.proofs.Begins.{named_begins, expr_is_high, declarator_is_high}
 use Rattle.sc_parse_expr.proofs.Inner.{no_value, node_is, has_turn, commas_last, commas_end, commas_more, many_end, many_more, IsInner}
 
 -- ---- what a word begins
@@ -76,12 +86,14 @@ nothing_starts w e =
     rw (no_value (storage_word w) a.0, no_value (type_word w) b.0, no_value (record_word w) c.0, c.1) refl
 
 -- a finished type takes no typedef name
-no_name_starts : (types : List NameId) (ss : List Storage) (so : SoFar) (f : Specified) (w : Option NameId) → finished_by ss so ≡ Some f → name_start types so w ≡ NoStart
+no_name_starts : (types : List NameId) (ss : List Storage) (so : SoFar) (f : Specified) (w : Option NameId) → finished_by ss so ≡ Some f
+    → name_start types so w ≡ NoStart
 no_name_starts types ss Untyped f w e = absurd cc
 no_name_starts types ss (Words ws) f w e = refl
 no_name_starts types ss (Typed b x) f w e = refl
 
-none_starts : (types : List NameId) (ss : List Storage) (so : SoFar) (f : Specified) (o : Option Reserved) (w : Option NameId) → finished_by ss so ≡ Some f → begins_piece o ≡ false
+none_starts : (types : List NameId) (ss : List Storage) (so : SoFar) (f : Specified) (o : Option Reserved) (w : Option NameId)
+    → finished_by ss so ≡ Some f → begins_piece o ≡ false
     → reserved_start o (name_start types so w) ≡ NoStart
 none_starts types ss so f None w e other = no_name_starts types ss so f w e
 none_starts types ss so f (Some x) w e other = nothing_starts x other
@@ -119,7 +131,8 @@ whole_is Untyped b f so2 e = cc
 whole_is (Words ws) b f so2 e = absurd cc
 whole_is (Typed c x) b f so2 e = absurd cc
 
-piece_is_high : {types : List NameId} {m : ℕ} {x : Piece} {s : List Token} → APiece types m x s → (so so2 : SoFar) (h : ℕ) → typed so x ≡ Some so2 → (is_untagged so ≡ true → 1 ≤ h) → is_untagged so2 ≡ true → 1 ≤ max h m
+piece_is_high : {types : List NameId} {m : ℕ} {x : Piece} {s : List Token} → APiece types m x s → (so so2 : SoFar) (h : ℕ) → typed so x
+    ≡ Some so2 → (is_untagged so ≡ true → 1 ≤ h) → is_untagged so2 ≡ true → 1 ≤ max h m
 piece_is_high (g.a_storage_word w x p e) so so2 h is high un =
     let same : so ≡ so2 = cc in
     let low = high (ap is_untagged same ∙ un) in omega arith
@@ -132,7 +145,8 @@ piece_is_high (g.an_enum tag p q) so so2 h is high un = absurd (both_ways (is_un
 piece_is_high (g.an_enum_body p q o xs) so so2 h is high un = omega arith
 piece_is_high (g.an_enum_whole tag p q o v xs) so so2 h is high un = omega arith
 
-pieces_are_high : {types : List NameId} {m : ℕ} {ps : List Piece} {s : List Token} → Pieces types m ps s → (x y : Gathered) (h : ℕ) → with_pieces x ps ≡ Some y → (is_untagged x.so_far ≡ true → 1 ≤ h)
+pieces_are_high : {types : List NameId} {m : ℕ} {ps : List Piece} {s : List Token} → Pieces types m ps s → (x y : Gathered) (h : ℕ)
+    → with_pieces x ps ≡ Some y → (is_untagged x.so_far ≡ true → 1 ≤ h)
     → is_untagged y.so_far ≡ true → 1 ≤ max h m
 pieces_are_high no_piece x y h e high un =
     let same : x ≡ y = cc in
@@ -140,7 +154,8 @@ pieces_are_high no_piece x y h e high un =
 pieces_are_high (more_pieces {h = i} {m = j} {x = p} {xs = ps} d more) x y h e high un =
     let step = bind_is (with_piece x p) (λ z. with_pieces z ps) y e in
     let so = gathered_typed (stored x.storage p) (typed x.so_far p) step.0 step.1 in
-    let low = pieces_are_high more step.0 y (max h i) step.2 (λ u. piece_is_high d x.so_far step.0.so_far h (so.1 ∙ ap (λ (z : SoFar). Some z) so.2) high u) un in
+    let low = pieces_are_high more step.0 y (max h i) step.2 (λ u.
+    piece_is_high d x.so_far step.0.so_far h (so.1 ∙ ap (λ (z : SoFar). Some z) so.2) high u) un in
     omega arith
 
 words_form : {A : Type 0} (ss : List Storage) (t : Option CType) (f : Specified) → specified_words ss t ≡ Some f → f.form ≡ form.Untagged → A
@@ -252,19 +267,22 @@ ends_piece ts e = not-true (begins_piece (front_reserved ts)) (and_parts (not (b
 ends_brace : (ts : List Token) → ends_specs ts ≡ true → is_left_brace (front ts) ≡ false
 ends_brace ts e = not-true (is_left_brace (front ts)) (and_parts (not (begins_piece (front_reserved ts))) _ e).1
 
-pieces_no_brace : (types : List NameId) {h : ℕ} {ps : List Piece} {s : List Token} → Pieces types h ps s → (rest : List Token) → is_left_brace (front rest) ≡ false → is_left_brace (front (s ++ rest)) ≡ false
+pieces_no_brace : (types : List NameId) {h : ℕ} {ps : List Piece} {s : List Token} → Pieces types h ps s → (rest : List Token)
+    → is_left_brace (front rest) ≡ false → is_left_brace (front (s ++ rest)) ≡ false
 pieces_no_brace types no_piece rest other = other
 pieces_no_brace types (more_pieces {r = r} x more) rest other = ap is_left_brace (piece_no_sign types (longer (longer (piece_begins types x) r) rest))
 
 -- ---- the reading
 
 module _ (types : List NameId) (below : ℕ) (inner : Wanted → Parse Phrase) where
-  gather_stop : (n : ℕ) (x : Gathered) (h : ℕ) (ts : List Token) → start types x.so_far ts ≡ NoStart → gather types (suc below) inner n x h ts ≡ Some (read x h ts)
+  gather_stop : (n : ℕ) (x : Gathered) (h : ℕ) (ts : List Token) → start types x.so_far ts ≡ NoStart
+      → gather types (suc below) inner n x h ts ≡ Some (read x h ts)
   unfolding gather gathering
   gather_stop zero x h ts e = rw e refl
   gather_stop (suc n) x h ts e = rw e refl
 
-  gather_more : (n : ℕ) (x y : Gathered) (h : ℕ) (ts : List Token) (s : Start) (p : Piece) (high : ℕ) (rest : List Token) → start types x.so_far ts ≡ s → starts types (suc below) inner s ≡ true
+  gather_more : (n : ℕ) (x y : Gathered) (h : ℕ) (ts : List Token) (s : Start) (p : Piece) (high : ℕ) (rest : List Token)
+      → start types x.so_far ts ≡ s → starts types (suc below) inner s ≡ true
       → piece_by types (suc below) inner s ts ≡ Some (read p high rest) → with_piece x p ≡ Some y
       → gather types (suc below) inner (suc n) x h ts ≡ gather types (suc below) inner n y (max h high) rest
   unfolding gather gathering
@@ -279,7 +297,8 @@ module _ (types : List NameId) (below : ℕ) (inner : Wanted → Parse Phrase) w
 module _ (types : List NameId) (below : ℕ) (inner : Wanted → Parse Phrase) (known : IsInner types below inner) where
   -- ---- members
 
-  part_read : {m : ℕ} {x : Part} {s : List Token} → APart types m x s → m ≤ below → (rest : List Token) → ends_choice rest ≡ true → ends_declarator rest ≡ true → is_colon (front rest) ≡ false
+  part_read : {m : ℕ} {x : Part} {s : List Token} → APart types m x s → m ≤ below → (rest : List Token) → ends_conditional rest ≡ true
+      → ends_declarator rest ≡ true → is_colon (front rest) ≡ false
       → part types (suc below) inner (s ++ rest) ≡ Some (read x m rest)
   unfolding part padding with_width
   part_read (a_plain_part {c = c} {h = h} {t = t} {s = s} d) low rest ends_e ends_d colon =
@@ -292,25 +311,30 @@ module _ (types : List NameId) (below : ℕ) (inner : Wanted → Parse Phrase) (
       let one = known.expr Choice h w s rest x low ends_e in
       rw one.1 refl
 
-  parts_read : {m : ℕ} {xs : List Part} {s : List Token} → Parts types m xs s → m ≤ below → (n : ℕ) → length s ≤ n → (acc : List Part) (h : ℕ) (q : Pos) (rest : List Token)
+  parts_read : {m : ℕ} {xs : List Part} {s : List Token} → Parts types m xs s → m ≤ below → (n : ℕ) → length s ≤ n
+      → (acc : List Part) (h : ℕ) (q : Pos) (rest : List Token)
       → commas (part types (suc below) inner) with_item never n acc h (s ++ punct sign.Semicolon q ∷ rest)
       ≡ Some (read (record { items = acc ++ xs; comma = false }) (max h m) (punct sign.Semicolon q ∷ rest))
   parts_read (one_part {h = m} {x = x} {s = s} d) low n room acc h q rest =
       let one = part_read d low (punct sign.Semicolon q ∷ rest) refl refl refl in
       let some = not_empty (part_begins types d) in
       let turn = has_turn n (omega (arith, room, some)) in
-      rw turn.1 (commas_last (part types (suc below) inner) with_item never turn.0 acc h (s ++ punct sign.Semicolon q ∷ rest) x m (punct sign.Semicolon q ∷ rest) one refl)
+      rw turn.1 (commas_last (part types (suc below) inner) with_item never turn.0 acc h (s ++ punct sign.Semicolon q ∷ rest) x m
+      (punct sign.Semicolon q ∷ rest) one refl)
   parts_read (more_parts {h = m} {m = j} {x = x} {xs = xs} {s = s} {r = r} p d more) low n room acc h q rest =
       let one = part_read d (omega arith) (punct sign.Comma p ∷ (r ++ punct sign.Semicolon q ∷ rest)) refl refl refl in
       let long = length-append s (punct sign.Comma p ∷ r) in
       let turn = has_turn n (omega (arith, room, long)) in
       let same = turn.1 in
-      let step = commas_more (part types (suc below) inner) with_item never turn.0 acc h (s ++ punct sign.Comma p ∷ (r ++ punct sign.Semicolon q ∷ rest)) x m p (r ++ punct sign.Semicolon q ∷ rest) one refl in
+      let step = commas_more (part types (suc below) inner) with_item never turn.0 acc h
+      (s ++ punct sign.Comma p ∷ (r ++ punct sign.Semicolon q ∷ rest)) x m p (r ++ punct sign.Semicolon q ∷ rest) one refl in
       let others = parts_read more (omega arith) turn.0 (omega (arith, room, long, same)) (acc ++ x ∷ []) (max h m) q rest in
       rw (same, append_assoc s (punct sign.Comma p ∷ r) (punct sign.Semicolon q ∷ rest))
-      (step ∙ (others ∙ ap₂ (λ (z : List Part) (w : ℕ). Some (read (record { items = z; comma = false }) w (punct sign.Semicolon q ∷ rest))) (append_assoc acc (x ∷ []) xs) (omega arith)))
+      (step ∙ (others ∙ ap₂ (λ (z : List Part) (w : ℕ). Some (read (record { items = z; comma = false }) w (punct sign.Semicolon q ∷ rest)))
+      (append_assoc acc (x ∷ []) xs) (omega arith)))
 
-  member_read : {m : ℕ} {x : Member} {s : List Token} → AMember types m x s → m ≤ below → (rest : List Token) → member types (suc below) inner (s ++ rest) ≡ Some (read x m rest)
+  member_read : {m : ℕ} {x : Member} {s : List Token} → AMember types m x s → m ≤ below → (rest : List Token)
+      → member types (suc below) inner (s ++ rest) ≡ Some (read x m rest)
   unfolding member parts
   member_read (a_member {h = h} {m = m} {f = f} {xs = xs} {s = s} {r = r} p d more) low rest =
       let tail = punct sign.Semicolon p ∷ rest in
@@ -319,7 +343,9 @@ module _ (types : List NameId) (below : ℕ) (inner : Wanted → Parse Phrase) (
       let one = known.specs h f s (r ++ tail) d (omega arith) (omega arith) (part_ends_specs begins) in
       let long = length-append r tail in
       let all = parts_read more (omega arith) (length (r ++ tail)) (omega (arith, long)) [] 0 p rest in
-      let flat : (s ++ (r ++ punct sign.Semicolon p ∷ [])) ++ rest ≡ s ++ (r ++ tail) = append_assoc s (r ++ punct sign.Semicolon p ∷ []) rest ∙ ap (λ (z : List Token). s ++ z) (append_assoc r (punct sign.Semicolon p ∷ []) rest) in
+      let flat : (s ++ (r ++ punct sign.Semicolon p ∷ [])) ++ rest ≡ s ++ (r ++ tail) =
+      append_assoc s (r ++ punct sign.Semicolon p ∷ []) rest
+      ∙ ap (λ (z : List Token). s ++ z) (append_assoc r (punct sign.Semicolon p ∷ []) rest) in
       let top : max h (max 0 m) ≡ max h m = omega arith in
       rw (flat, one, no_semicolon begins, all) (ap (λ (w : ℕ). Some (read (member_of types (suc below) inner f.specs xs) w rest)) top)
   member_read (an_untagged {h = h} {f = f} {s = s} p d e) low rest =
@@ -327,8 +353,10 @@ module _ (types : List NameId) (below : ℕ) (inner : Wanted → Parse Phrase) (
       let one = known.specs h f s (punct sign.Semicolon p ∷ rest) d low (omega arith) refl in
       rw (append_assoc s (punct sign.Semicolon p ∷ []) rest, one, e) refl
 
-  members_read : {m : ℕ} {xs : List Member} {s : List Token} → Members types m xs s → m ≤ below → (n : ℕ) → length s ≤ n → (acc : List Member) (h : ℕ) (q : Pos) (rest : List Token)
-      → many (member types (suc below) inner) with_item is_right_brace n acc h (s ++ punct sign.RightBrace q ∷ rest) ≡ Some (read (acc ++ xs) (max h m) (punct sign.RightBrace q ∷ rest))
+  members_read : {m : ℕ} {xs : List Member} {s : List Token} → Members types m xs s → m ≤ below → (n : ℕ) → length s ≤ n
+      → (acc : List Member) (h : ℕ) (q : Pos) (rest : List Token)
+      → many (member types (suc below) inner) with_item is_right_brace n acc h (s ++ punct sign.RightBrace q ∷ rest)
+      ≡ Some (read (acc ++ xs) (max h m) (punct sign.RightBrace q ∷ rest))
   members_read no_member low n room acc h q rest =
       many_end (member types (suc below) inner) with_item is_right_brace n acc h (punct sign.RightBrace q ∷ rest) refl
       ∙ ap₂ (λ (z : List Member) (w : ℕ). Some (read z w (punct sign.RightBrace q ∷ rest))) (sym (append-nil acc)) (omega arith)
@@ -346,8 +374,10 @@ module _ (types : List NameId) (below : ℕ) (inner : Wanted → Parse Phrase) (
       rw (same, append_assoc s r tail)
       (step ∙ (others ∙ ap₂ (λ (z : List Member) (w : ℕ). Some (read z w tail)) (append_assoc acc (x ∷ []) xs) (omega arith)))
 
-  record_body_read : {m : ℕ} {xs : List Member} {s : List Token} → Members types m xs s → m ≤ below → (u : Bool) (p : Pos) (tag : Option NameId) (q : Pos) (rest : List Token)
-      → record_body types (suc below) inner u p tag (s ++ punct sign.RightBrace q ∷ rest) ≡ Some (read (record_piece types (suc below) inner u p tag (Some xs) (body_form tag)) (suc m) rest)
+  record_body_read : {m : ℕ} {xs : List Member} {s : List Token} → Members types m xs s → m ≤ below
+      → (u : Bool) (p : Pos) (tag : Option NameId) (q : Pos) (rest : List Token)
+      → record_body types (suc below) inner u p tag (s ++ punct sign.RightBrace q ∷ rest)
+      ≡ Some (read (record_piece types (suc below) inner u p tag (Some xs) (body_form tag)) (suc m) rest)
   unfolding record_body
   record_body_read {m = m} {xs = xs} {s = s} d low u p tag q rest =
       let long = length-append s (punct sign.RightBrace q ∷ rest) in
@@ -357,7 +387,8 @@ module _ (types : List NameId) (below : ℕ) (inner : Wanted → Parse Phrase) (
 
   -- ---- enumerators
 
-  enumerator_read : {m : ℕ} {x : Enumerator} {s : List Token} → AnEnumerator types m x s → m ≤ below → (rest : List Token) → ends_choice rest ≡ true → is_equals (front rest) ≡ false
+  enumerator_read : {m : ℕ} {x : Enumerator} {s : List Token} → AnEnumerator types m x s → m ≤ below → (rest : List Token)
+      → ends_conditional rest ≡ true → is_equals (front rest) ≡ false
       → enumerator types (suc below) inner (s ++ rest) ≡ Some (read x m rest)
   unfolding enumerator
   enumerator_read (an_enumerator w p) low rest ends equals = rw equals refl
@@ -365,20 +396,28 @@ module _ (types : List NameId) (below : ℕ) (inner : Wanted → Parse Phrase) (
       let one = known.expr Choice h v s rest x low ends in
       rw one.1 refl
 
-  enumerators_read : {m : ℕ} {xs : List Enumerator} {s : List Token} → Enumerators types m xs s → m ≤ below → (n : ℕ) → length s ≤ n → (acc : List Enumerator) (h : ℕ) (q : Pos) (rest : List Token)
+  enumerators_read : {m : ℕ} {xs : List Enumerator} {s : List Token} → Enumerators types m xs s → m ≤ below → (n : ℕ) → length s ≤ n
+      → (acc : List Enumerator) (h : ℕ) (q : Pos) (rest : List Token)
       → (c : Bool) × (commas (enumerator types (suc below) inner) with_item is_right_brace n acc h (s ++ punct sign.RightBrace q ∷ rest)
       ≡ Some (read (record { items = acc ++ xs; comma = c }) (max h m) (punct sign.RightBrace q ∷ rest)))
   enumerators_read (last_enumerator {h = m} {x = x} {s = s} d) low n room acc h q rest =
       let one = enumerator_read d low (punct sign.RightBrace q ∷ rest) refl refl in
       let some = not_empty (enumerator_begins d) in
-      let turn = has_turn n (omega (arith, room, some)) in
-      (false, rw turn.1 (commas_last (enumerator types (suc below) inner) with_item is_right_brace turn.0 acc h (s ++ punct sign.RightBrace q ∷ rest) x m (punct sign.RightBrace q ∷ rest) one refl))
+      let turn = has_turn n (omega (arith, room, some)) in (
+        false,
+        rw turn.1 (commas_last (enumerator types (suc below) inner) with_item is_right_brace turn.0 acc h
+            (s ++ punct sign.RightBrace q ∷ rest) x m (punct sign.RightBrace q ∷ rest) one refl),
+      )
   enumerators_read (last_with_comma {h = m} {x = x} {s = s} p d) low n room acc h q rest =
       let tail = punct sign.RightBrace q ∷ rest in
       let one = enumerator_read d low (punct sign.Comma p ∷ tail) refl refl in
       let long = length-append s (punct sign.Comma p ∷ []) in
-      let turn = has_turn n (omega (arith, room, long)) in
-      (true, rw (turn.1, append_assoc s (punct sign.Comma p ∷ []) tail) (commas_end (enumerator types (suc below) inner) with_item is_right_brace turn.0 acc h (s ++ punct sign.Comma p ∷ tail) x m p tail one refl))
+      let turn = has_turn n (omega (arith, room, long)) in (
+        true,
+        rw (turn.1, append_assoc s (punct sign.Comma p ∷ []) tail)
+            (commas_end (enumerator types (suc below) inner) with_item is_right_brace turn.0 acc h (s ++ punct sign.Comma p ∷ tail) x m p tail
+            one refl),
+      )
   enumerators_read (more_enumerators {h = m} {m = j} {x = x} {xs = xs} {s = s} {r = r} p d more) low n room acc h q rest =
       let tail = punct sign.RightBrace q ∷ rest in
       let one = enumerator_read d (omega arith) (punct sign.Comma p ∷ (r ++ tail)) refl refl in
@@ -386,16 +425,21 @@ module _ (types : List NameId) (below : ℕ) (inner : Wanted → Parse Phrase) (
       let turn = has_turn n (omega (arith, room, long)) in
       let same = turn.1 in
       let no_brace : is_right_brace (front (r ++ tail)) ≡ false = ap is_right_brace (word_no_sign (longer (enumerators_begin more) tail)) in
-      let step = commas_more (enumerator types (suc below) inner) with_item is_right_brace turn.0 acc h (s ++ punct sign.Comma p ∷ (r ++ tail)) x m p (r ++ tail) one no_brace in
+      let step = commas_more (enumerator types (suc below) inner) with_item is_right_brace turn.0 acc h
+      (s ++ punct sign.Comma p ∷ (r ++ tail)) x m p (r ++ tail) one no_brace in
       let others = enumerators_read more (omega arith) turn.0 (omega (arith, room, long, same)) (acc ++ x ∷ []) (max h m) q rest in (
         others.0,
         ap (λ (z : ℕ). commas (enumerator types (suc below) inner) with_item is_right_brace z acc h ((s ++ punct sign.Comma p ∷ r) ++ tail)) same
-            ∙ (ap (λ (z : List Token). commas (enumerator types (suc below) inner) with_item is_right_brace (suc turn.0) acc h z) (append_assoc s (punct sign.Comma p ∷ r) tail)
-            ∙ (step ∙ (others.1 ∙ ap₂ (λ (z : List Enumerator) (w : ℕ). Some (read (record { items = z; comma = others.0 }) w tail)) (append_assoc acc (x ∷ []) xs) (omega arith)))),
+            ∙ (ap (λ (z : List Token). commas (enumerator types (suc below) inner) with_item is_right_brace (suc turn.0) acc h z)
+            (append_assoc s (punct sign.Comma p ∷ r) tail)
+            ∙ (step ∙ (others.1 ∙ ap₂ (λ (z : List Enumerator) (w : ℕ). Some (read (record { items = z; comma = others.0 }) w tail))
+            (append_assoc acc (x ∷ []) xs) (omega arith)))),
       )
 
-  enum_body_read : {m : ℕ} {xs : List Enumerator} {s : List Token} → Enumerators types m xs s → m ≤ below → (p : Pos) (tag : Option NameId) (q : Pos) (rest : List Token)
-      → enum_body types (suc below) inner p tag (s ++ punct sign.RightBrace q ∷ rest) ≡ Some (read (enum_piece types (suc below) inner p tag (Some xs) form.WithBody) (suc m) rest)
+  enum_body_read : {m : ℕ} {xs : List Enumerator} {s : List Token} → Enumerators types m xs s → m ≤ below
+      → (p : Pos) (tag : Option NameId) (q : Pos) (rest : List Token)
+      → enum_body types (suc below) inner p tag (s ++ punct sign.RightBrace q ∷ rest)
+      ≡ Some (read (enum_piece types (suc below) inner p tag (Some xs) form.WithBody) (suc m) rest)
   unfolding enum_body
   enum_body_read {m = m} {xs = xs} {s = s} d low p tag q rest =
       let long = length-append s (punct sign.RightBrace q ∷ rest) in
@@ -405,7 +449,8 @@ module _ (types : List NameId) (below : ℕ) (inner : Wanted → Parse Phrase) (
 
   -- ---- pieces
 
-  piece_read : {m : ℕ} {x : Piece} {s : List Token} → APiece types m x s → m ≤ suc below → (so so2 : SoFar) → typed so x ≡ Some so2 → (rest : List Token) → is_left_brace (front rest) ≡ false
+  piece_read : {m : ℕ} {x : Piece} {s : List Token} → APiece types m x s → m ≤ suc below → (so so2 : SoFar) → typed so x ≡ Some so2
+      → (rest : List Token) → is_left_brace (front rest) ≡ false
       → PieceRead types below inner so x m s rest
   unfolding piece_by record_by tagged_record enum_by tagged_enum
   piece_read (g.a_storage_word w x p e) low so so2 is rest brace = record { begun = AStorage x; is = storage_starts w x e; real = refl; one = refl }
@@ -414,16 +459,41 @@ module _ (types : List NameId) (below : ℕ) (inner : Wanted → Parse Phrase) (
       record { begun = AName w; is = ap (λ (z : SoFar). name_start types z (Some w)) (whole_alone so _ _ so2 is) ∙ rw e refl; real = refl; one = refl }
   piece_read (g.a_record w u tag p q e) low so so2 is rest brace = record { begun = ARecord u; is = record_starts w u e; real = refl; one = rw brace refl }
   piece_read (g.a_record_body {s = s} w u p q o e ms) low so so2 is rest brace =
-      record { begun = ARecord u; is = record_starts w u e; real = refl; one = rw (append_assoc s (punct sign.RightBrace o ∷ []) rest) (record_body_read ms (omega arith) u p None o rest) }
+      record {
+        begun = ARecord u;
+        is = record_starts w u e;
+        real = refl;
+        one =
+            rw (append_assoc s (punct sign.RightBrace o ∷ []) rest) (record_body_read ms (omega arith) u p None o rest);
+      }
   piece_read (g.a_record_whole {s = s} w u tag p q o v e ms) low so so2 is rest brace =
-      record { begun = ARecord u; is = record_starts w u e; real = refl; one = rw (append_assoc s (punct sign.RightBrace v ∷ []) rest) (record_body_read ms (omega arith) u q (Some tag) v rest) }
+      record {
+        begun = ARecord u;
+        is = record_starts w u e;
+        real = refl;
+        one =
+            rw (append_assoc s (punct sign.RightBrace v ∷ []) rest) (record_body_read ms (omega arith) u q (Some tag) v rest);
+      }
   piece_read (g.an_enum tag p q) low so so2 is rest brace = record { begun = AnEnum; is = refl; real = refl; one = rw brace refl }
   piece_read (g.an_enum_body {s = s} p q o xs) low so so2 is rest brace =
-      record { begun = AnEnum; is = refl; real = refl; one = rw (append_assoc s (punct sign.RightBrace o ∷ []) rest) (enum_body_read xs (omega arith) p None o rest) }
+      record {
+        begun = AnEnum;
+        is = refl;
+        real = refl;
+        one = rw (append_assoc s (punct sign.RightBrace o ∷ []) rest)
+            (enum_body_read xs (omega arith) p None o rest);
+      }
   piece_read (g.an_enum_whole {s = s} tag p q o v xs) low so so2 is rest brace =
-      record { begun = AnEnum; is = refl; real = refl; one = rw (append_assoc s (punct sign.RightBrace v ∷ []) rest) (enum_body_read xs (omega arith) q (Some tag) v rest) }
+      record {
+        begun = AnEnum;
+        is = refl;
+        real = refl;
+        one = rw (append_assoc s (punct sign.RightBrace v ∷ []) rest)
+            (enum_body_read xs (omega arith) q (Some tag) v rest);
+      }
 
-  pieces_read : {m : ℕ} {ps : List Piece} {s : List Token} → Pieces types m ps s → m ≤ suc below → (n : ℕ) → length s ≤ n → (x : Gathered) (h : ℕ) (y : Gathered) (f : Specified)
+  pieces_read : {m : ℕ} {ps : List Piece} {s : List Token} → Pieces types m ps s → m ≤ suc below → (n : ℕ) → length s ≤ n
+      → (x : Gathered) (h : ℕ) (y : Gathered) (f : Specified)
       → with_pieces x ps ≡ Some y → finished y ≡ Some f → (rest : List Token) → ends_specs rest ≡ true
       → gather types (suc below) inner n x h (s ++ rest) ≡ Some (read y (max h m) rest)
   pieces_read no_piece low n room x h y f e done rest ends =

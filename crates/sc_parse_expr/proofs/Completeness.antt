@@ -16,15 +16,18 @@ use Rattle.sc_parse_expr.proofs.CompleteExpr.{level_read}
 use Rattle.sc_parse_expr.proofs.CompleteSpecs.{read_specs}
 use Rattle.sc_parse_expr.proofs.CompleteDeclarator.{read_declarator}
 
-expr_from : (types : List NameId) (below : ℕ) (level : Level) (ts : List Token) (x : Read Operand) → at_level types (suc below) (parse types below) level ts ≡ Some x → expr_at types (suc below) level ts ≡ Some x
+expr_from : (types : List NameId) (below : ℕ) (level : Level) (ts : List Token) (x : Read Operand)
+    → at_level types (suc below) (parse types below) level ts ≡ Some x → expr_at types (suc below) level ts ≡ Some x
 unfolding parse wanted
 expr_from types below level ts x e = rw e refl
 
-specs_from : (types : List NameId) (below : ℕ) (ts : List Token) (x : Read Specified) → specs types (suc below) (parse types below) ts ≡ Some x → specs_at types (suc below) ts ≡ Some x
+specs_from : (types : List NameId) (below : ℕ) (ts : List Token) (x : Read Specified) → specs types (suc below) (parse types below) ts
+    ≡ Some x → specs_at types (suc below) ts ≡ Some x
 unfolding parse wanted
 specs_from types below ts x e = rw e refl
 
-declarator_from : (types : List NameId) (below : ℕ) (n : Naming) (ts : List Token) (x : Read Declared) → declarator types (suc below) (parse types below) n ts ≡ Some x → declarator_at types (suc below) n ts ≡ Some x
+declarator_from : (types : List NameId) (below : ℕ) (n : Naming) (ts : List Token) (x : Read Declared)
+    → declarator types (suc below) (parse types below) n ts ≡ Some x → declarator_at types (suc below) n ts ≡ Some x
 unfolding parse wanted
 declarator_from types below n ts x e = rw e refl
 

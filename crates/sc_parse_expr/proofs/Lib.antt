@@ -13,3 +13,4 @@ pub mod CompleteSpecs
 pub mod CompleteDeclarator
 pub mod Completeness
 pub mod Whole
+mod Phrases

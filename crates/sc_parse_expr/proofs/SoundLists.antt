@@ -22,7 +22,8 @@ pub record Item {A : Type 0} (Good : A → ℕ → List Token → Type 0) (ts : 
 -- items with commas between
 pub data Chained {A : Type 0} (Good : A → ℕ → List Token → Type 0) : List A → ℕ → List Token → Type 0 where
   last : {x : A} {h : ℕ} {s : List Token} → Good x h s → Chained Good (x ∷ []) h s
-  more : {x : A} {xs : List A} {h m : ℕ} {s r : List Token} (p : Pos) → Good x h s → Chained Good xs m r → Chained Good (x ∷ xs) (max h m) (s ++ punct sign.Comma p ∷ r)
+  more : {x : A} {xs : List A} {h m : ℕ} {s r : List Token} (p : Pos) → Good x h s → Chained Good xs m r
+      → Chained Good (x ∷ xs) (max h m) (s ++ punct sign.Comma p ∷ r)
 
 -- what stands behind the last: nothing, or a comma where the test says that the items end
 pub data Ending (ends : Option Punct → Bool) : Bool → List Token → List Token → Type 0 where
@@ -43,7 +44,8 @@ pub all_items : {A : Type 0} (before xs : List A) → all_added with_item before
 all_items before [] = sym (append-nil before)
 all_items before (x ∷ xs) = all_items (before ++ x ∷ []) xs ∙ append_assoc before (x ∷ []) xs
 
-pub record TookListed {A B : Type 0} (add : B → A → B) (ends : Option Punct → Bool) (Good : A → ℕ → List Token → Type 0) (b : B) (h : ℕ) (ts : List Token) (r : Read (Listed B)) : Type 0 where
+pub record TookListed {A B : Type 0} (add : B → A → B) (ends : Option Punct → Bool) (Good : A → ℕ → List Token → Type 0) (b : B) (h : ℕ)
+    (ts : List Token) (r : Read (Listed B)) : Type 0 where
   pub xs : List A
   pub height : ℕ
   pub span : List Token
@@ -54,7 +56,8 @@ pub record TookListed {A B : Type 0} (add : B → A → B) (ends : Option Punct 
   pub whole : r.it.items ≡ all_added add b xs
   pub ending : Ending ends r.it.comma tail r.rest
 
-pub record TookMany {A B : Type 0} (add : B → A → B) (ends : Option Punct → Bool) (Good : A → ℕ → List Token → Type 0) (b : B) (h : ℕ) (ts : List Token) (r : Read B) : Type 0 where
+pub record TookMany {A B : Type 0} (add : B → A → B) (ends : Option Punct → Bool) (Good : A → ℕ → List Token → Type 0) (b : B) (h : ℕ)
+    (ts : List Token) (r : Read B) : Type 0 where
   pub xs : List A
   pub height : ℕ
   pub span : List Token
@@ -69,7 +72,8 @@ regroup {ts = ts} {rest = rest} s x t e = subst (λ (u : List Token). Splits ts 
 
 module _ {A B : Type 0} (item : Parse A) (add : B → A → B) (ends : Option Punct → Bool) (Good : A → ℕ → List Token → Type 0)
     (reads : (ts : List Token) (a : Read A) → item ts ≡ Some a → Item Good ts a) where
-  onto_more : (b : B) (h : ℕ) (ts : List Token) (a : Read A) (i : Item Good ts a) (us : List Token) (p : Pos) → One a.rest (punct sign.Comma p) us → (r : Read (Listed B))
+  onto_more : (b : B) (h : ℕ) (ts : List Token) (a : Read A) (i : Item Good ts a) (us : List Token) (p : Pos)
+      → One a.rest (punct sign.Comma p) us → (r : Read (Listed B))
       → TookListed add ends Good (add b a.it) (max h a.height) us r → TookListed add ends Good b h ts r
   onto_more b h ts a i us p c r t = record {
     xs = a.it ∷ t.xs;
@@ -83,12 +87,23 @@ module _ {A B : Type 0} (item : Parse A) (add : B → A → B) (ends : Option Pu
     ending = t.ending;
   }
 
-  listing_took : (go : B → ℕ → Parse (Listed B)) → ((ys : B) (m : ℕ) (us : List Token) (r : Read (Listed B)) → go ys m us ≡ Some r → TookListed add ends Good ys m us r)
+  listing_took : (go : B → ℕ → Parse (Listed B)) → ((ys : B) (m : ℕ) (us : List Token) (r : Read (Listed B)) → go ys m us ≡ Some r
+      → TookListed add ends Good ys m us r)
       → (b : B) (h : ℕ) (ts : List Token) (a : Read A) → Item Good ts a → (r : Read (Listed B)) (c : Bool) → is_comma (front a.rest) ≡ c
       → listing item add ends go (add b a.it) (max h a.height) c (if c then behind a.rest else a.rest) ≡ Some r → TookListed add ends Good b h ts r
   unfolding listing
   listing_took go ih b h ts a i r false is e = given (λ (y : Read (Listed B)). TookListed add ends Good b h ts y) _ r e
-      (record { xs = a.it ∷ []; height = a.height; span = i.span; tail = []; split = glue i.split (none a.rest); chained = last i.good; tall = refl; whole = refl; ending = plain a.rest })
+      (record {
+        xs = a.it ∷ [];
+        height = a.height;
+        span = i.span;
+        tail = [];
+        split = glue i.split (none a.rest);
+        chained = last i.good;
+        tall = refl;
+        whole = refl;
+        ending = plain a.rest;
+      })
   listing_took go ih b h ts a i r true is e =
       let c = front_is a.rest sign.Comma (comma (front a.rest) is) in
       ⊎_elim
@@ -105,7 +120,8 @@ module _ {A B : Type 0} (item : Parse A) (add : B → A → B) (ends : Option Pu
         ending = with_comma (first_pos a.rest) (behind a.rest) t.0;
       }))
       (λ t. onto_more b h ts a i (behind a.rest) (first_pos a.rest) c r (ih (add b a.it) (max h a.height) (behind a.rest) r t.1))
-      (if_is (ends (front (behind a.rest))) (Some (read (record { items = add b a.it; comma = true }) (max h a.height) (behind a.rest))) (go (add b a.it) (max h a.height) (behind a.rest)) (Some r) e)
+      (if_is (ends (front (behind a.rest))) (Some (read (record { items = add b a.it; comma = true }) (max h a.height) (behind a.rest)))
+      (go (add b a.it) (max h a.height) (behind a.rest)) (Some r) e)
 
   -- what stands between commas
   pub commas_took : (n : ℕ) (b : B) (h : ℕ) (ts : List Token) (r : Read (Listed B)) → commas item add ends n b h ts ≡ Some r → TookListed add ends Good b h ts r
@@ -113,13 +129,15 @@ module _ {A B : Type 0} (item : Parse A) (add : B → A → B) (ends : Option Pu
   commas_took zero b h ts r e = absurd cc
   commas_took (suc n) b h ts r e =
       let a = bind_some (item ts) (λ a. listed item add ends (λ ys m us. commas item add ends n ys m us) b h a) r e in
-      listing_took (λ ys m us. commas item add ends n ys m us) (λ ys m us q d. commas_took n ys m us q d) b h ts a.value (reads ts a.value a.is) r (is_comma (front a.value.rest)) refl a.gives
+      listing_took (λ ys m us. commas item add ends n ys m us) (λ ys m us q d. commas_took n ys m us q d) b h ts a.value
+      (reads ts a.value a.is) r (is_comma (front a.value.rest)) refl a.gives
 
   ended_there : (b : B) (h : ℕ) (ts : List Token) (r : Read B) → ends (front ts) ≡ true → Some (read b h ts) ≡ Some r → TookMany add ends Good b h ts r
   ended_there b h ts r is e = given (λ (y : Read B). TookMany add ends Good b h ts y) _ r e
       (record { xs = []; height = 0; span = []; split = none ts; row = empty; tall = omega arith; whole = refl; ended = is })
 
-  onto_next : (b : B) (h : ℕ) (ts : List Token) (a : Read A) (i : Item Good ts a) (r : Read B) → TookMany add ends Good (add b a.it) (max h a.height) a.rest r → TookMany add ends Good b h ts r
+  onto_next : (b : B) (h : ℕ) (ts : List Token) (a : Read A) (i : Item Good ts a) (r : Read B)
+      → TookMany add ends Good (add b a.it) (max h a.height) a.rest r → TookMany add ends Good b h ts r
   onto_next b h ts a i r t = record {
     xs = a.it ∷ t.xs;
     height = max a.height t.height;

@@ -27,17 +27,20 @@ above types n s =
           let w = bind_some (parse types (suc n) (want.Expr level) ts) expr_in x is in
           let a = bind_some (r.at_level types (suc n) inner level ts) as_expr w.value w.is in
           let same = given (λ (y : Read Phrase). expr_in y ≡ Some x → TakesExpr types (suc n) level ts x) _ w.value a.gives in
-          same (λ here. given (λ (y : Read Operand). TakesExpr types (suc n) level ts y) a.value x here (took_is (at_level_took types (suc n) n inner parts level ts a.value a.is))) w.gives;
+          same (λ here. given (λ (y : Read Operand). TakesExpr types (suc n) level ts y) a.value x here
+          (took_is (at_level_took types (suc n) n inner parts level ts a.value a.is))) w.gives;
       specs = λ ts x is.
           let w = bind_some (parse types (suc n) want.Specs ts) specs_in x is in
           let a = bind_some (r.specs types (suc n) inner ts) as_specs w.value w.is in
           let same = given (λ (y : Read Phrase). specs_in y ≡ Some x → TakesSpecs types (suc n) ts x) _ w.value a.gives in
-          same (λ here. given (λ (y : Read Specified). TakesSpecs types (suc n) ts y) a.value x here (specs_took types (suc n) n inner parts ts a.value a.is)) w.gives;
+          same (λ here. given (λ (y : Read Specified). TakesSpecs types (suc n) ts y) a.value x here
+          (specs_took types (suc n) n inner parts ts a.value a.is)) w.gives;
       declarator = λ m ts x is.
           let w = bind_some (parse types (suc n) (want.Declarator m) ts) declarator_in x is in
           let a = bind_some (r.declarator types (suc n) inner m ts) as_declarator w.value w.is in
           let same = given (λ (y : Read Phrase). declarator_in y ≡ Some x → TakesDeclarator types (suc n) m ts x) _ w.value a.gives in
-          same (λ here. given (λ (y : Read Declared). TakesDeclarator types (suc n) m ts y) a.value x here (declarator_took types (suc n) n inner parts m ts a.value a.is)) w.gives;
+          same (λ here. given (λ (y : Read Declared). TakesDeclarator types (suc n) m ts y) a.value x here
+          (declarator_took types (suc n) n inner parts m ts a.value a.is)) w.gives;
     }
 
 pub sound : (types : List NameId) (limit : ℕ) → IsSound types limit

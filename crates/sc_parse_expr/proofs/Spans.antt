@@ -19,11 +19,17 @@ use Rattle.sc_parse_expr.specs.Laws.{IsSound, IsComplete, TakesExpr}
 use Rattle.sc_parse_expr.specs.Spans.{IsParsed, Answers, alone, of_all}
 
 module _ (types : List NameId) (span : List Token) (sound_there : IsSound types 128) (complete_there : IsComplete types 128) where
-  spelled_by : (t : Expr) (rest : List Token) (r : Read Operand) → TakesExpr types 128 Whole span r → r.rest ≡ rest → alone rest r.it.tree ≡ Some t → IsExpr types Whole span t
+  spelled_by : (t : Expr) (rest : List Token) (r : Read Operand) → TakesExpr types 128 Whole span r → r.rest ≡ rest → alone rest r.it.tree
+      ≡ Some t → IsExpr types Whole span t
   spelled_by t [] r takes none is =
       let tree : r.it.tree ≡ t = (cc) in
       let whole : takes.span ≡ span = sym (append-nil takes.span) ∙ ap (λ ts. takes.span ++ ts) (sym none) ∙ sym takes.split in
-      record { height = r.height; low = takes.low; spelled = subst (λ s. Spells types Whole r.height t s) whole (subst (λ x. Spells types Whole r.height x takes.span) tree takes.spelled) }
+      record {
+        height = r.height;
+        low = takes.low;
+        spelled = subst (λ s. Spells types Whole r.height t s) whole
+            (subst (λ x. Spells types Whole r.height x takes.span) tree takes.spelled);
+      }
   spelled_by t (x ∷ xs) r takes none is = (cc)
 
   spelled : (t : Expr) (o : Option (Read Operand)) → expr_at types 128 Whole span ≡ o → of_all o ≡ Some t → IsExpr types Whole span t
@@ -33,7 +39,8 @@ module _ (types : List NameId) (span : List Token) (sound_there : IsSound types 
   not_spelled : of_all (expr_at types 128 Whole span) ≡ None → (t : Expr) → IsExpr types Whole span t → ⊥
   not_spelled none t x =
       let found = complete_there.expr Whole x.height t span [] x.spelled x.low refl in
-      let at_span : expr_at types 128 Whole span ≡ Some (read (operand t found.0) x.height []) = ap (λ s. expr_at types 128 Whole s) (sym (append-nil span)) ∙ found.1 in
+      let at_span : expr_at types 128 Whole span ≡ Some (read (operand t found.0) x.height []) =
+      ap (λ s. expr_at types 128 Whole s) (sym (append-nil span)) ∙ found.1 in
       let some : of_all (expr_at types 128 Whole span) ≡ Some t = ap of_all at_span in
       (cc)
 
@@ -45,5 +52,6 @@ module _ (types : List NameId) (span : List Token) (sound_there : IsSound types 
 pub span_parsed : (types : List NameId) (r : Result (Parsed Expr) OutOfMemory) (from to : ℕ) (ts us : List Token) → us ≡ ts
     → IfOk r (Answers (expr_at types 128 Whole (take (to - from) (drop from us)))) → IfOk r (IsParsed types (take (to - from) (drop from ts)))
 span_parsed types (Ok p) from to ts us same given =
-    subst (λ vs. IsParsed types (take (to - from) (drop from vs)) p) same (is_parsed types (take (to - from) (drop from us)) (sound types 128) (complete types 128) p given)
+    subst (λ vs. IsParsed types (take (to - from) (drop from vs)) p) same
+    (is_parsed types (take (to - from) (drop from us)) (sound types 128) (complete types 128) p given)
 span_parsed types (Err e) from to ts us same given = tt

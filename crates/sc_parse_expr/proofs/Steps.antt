@@ -1,5 +1,6 @@
 -- Loops that count turns up, beside readings that count them down.
-use Rattle.std.proofs.Common.{◌≡◌, ℕ, zero, suc, ◌+◌, ◌-◌, ◌<◌, ◌≤◌, max, Bool, true, false, ◌&&◌, List, [], ◌∷◌, ◌++◌, Option, Some, None, Result, Ok, Err, is_some, IsErrAnd, if◌then◌else◌, refl, sym, ap, subst, ◌∙◌, append_assoc, arith}
+use Rattle.std.proofs.Common.{◌≡◌, ℕ, zero, suc, ◌+◌, ◌-◌, ◌<◌, ◌≤◌, max, Bool, true, false, ◌&&◌, List, [], ◌∷◌, ◌++◌, Option, Some, None}
+use Rattle.std.proofs.Common.{Result, Ok, Err, is_some, IsErrAnd, if◌then◌else◌, refl, sym, ap, subst, ◌∙◌, append_assoc, arith}
 use Rattle.std.specs.Ordering.{ord_max}
 use Rattle.std.proofs.Common.{nat_cmp, rules}
 use Rattle.std.proofs.lemmas.Grind.{common_steps}
@@ -18,22 +19,24 @@ use Rattle.sc_parse_expr.specs.declared.found.Found.{Found}
 use Rattle.sc_parse_expr.specs.declared.found.Operand.{Operand}
 use Rattle.sc_parse_front.specs.Front.{front, front_string, behind, is_comma, binary_at, Suffix, Indexing, Calling, Fielding, Stepping, NoSuffix, suffix}
 use Rattle.sc_parse_expr.specs.Read.{Read, read, Parse, Listed, listing, listed, commas, many}
-use Rattle.sc_parse_expr.specs.Reading.{combined, chained, chain, suffixed, suffixes, sequenced, sequencing, sequence, operators, derived, derive, starts, piece_by, gathering, gather, joined, passed, strings, past_strings, enrolled, parse, wanted}
+use Rattle.sc_parse_expr.specs.Reading.{combined, chained, chain, suffixed, suffixes, sequenced, sequencing, sequence, operators, derived}
+use Rattle.sc_parse_expr.specs.Reading.{derive, starts, piece_by, gathering, gather, joined, passed, strings, past_strings, enrolled, parse}
+use Rattle.sc_parse_expr.specs.Reading.{wanted}
 use Rattle.sc_parse_front.specs.Start.{Start, start}
-use Rattle.sc_parse_expr.specs.Steps.{one_suffix, one_derived}
+use Rattle.sc_parse_expr.specs.Reading.{one_suffix, one_derived}
 use Rattle.sc_parse_front.specs.Front.{is_suffix}
 use Rattle.sc_parse_front.specs.Front.{is_derived}
 use Rattle.sc_parse_expr.specs.declared.found.Declared.{Declared}
 use Rattle.sc_tree.specs.declared.grammar.Piece.{Piece}
 use Rattle.sc_tree.specs.declared.grammar.Gathered.{Gathered}
 use Rattle.sc_tree.specs.Specifiers.{with_piece}
-use Rattle.sc_parse_front.specs.declared.stop.Stop.{Stop}
-use Rattle.sc_parse_front.specs.declared.stop.Stop.TheVariants.{Memory, Not}
+use Rattle.sc_parse_front.specs.declared.error.ParseError.{ParseError}
+use Rattle.sc_parse_front.specs.declared.error.ParseError.TheVariants.{Memory, NoMatch}
 use Rattle.sc_parse_front.specs.declared.start.Start as begun
 use Rattle.sc_parse_front.specs.declared.start.Start.TheVariants as begin
 use Rattle.sc_parse_front.specs.Start.{start_of}
 use Rattle.sc_parse_expr.specs.Gives.{Gives, GivesAs}
-use Rattle.sc_parse_front.specs.Stop.{Makes}
+use Rattle.sc_parse_front.specs.Error.{Makes}
 use Rattle.sc_parse_expr.specs.Nests.{below}
 use Rattle.sc_tree.specs.declared.expr.Head.{Head}
 use Rattle.sc_parse_expr.specs.declared.found.Headed.{Headed}
@@ -241,19 +244,22 @@ module _ (types : List NameId) (limit : ℕ) (inner : Wanted → Parse Phrase) w
   joins go None h ts = refl
 
   piece_joins : (go : Gathered → ℕ → Parse Gathered) (g : Gathered) (h : ℕ) (o : Option (Read Piece))
-      → (o >>= λ x. with_piece g x.it >>= λ more. go more (max h x.height) x.rest) ≡ ((o >>= λ p. with_piece g p.it >>= λ more. Some (read more (max h p.height) p.rest)) >>= λ y. go y.it y.height y.rest)
+      → (o >>= λ x. with_piece g x.it >>= λ more. go more (max h x.height) x.rest)
+      ≡ ((o >>= λ p. with_piece g p.it >>= λ more. Some (read more (max h p.height) p.rest)) >>= λ y. go y.it y.height y.rest)
   piece_joins go g h (Some x) = joins go (with_piece g x.it) (max h x.height) x.rest
   piece_joins go g h None = refl
 
   gathering_goes : (go : Gathered → ℕ → Parse Gathered) (s : Start) (g : Gathered) (h : ℕ) (ts : List Token) → starts types limit inner s ≡ true
       → gathering types limit inner go s g h ts ≡ (piece_by types limit inner s ts >>= λ x. with_piece g x.it >>= λ more. go more (max h x.height) x.rest)
   unfolding gathering
-  gathering_goes go s g h ts so = ap (λ b. if b then (piece_by types limit inner s ts >>= λ x. with_piece g x.it >>= λ more. go more (max h x.height) x.rest) else Some (read g h ts)) so
+  gathering_goes go s g h ts so = ap (λ b. if b then (piece_by types limit inner s ts >>= λ x. with_piece g x.it >>= λ more.
+      go more (max h x.height) x.rest) else Some (read g h ts)) so
 
   gathering_stops : (go : Gathered → ℕ → Parse Gathered) (s : Start) (g : Gathered) (h : ℕ) (ts : List Token) → starts types limit inner s ≡ false
       → gathering types limit inner go s g h ts ≡ Some (read g h ts)
   unfolding gathering
-  gathering_stops go s g h ts not_so = ap (λ b. if b then (piece_by types limit inner s ts >>= λ x. with_piece g x.it >>= λ more. go more (max h x.height) x.rest) else Some (read g h ts)) not_so
+  gathering_stops go s g h ts not_so = ap (λ b. if b then (piece_by types limit inner s ts >>= λ x. with_piece g x.it >>= λ more.
+      go more (max h x.height) x.rest) else Some (read g h ts)) not_so
 
   abbrev pub gather_from : ℕ → Read Gathered → Option (Read Gathered)
   gather_from n x = gather types limit inner n x.it x.height x.rest
@@ -266,7 +272,8 @@ module _ (types : List NameId) (limit : ℕ) (inner : Wanted → Parse Phrase) w
   gather_stop : (n : ℕ) (x : Read Gathered) → more_pieces x ≡ false → gather_from n x ≡ Some x
   unfolding gather
   gather_stop zero x not_so = gathering_stops (λ more m us. None) (start types x.it.so_far x.rest) x.it x.height x.rest not_so
-  gather_stop (suc n) x not_so = gathering_stops (λ more m us. gather types limit inner n more m us) (start types x.it.so_far x.rest) x.it x.height x.rest not_so
+  gather_stop (suc n) x not_so = gathering_stops (λ more m us. gather types limit inner n more m us) (start types x.it.so_far x.rest) x.it
+      x.height x.rest not_so
 
   abbrev no_gathered : Read Gathered → Option (Read Gathered)
   no_gathered r = None
@@ -289,7 +296,8 @@ module _ (types : List NameId) (limit : ℕ) (inner : Wanted → Parse Phrase) w
   operators_none k zero l ts e none = let same : l ≡ k = omega arith in ap (λ n. operators types limit inner n ts) same ∙ none
   operators_none k (suc more) l ts e none =
       let next : l ≡ suc (more + k) = omega arith in
-      ap (λ n. operators types limit inner n ts) next ∙ ap (λ o. o >>= chain types limit inner limit (more + k) (first_pos ts)) (operators_none k more (more + k) ts refl none)
+      ap (λ n. operators types limit inner n ts) next ∙ ap (λ o. o >>= chain types limit inner limit (more + k) (first_pos ts))
+      (operators_none k more (more + k) ts refl none)
 
 -- ---- lists with commas between
 
@@ -309,49 +317,69 @@ module _ {A B C : Type 0} (item : Parse A) (add : B → A → B) (ends : Option 
   unfolding commas
   commas_step n xs h ts a is = ap (λ o. (o >>= λ a. listed item add ends (λ ys m us. commas item add ends n ys m us) xs h a) >>= keep) is
 
-  commas_turn : {o : Option (Read C)} (n at : ℕ) (xs : B) (h : ℕ) (ts : List Token) → at < n → o ≡ commas_then (n - at) xs h ts → o ≡ commas_then (suc (n - (at + 1))) xs h ts
+  commas_turn : {o : Option (Read C)} (n at : ℕ) (xs : B) (h : ℕ) (ts : List Token) → at < n → o ≡ commas_then (n - at) xs h ts → o
+      ≡ commas_then (suc (n - (at + 1))) xs h ts
   commas_turn n at xs h ts below e = let turn : n - at ≡ suc (n - (at + 1)) = omega arith in e ∙ ap (λ m. commas_then m xs h ts) turn
 
-  pub commas_refused : {o : Option (Read C)} (n at : ℕ) (xs : B) (h : ℕ) (ts : List Token) → at < n → o ≡ commas_then (n - at) xs h ts → item ts ≡ None → o ≡ None
+  pub commas_refused : {o : Option (Read C)} (n at : ℕ) (xs : B) (h : ℕ) (ts : List Token) → at < n → o ≡ commas_then (n - at) xs h ts
+      → item ts ≡ None → o ≡ None
   unfolding commas
-  commas_refused n at xs h ts below e none = commas_turn n at xs h ts below e ∙ ap (λ o. (o >>= λ a. listed item add ends (λ ys m us. commas item add ends (n - (at + 1)) ys m us) xs h a) >>= keep) none
+  commas_refused n at xs h ts below e none = commas_turn n at xs h ts below e
+      ∙ ap (λ o. (o >>= λ a. listed item add ends (λ ys m us. commas item add ends (n - (at + 1)) ys m us) xs h a) >>= keep) none
 
-  commas_last_item : {o : Option (Read C)} (n at : ℕ) (xs : B) (h : ℕ) (ts : List Token) (a : Read A) → at < n → o ≡ commas_then (n - at) xs h ts → item ts ≡ Some a
+  commas_last_item : {o : Option (Read C)} (n at : ℕ) (xs : B) (h : ℕ) (ts : List Token) (a : Read A) → at < n → o
+      ≡ commas_then (n - at) xs h ts → item ts ≡ Some a
       → is_comma (front a.rest) ≡ false → o ≡ last_of xs h a
   unfolding listed listing
   commas_last_item n at xs h ts a below e is not_so = commas_turn n at xs h ts below e ∙ commas_step (n - (at + 1)) xs h ts a is
-      ∙ ap (λ b. listing item add ends (λ ys m us. commas item add ends (n - (at + 1)) ys m us) (add xs a.it) (max h a.height) b (if b then behind a.rest else a.rest) >>= keep) not_so
+      ∙ ap (λ b. listing item add ends (λ ys m us. commas item add ends (n - (at + 1)) ys m us) (add xs a.it) (max h a.height) b
+      (if b then behind a.rest else a.rest) >>= keep) not_so
 
-  commas_ended_item : {o : Option (Read C)} (n at : ℕ) (xs : B) (h : ℕ) (ts : List Token) (a : Read A) → at < n → o ≡ commas_then (n - at) xs h ts → item ts ≡ Some a
+  commas_ended_item : {o : Option (Read C)} (n at : ℕ) (xs : B) (h : ℕ) (ts : List Token) (a : Read A) → at < n → o
+      ≡ commas_then (n - at) xs h ts → item ts ≡ Some a
       → is_comma (front a.rest) ≡ true → ends (front (behind a.rest)) ≡ true → o ≡ ended_of xs h a
   unfolding listed listing
   commas_ended_item n at xs h ts a below e is so end = commas_turn n at xs h ts below e ∙ commas_step (n - (at + 1)) xs h ts a is
-      ∙ ap (λ b. listing item add ends (λ ys m us. commas item add ends (n - (at + 1)) ys m us) (add xs a.it) (max h a.height) b (if b then behind a.rest else a.rest) >>= keep) so
-      ∙ ap (λ b. (if b then Some (read (record { items = add xs a.it; comma = true }) (max h a.height) (behind a.rest)) else commas item add ends (n - (at + 1)) (add xs a.it) (max h a.height) (behind a.rest)) >>= keep) end
+      ∙ ap (λ b. listing item add ends (λ ys m us. commas item add ends (n - (at + 1)) ys m us) (add xs a.it) (max h a.height) b
+      (if b then behind a.rest else a.rest) >>= keep) so
+      ∙ ap (λ b. (if b then Some (read (record { items = add xs a.it; comma = true }) (max h a.height) (behind a.rest)) else commas item add
+      ends (n - (at + 1)) (add xs a.it) (max h a.height) (behind a.rest)) >>= keep) end
 
-  commas_next_item : {o : Option (Read C)} (n at : ℕ) (xs : B) (h : ℕ) (ts : List Token) (a : Read A) → at < n → o ≡ commas_then (n - at) xs h ts → item ts ≡ Some a
+  commas_next_item : {o : Option (Read C)} (n at : ℕ) (xs : B) (h : ℕ) (ts : List Token) (a : Read A) → at < n → o
+      ≡ commas_then (n - at) xs h ts → item ts ≡ Some a
       → is_comma (front a.rest) ≡ true → ends (front (behind a.rest)) ≡ false → o ≡ commas_then (n - (at + 1)) (add xs a.it) (max h a.height) (behind a.rest)
   unfolding listed listing
   commas_next_item n at xs h ts a below e is so end = commas_turn n at xs h ts below e ∙ commas_step (n - (at + 1)) xs h ts a is
-      ∙ ap (λ b. listing item add ends (λ ys m us. commas item add ends (n - (at + 1)) ys m us) (add xs a.it) (max h a.height) b (if b then behind a.rest else a.rest) >>= keep) so
-      ∙ ap (λ b. (if b then Some (read (record { items = add xs a.it; comma = true }) (max h a.height) (behind a.rest)) else commas item add ends (n - (at + 1)) (add xs a.it) (max h a.height) (behind a.rest)) >>= keep) end
+      ∙ ap (λ b. listing item add ends (λ ys m us. commas item add ends (n - (at + 1)) ys m us) (add xs a.it) (max h a.height) b
+      (if b then behind a.rest else a.rest) >>= keep) so
+      ∙ ap (λ b. (if b then Some (read (record { items = add xs a.it; comma = true }) (max h a.height) (behind a.rest)) else commas item add
+      ends (n - (at + 1)) (add xs a.it) (max h a.height) (behind a.rest)) >>= keep) end
 
-  pub commas_last : {o : Option (Read C)} (n at : ℕ) (xs : B) (h : ℕ) (ts : List Token) (a : Read A) (ys : B) (m : ℕ) (us : List Token) → at < n → o ≡ commas_then (n - at) xs h ts → item ts ≡ Some a
+  pub commas_last : {o : Option (Read C)} (n at : ℕ) (xs : B) (h : ℕ) (ts : List Token) (a : Read A) (ys : B) (m : ℕ) (us : List Token)
+      → at < n → o ≡ commas_then (n - at) xs h ts → item ts ≡ Some a
       → is_comma (front a.rest) ≡ false → ys ≡ add xs a.it → m ≡ max h a.height → us ≡ a.rest → o ≡ keep (read (record { items = ys; comma = false }) m us)
   commas_last n at xs h ts a ys m us below e is not_so items height rest =
       commas_last_item n at xs h ts a below e is not_so ∙ ap (λ zs. keep (read (record { items = zs; comma = false }) (max h a.height) a.rest)) (sym items)
-      ∙ ap (λ k. keep (read (record { items = ys; comma = false }) k a.rest)) (sym height) ∙ ap (λ vs. keep (read (record { items = ys; comma = false }) m vs)) (sym rest)
+      ∙ ap (λ k. keep (read (record { items = ys; comma = false }) k a.rest)) (sym height)
+      ∙ ap (λ vs. keep (read (record { items = ys; comma = false }) m vs)) (sym rest)
 
-  pub commas_ended : {o : Option (Read C)} (n at : ℕ) (xs : B) (h : ℕ) (ts : List Token) (a : Read A) (ys : B) (m : ℕ) (us : List Token) → at < n → o ≡ commas_then (n - at) xs h ts → item ts ≡ Some a
-      → is_comma (front a.rest) ≡ true → us ≡ behind a.rest → ends (front us) ≡ true → ys ≡ add xs a.it → m ≡ max h a.height → o ≡ keep (read (record { items = ys; comma = true }) m us)
+  pub commas_ended : {o : Option (Read C)} (n at : ℕ) (xs : B) (h : ℕ) (ts : List Token) (a : Read A) (ys : B) (m : ℕ) (us : List Token)
+      → at < n → o ≡ commas_then (n - at) xs h ts → item ts ≡ Some a
+      → is_comma (front a.rest) ≡ true → us ≡ behind a.rest → ends (front us) ≡ true → ys ≡ add xs a.it → m ≡ max h a.height → o
+      ≡ keep (read (record { items = ys; comma = true }) m us)
   commas_ended n at xs h ts a ys m us below e is so rest end items height =
-      commas_ended_item n at xs h ts a below e is so (ap (λ vs. ends (front vs)) (sym rest) ∙ end) ∙ ap (λ zs. keep (read (record { items = zs; comma = true }) (max h a.height) (behind a.rest))) (sym items)
-      ∙ ap (λ k. keep (read (record { items = ys; comma = true }) k (behind a.rest))) (sym height) ∙ ap (λ vs. keep (read (record { items = ys; comma = true }) m vs)) (sym rest)
+      commas_ended_item n at xs h ts a below e is so (ap (λ vs. ends (front vs)) (sym rest) ∙ end)
+      ∙ ap (λ zs. keep (read (record { items = zs; comma = true }) (max h a.height) (behind a.rest))) (sym items)
+      ∙ ap (λ k. keep (read (record { items = ys; comma = true }) k (behind a.rest))) (sym height)
+      ∙ ap (λ vs. keep (read (record { items = ys; comma = true }) m vs)) (sym rest)
 
-  pub commas_next : {o : Option (Read C)} (n at : ℕ) (xs : B) (h : ℕ) (ts : List Token) (a : Read A) (ys : B) (m : ℕ) (us : List Token) → at < n → o ≡ commas_then (n - at) xs h ts → item ts ≡ Some a
-      → is_comma (front a.rest) ≡ true → us ≡ behind a.rest → ends (front us) ≡ false → ys ≡ add xs a.it → m ≡ max h a.height → o ≡ commas_then (n - (at + 1)) ys m us
+  pub commas_next : {o : Option (Read C)} (n at : ℕ) (xs : B) (h : ℕ) (ts : List Token) (a : Read A) (ys : B) (m : ℕ) (us : List Token)
+      → at < n → o ≡ commas_then (n - at) xs h ts → item ts ≡ Some a
+      → is_comma (front a.rest) ≡ true → us ≡ behind a.rest → ends (front us) ≡ false → ys ≡ add xs a.it → m ≡ max h a.height → o
+      ≡ commas_then (n - (at + 1)) ys m us
   commas_next n at xs h ts a ys m us below e is so rest end items height =
-      commas_next_item n at xs h ts a below e is so (ap (λ vs. ends (front vs)) (sym rest) ∙ end) ∙ ap (λ zs. commas_then (n - (at + 1)) zs (max h a.height) (behind a.rest)) (sym items)
+      commas_next_item n at xs h ts a below e is so (ap (λ vs. ends (front vs)) (sym rest) ∙ end)
+      ∙ ap (λ zs. commas_then (n - (at + 1)) zs (max h a.height) (behind a.rest)) (sym items)
       ∙ ap (λ k. commas_then (n - (at + 1)) ys k (behind a.rest)) (sym height) ∙ ap (λ vs. commas_then (n - (at + 1)) ys m vs) (sym rest)
 
   pub commas_out : {o : Option (Read C)} (n at : ℕ) (xs : B) (h : ℕ) (ts : List Token) → n ≤ at → o ≡ commas_then (n - at) xs h ts → o ≡ None
@@ -366,29 +394,39 @@ module _ {A B : Type 0} (item : Parse A) (add : B → A → B) (ends : Option Pu
   many_stop zero xs h ts end = ap (λ b. if b then Some (read xs h ts) else None) end
   many_stop (suc n) xs h ts end = ap (λ b. if b then Some (read xs h ts) else (item ts >>= λ a. many item add ends n (add xs a.it) (max h a.height) a.rest)) end
 
-  many_step : (n : ℕ) (xs : B) (h : ℕ) (ts : List Token) → ends (front ts) ≡ false → many item add ends (suc n) xs h ts ≡ (item ts >>= λ a. many item add ends n (add xs a.it) (max h a.height) a.rest)
+  many_step : (n : ℕ) (xs : B) (h : ℕ) (ts : List Token) → ends (front ts) ≡ false → many item add ends (suc n) xs h ts
+      ≡ (item ts >>= λ a. many item add ends n (add xs a.it) (max h a.height) a.rest)
   unfolding many
   many_step n xs h ts more = ap (λ b. if b then Some (read xs h ts) else (item ts >>= λ a. many item add ends n (add xs a.it) (max h a.height) a.rest)) more
 
-  many_turn : {o : Option (Read B)} (n at : ℕ) (xs : B) (h : ℕ) (ts : List Token) → at < n → o ≡ many item add ends (n - at) xs h ts → o ≡ many item add ends (suc (n - (at + 1))) xs h ts
+  many_turn : {o : Option (Read B)} (n at : ℕ) (xs : B) (h : ℕ) (ts : List Token) → at < n → o ≡ many item add ends (n - at) xs h ts → o
+      ≡ many item add ends (suc (n - (at + 1))) xs h ts
   many_turn n at xs h ts below e = let turn : n - at ≡ suc (n - (at + 1)) = omega arith in e ∙ ap (λ m. many item add ends m xs h ts) turn
 
-  pub many_ended : {o : Option (Read B)} (n : ℕ) (xs : B) (h : ℕ) (ts : List Token) → o ≡ many item add ends n xs h ts → ends (front ts) ≡ true → o ≡ Some (read xs h ts)
+  pub many_ended : {o : Option (Read B)} (n : ℕ) (xs : B) (h : ℕ) (ts : List Token) → o ≡ many item add ends n xs h ts → ends (front ts)
+      ≡ true → o ≡ Some (read xs h ts)
   many_ended n xs h ts e end = e ∙ many_stop n xs h ts end
 
-  pub many_refused : {o : Option (Read B)} (n at : ℕ) (xs : B) (h : ℕ) (ts : List Token) → at < n → o ≡ many item add ends (n - at) xs h ts → ends (front ts) ≡ false → item ts ≡ None → o ≡ None
-  many_refused n at xs h ts below e more none = many_turn n at xs h ts below e ∙ many_step (n - (at + 1)) xs h ts more ∙ ap (λ o. o >>= λ a. many item add ends (n - (at + 1)) (add xs a.it) (max h a.height) a.rest) none
+  pub many_refused : {o : Option (Read B)} (n at : ℕ) (xs : B) (h : ℕ) (ts : List Token) → at < n → o ≡ many item add ends (n - at) xs h ts
+      → ends (front ts) ≡ false → item ts ≡ None → o ≡ None
+  many_refused n at xs h ts below e more none = many_turn n at xs h ts below e ∙ many_step (n - (at + 1)) xs h ts more
+      ∙ ap (λ o. o >>= λ a. many item add ends (n - (at + 1)) (add xs a.it) (max h a.height) a.rest) none
 
-  many_next_item : {o : Option (Read B)} (n at : ℕ) (xs : B) (h : ℕ) (ts : List Token) (a : Read A) → at < n → o ≡ many item add ends (n - at) xs h ts → ends (front ts) ≡ false → item ts ≡ Some a
+  many_next_item : {o : Option (Read B)} (n at : ℕ) (xs : B) (h : ℕ) (ts : List Token) (a : Read A) → at < n → o
+      ≡ many item add ends (n - at) xs h ts → ends (front ts) ≡ false → item ts ≡ Some a
       → o ≡ many item add ends (n - (at + 1)) (add xs a.it) (max h a.height) a.rest
-  many_next_item n at xs h ts a below e more is = many_turn n at xs h ts below e ∙ many_step (n - (at + 1)) xs h ts more ∙ ap (λ o. o >>= λ a. many item add ends (n - (at + 1)) (add xs a.it) (max h a.height) a.rest) is
+  many_next_item n at xs h ts a below e more is = many_turn n at xs h ts below e ∙ many_step (n - (at + 1)) xs h ts more
+      ∙ ap (λ o. o >>= λ a. many item add ends (n - (at + 1)) (add xs a.it) (max h a.height) a.rest) is
 
-  pub many_next : {o : Option (Read B)} (n at : ℕ) (xs : B) (h : ℕ) (ts : List Token) (a : Read A) (ys : B) (m : ℕ) → at < n → o ≡ many item add ends (n - at) xs h ts → ends (front ts) ≡ false → item ts ≡ Some a
+  pub many_next : {o : Option (Read B)} (n at : ℕ) (xs : B) (h : ℕ) (ts : List Token) (a : Read A) (ys : B) (m : ℕ) → at < n → o
+      ≡ many item add ends (n - at) xs h ts → ends (front ts) ≡ false → item ts ≡ Some a
       → ys ≡ add xs a.it → m ≡ max h a.height → o ≡ many item add ends (n - (at + 1)) ys m a.rest
   many_next n at xs h ts a ys m below e more is items height =
-      many_next_item n at xs h ts a below e more is ∙ ap (λ zs. many item add ends (n - (at + 1)) zs (max h a.height) a.rest) (sym items) ∙ ap (λ k. many item add ends (n - (at + 1)) ys k a.rest) (sym height)
+      many_next_item n at xs h ts a below e more is ∙ ap (λ zs. many item add ends (n - (at + 1)) zs (max h a.height) a.rest) (sym items)
+      ∙ ap (λ k. many item add ends (n - (at + 1)) ys k a.rest) (sym height)
 
-  pub many_out : {o : Option (Read B)} (n at : ℕ) (xs : B) (h : ℕ) (ts : List Token) → n ≤ at → o ≡ many item add ends (n - at) xs h ts → ends (front ts) ≡ false → o ≡ None
+  pub many_out : {o : Option (Read B)} (n at : ℕ) (xs : B) (h : ℕ) (ts : List Token) → n ≤ at → o ≡ many item add ends (n - at) xs h ts
+      → ends (front ts) ≡ false → o ≡ None
   unfolding many
   many_out n at xs h ts done e more =
       let none : n - at ≡ 0 = omega arith in
@@ -397,10 +435,10 @@ module _ {A B : Type 0} (item : Parse A) (add : B → A → B) (ends : Option Pu
 -- ---- what a call answers
 
 -- a refusal is passed on where it refuses the whole
-pub passed_on : {A B : Type 0} {o : Option (Read A)} {p : Option (Read B)} (r : Result (Found B) Stop) (left more : List Token) (e : Stop)
+pub passed_on : {A B : Type 0} {o : Option (Read A)} {p : Option (Read B)} (r : Result (Found B) ParseError) (left more : List Token) (e : ParseError)
     → Gives o (Err e) left → IsErrAnd r (λ f. f ≡ e) → (o ≡ None → p ≡ None) → Gives p r more
 passed_on (Ok x) left more e given is refused = absurd is
-passed_on {p = p} (Err f) left more Not given is refused = subst (λ x. Gives p (Err x) more) (sym is) (refused given)
+passed_on {p = p} (Err f) left more NoMatch given is refused = subst (λ x. Gives p (Err x) more) (sym is) (refused given)
 passed_on {p = p} (Err f) left more Memory given is refused = subst (λ x. Gives p (Err x) more) (sym is) tt
 
 pub operator_none : (r : Option BinaryOp) (l : ℕ) (p : Option Punct) → r ≡ binary_at (l + 1) p → r ≡ None → is_some (binary_at (suc l) p) ≡ false
@@ -435,11 +473,14 @@ past_strings_end [] is = refl
 past_strings_end (t ∷ ts) is = ap (λ o. passed o (past_strings ts) (t ∷ ts)) is
 
 -- one more of the strings is seen
-pub strings_more : (all new whole : List StrToken) (ts us : List Token) (x : StrToken) → all ++ strings ts ≡ whole → front_string ts ≡ Some x → new ≡ all ++ x ∷ [] → us ≡ behind ts → new ++ strings us ≡ whole
+pub strings_more : (all new whole : List StrToken) (ts us : List Token) (x : StrToken) → all ++ strings ts ≡ whole → front_string ts
+    ≡ Some x → new ≡ all ++ x ∷ [] → us ≡ behind ts → new ++ strings us ≡ whole
 strings_more all new whole ts us x so is more rest =
-    ap (λ vs. new ++ strings vs) rest ∙ ap (λ l. l ++ strings (behind ts)) more ∙ append_assoc all (x ∷ []) (strings (behind ts)) ∙ sym (ap (λ l. all ++ l) (strings_step ts x is)) ∙ so
+    ap (λ vs. new ++ strings vs) rest ∙ ap (λ l. l ++ strings (behind ts)) more ∙ append_assoc all (x ∷ []) (strings (behind ts))
+    ∙ sym (ap (λ l. all ++ l) (strings_step ts x is)) ∙ so
 
-pub past_strings_more : (ts us : List Token) (x : StrToken) (whole : List Token) → past_strings ts ≡ whole → front_string ts ≡ Some x → us ≡ behind ts → past_strings us ≡ whole
+pub past_strings_more : (ts us : List Token) (x : StrToken) (whole : List Token) → past_strings ts ≡ whole → front_string ts ≡ Some x → us
+    ≡ behind ts → past_strings us ≡ whole
 past_strings_more ts us x whole so is rest = ap past_strings rest ∙ sym (past_strings_step ts x is) ∙ so
 
 pub strings_all : (all whole : List StrToken) (ts : List Token) → all ++ strings ts ≡ whole → front_string ts ≡ None → all ≡ whole
@@ -447,7 +488,8 @@ strings_all all whole ts so is = sym (ap (λ l. all ++ l) (strings_end ts is) �
 
 -- ---- what begins a piece
 
-pub starts_as : (types : List NameId) (limit : ℕ) (inner : Wanted → Parse Phrase) (r : Option begun.Start) (s : Start) (b : Bool) → start_of r ≡ s → is_some r ≡ b → starts types limit inner s ≡ b
+pub starts_as : (types : List NameId) (limit : ℕ) (inner : Wanted → Parse Phrase) (r : Option begun.Start) (s : Start) (b : Bool)
+    → start_of r ≡ s → is_some r ≡ b → starts types limit inner s ≡ b
 starts_as types limit inner r s b is some = ap (starts types limit inner) (sym is) ∙ started r ∙ some
   where
     started : (q : Option begun.Start) → starts types limit inner (start_of q) ≡ is_some q
@@ -459,22 +501,25 @@ starts_as types limit inner r s b is some = ap (starts types limit inner) (sym i
     started None = refl
 
 -- a refusal to make something is passed on where it refuses the whole
-pub made_passed_on : {A B : Type 0} {o : Option A} {p : Option (Read B)} (r : Result (Found B) Stop) (more : List Token) (e : Stop)
+pub made_passed_on : {A B : Type 0} {o : Option A} {p : Option (Read B)} (r : Result (Found B) ParseError) (more : List Token) (e : ParseError)
     → Makes o (Err e) → IsErrAnd r (λ f. f ≡ e) → (o ≡ None → p ≡ None) → Gives p r more
 made_passed_on (Ok x) more e given is refused = absurd is
-made_passed_on {p = p} (Err f) more Not given is refused = subst (λ x. Gives p (Err x) more) (sym is) (refused given)
+made_passed_on {p = p} (Err f) more NoMatch given is refused = subst (λ x. Gives p (Err x) more) (sym is) (refused given)
 made_passed_on {p = p} (Err f) more Memory given is refused = subst (λ x. Gives p (Err x) more) (sym is) tt
 
 -- ---- levels
 
 module _ (types : List NameId) (limit : ℕ) (inner : Wanted → Parse Phrase) (ts : List Token) (begin : Pos) (begins : begin ≡ first_pos ts) where
-  pub operators_next : (k : ℕ) (a b : Read Operand) → operators types limit inner k ts ≡ Some a → chain types limit inner limit k begin a ≡ Some b → operators types limit inner (k + 1) ts ≡ Some b
+  pub operators_next : (k : ℕ) (a b : Read Operand) → operators types limit inner k ts ≡ Some a → chain types limit inner limit k begin a
+      ≡ Some b → operators types limit inner (k + 1) ts ≡ Some b
   unfolding operators
   operators_next k a b is more =
       let next : k + 1 ≡ suc k = omega arith in
-      ap (λ n. operators types limit inner n ts) next ∙ ap (λ o. o >>= chain types limit inner limit k (first_pos ts)) is ∙ ap (λ q. chain types limit inner limit k q a) (sym begins) ∙ more
+      ap (λ n. operators types limit inner n ts) next ∙ ap (λ o. o >>= chain types limit inner limit k (first_pos ts)) is
+      ∙ ap (λ q. chain types limit inner limit k q a) (sym begins) ∙ more
 
-  pub operators_refused : (k level : ℕ) (a : Read Operand) → k < level → operators types limit inner k ts ≡ Some a → chain types limit inner limit k begin a ≡ None → operators types limit inner level ts ≡ None
+  pub operators_refused : (k level : ℕ) (a : Read Operand) → k < level → operators types limit inner k ts ≡ Some a
+      → chain types limit inner limit k begin a ≡ None → operators types limit inner level ts ≡ None
   unfolding operators
   operators_refused k level a below is none =
       let rest : level ≡ (level - (k + 1)) + suc k = omega arith in
@@ -482,10 +527,11 @@ module _ (types : List NameId) (limit : ℕ) (inner : Wanted → Parse Phrase) (
       (ap (λ o. o >>= chain types limit inner limit k (first_pos ts)) is ∙ ap (λ q. chain types limit inner limit k q a) (sym begins) ∙ none)
 
 -- as `passed_on`, where the call gives what is read in a form of its own
-pub passed_on_as : {A B C : Type 0} {o : Option (Read A)} {p : Option (Read C)} (seen : B → C) (r : Result (Found B) Stop) (left more : List Token) (e : Stop)
+pub passed_on_as : {A B C : Type 0} {o : Option (Read A)} {p : Option (Read C)} (seen : B → C) (r : Result (Found B) ParseError)
+    (left more : List Token) (e : ParseError)
     → Gives o (Err e) left → IsErrAnd r (λ f. f ≡ e) → (o ≡ None → p ≡ None) → GivesAs seen p r more
 passed_on_as seen (Ok x) left more e given is refused = absurd is
-passed_on_as {p = p} seen (Err f) left more Not given is refused = subst (λ x. GivesAs seen p (Err x) more) (sym is) (refused given)
+passed_on_as {p = p} seen (Err f) left more NoMatch given is refused = subst (λ x. GivesAs seen p (Err x) more) (sym is) (refused given)
 passed_on_as {p = p} seen (Err f) left more Memory given is refused = subst (λ x. GivesAs seen p (Err x) more) (sym is) tt
 
 -- the parameters with one more
@@ -495,7 +541,8 @@ roll_more heads new named all x more both = ap (λ l. record { heads = l; named 
 
 -- ---- the knot
 
-pub parse_by : (types : List NameId) (limit : ℕ) (w : Wanted) (ts : List Token) → 0 < limit → parse types limit w ts ≡ wanted types limit (below types limit) w ts
+pub parse_by : (types : List NameId) (limit : ℕ) (w : Wanted) (ts : List Token) → 0 < limit → parse types limit w ts
+    ≡ wanted types limit (below types limit) w ts
 unfolding parse
 parse_by types zero w ts some = absurd (omega arith)
 parse_by types (suc n) w ts some = let less : n ≡ suc n - 1 = omega arith in ap (λ m. wanted types (suc n) (λ v us. parse types m v us) w ts) less

@@ -1,5 +1,6 @@
 -- What it means that a step of reading gave something, and what stands at the front of tokens then.
-use Rattle.std.proofs.Common.{◌≡◌, ℕ, suc, ◌≤◌, Bool, true, false, List, [], ◌∷◌, ◌++◌, Option, Some, None, ◌⊎◌, inl, inr, refl, sym, ap, subst, ◌∙◌, append_assoc, arith}
+use Rattle.std.proofs.Common.{◌≡◌, ℕ, suc, ◌≤◌, Bool, true, false, List, [], ◌∷◌, ◌++◌, Option, Some, None, ◌⊎◌, inl, inr, refl, sym, ap}
+use Rattle.std.proofs.Common.{subst, ◌∙◌, append_assoc, arith}
 use Rattle.std.specs.Prelude.{nat_lt, nat_eq, if◌then◌else◌}
 use Rattle.std.proofs.lemmas.Bool.{ltb-true, eqb-true}
 use Rattle.sc_base.specs.declared.pos.NameId.{NameId}
@@ -17,7 +18,10 @@ use Rattle.sc_tree.specs.declared.op.Step.{Step}
 use Rattle.sc_tree.specs.Tables.{◌>>=◌}
 use Rattle.sc_tree.specs.Tokens.{token, word, punct, reserved, first_pos}
 use Rattle.sc_tree.specs.Operators.{Binding, binding, binary, unary, step, assign, field}
-use Rattle.sc_parse_front.specs.Front.{punct_of, word_of, reserved_of, front, front_word, front_reserved, behind, is_left_paren, is_right_paren, is_left_bracket, is_right_bracket, is_left_brace, is_right_brace, is_comma, is_colon, is_question, is_semicolon, is_star, is_equals, is_ellipsis, is_void_key, is_sizeof, is_enum, at_level, binary_at, unary_at, step_at, assign_at, Indexing, Calling, Fielding, Stepping, suffix}
+use Rattle.sc_parse_front.specs.Front.{punct_of, word_of, reserved_of, front, front_word, front_reserved, behind, is_left_paren}
+use Rattle.sc_parse_front.specs.Front.{is_right_paren, is_left_bracket, is_right_bracket, is_left_brace, is_right_brace, is_comma, is_colon}
+use Rattle.sc_parse_front.specs.Front.{is_question, is_semicolon, is_star, is_equals, is_ellipsis, is_void_key, is_sizeof, is_enum}
+use Rattle.sc_parse_front.specs.Front.{at_level, binary_at, unary_at, step_at, assign_at, Indexing, Calling, Fielding, Stepping, suffix}
 use Rattle.sc_parse_expr.specs.Read.{Read, read, node, taking}
 
 -- ---- steps

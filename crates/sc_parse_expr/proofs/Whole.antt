@@ -28,7 +28,8 @@ at_end Choice = refl
 at_end Assignment = refl
 at_end Whole = refl
 
-pub one_tree : (types : List NameId) (level : Level) (h m : ℕ) (a b : Expr) (s : List Token) → Spells types level h a s → Spells types level m b s → (a ≡ b) × (h ≡ m)
+pub one_tree : (types : List NameId) (level : Level) (h m : ℕ) (a b : Expr) (s : List Token) → Spells types level h a s
+    → Spells types level m b s → (a ≡ b) × (h ≡ m)
 one_tree types level h m a b s d x =
     let c = complete types (max h m) in
     let one = c.expr level h a s [] d (omega arith) (at_end level) in
@@ -44,7 +45,8 @@ one_type types h m a b s d x =
     let same = same_read _ (read a h []) (read b m []) one two in
     (ap (λ r. r.it) same, ap (λ r. r.height) same)
 
-pub one_declarator : (types : List NameId) (n : Naming) (c e : Core) (h m : ℕ) (a b : Declarator) (s : List Token) → Declares types n c h a s → Declares types n e m b s → (a ≡ b) × (c ≡ e) × (h ≡ m)
+pub one_declarator : (types : List NameId) (n : Naming) (c e : Core) (h m : ℕ) (a b : Declarator) (s : List Token)
+    → Declares types n c h a s → Declares types n e m b s → (a ≡ b) × (c ≡ e) × (h ≡ m)
 one_declarator types n c e h m a b s d x =
     let it = complete types (max h m) in
     let one = it.declarator n c h a s [] d (omega arith) refl in

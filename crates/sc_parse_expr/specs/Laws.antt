@@ -18,7 +18,9 @@ use Rattle.sc_tree.specs.Tokens.{is_type}
 use Rattle.sc_tree.specs.Grammar.{Spells, Specifies, Declares}
 use Rattle.sc_parse_expr.specs.declared.found.Operand.{Operand}
 use Rattle.sc_parse_expr.specs.declared.found.Declared.{Declared}
-use Rattle.sc_parse_front.specs.Front.{front, front_word, front_reserved, front_string, is_left_paren, is_left_brace, is_star, is_question, is_comma, is_some, begins_piece, begins_type, unary_at, step_at, assign_at, is_sizeof, Suffix, Indexing, Calling, NoSuffix, suffix, is_derived}
+use Rattle.sc_parse_front.specs.Front.{front, front_word, front_reserved, front_string, is_left_paren, is_left_brace, is_star, is_question}
+use Rattle.sc_parse_front.specs.Front.{is_comma, is_some, begins_piece, begins_type, unary_at, step_at, assign_at, is_sizeof, Suffix}
+use Rattle.sc_parse_front.specs.Front.{Indexing, Calling, NoSuffix, suffix, is_derived}
 use Rattle.sc_parse_expr.specs.Read.{Read, read}
 use Rattle.sc_parse_expr.specs.Reading.{operand, declared, expr_at, specs_at, declarator_at}
 
@@ -64,11 +66,11 @@ is_weaker l (Some b) = nat_le (suc l) b.level
 abbrev pub ends_operators : ℕ → List Token → Bool
 ends_operators l ts = not (is_some (front_string ts)) && (is_no_suffix (suffix (front ts)) && is_weaker l (front ts >>= binary))
 
-abbrev pub ends_choice : List Token → Bool
-ends_choice ts = ends_operators 10 ts && not (is_question (front ts))
+abbrev pub ends_conditional : List Token → Bool
+ends_conditional ts = ends_operators 10 ts && not (is_question (front ts))
 
 abbrev pub ends_assignment : List Token → Bool
-ends_assignment ts = ends_choice ts && not (is_some (assign_at (front ts)))
+ends_assignment ts = ends_conditional ts && not (is_some (assign_at (front ts)))
 
 -- whether the tokens do not go on with an expression of that level
 abbrev pub ends_expr : Level → List Token → Bool
@@ -77,7 +79,7 @@ ends_expr Postfix ts = ends_operators 0 ts
 ends_expr Prefix ts = ends_operators 0 ts
 ends_expr Cast ts = ends_operators 0 ts
 ends_expr (Operators l) ts = ends_operators l ts
-ends_expr Choice ts = ends_choice ts
+ends_expr Choice ts = ends_conditional ts
 ends_expr Assignment ts = ends_assignment ts
 ends_expr Whole ts = ends_assignment ts && not (is_comma (front ts))
 

@@ -3,5 +3,4 @@ pub mod Reading
 pub mod Laws
 pub mod Gives
 pub mod Nests
-pub mod Steps
 pub mod Spans

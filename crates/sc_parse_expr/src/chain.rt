@@ -2,14 +2,14 @@
 
 ghost use Rattle.std.specs.Prelude.{◌≡◌, ◌+◌, ◌<◌};
 ghost use Rattle.sc_parse_expr.specs.Gives.{Gives};
-ghost use Rattle.sc_parse_expr.specs.Nests.{Nests, below};
+ghost use Rattle.sc_parse_expr.specs.Nests.{ReadsParts, under};
 ghost use Rattle.sc_parse_expr.specs.Read.{read};
 ghost use Rattle.sc_parse_expr.specs.Reading as spec;
 
 use crate::found::{Found, Operand, Phrase, Wanted};
 use crate::grammar::Grammar;
 use sc_base::Pos;
-use sc_parse_front::{Cursor, Stop, TypeNames};
+use sc_parse_front::{Cursor, ParseError, TypeNames};
 use sc_tree::expr::{Expr, Place};
 use sc_tree::grammar::Level;
 use sc_tree::op::BinaryOp;
@@ -17,7 +17,7 @@ use std::alloc::Global;
 
 impl<
     't,
-    F: Fn(Global, &TypeNames, &mut Cursor<'_>, usize, Wanted) -> Result<Found<Phrase>, Stop>,
+    F: Fn(Global, &TypeNames, &mut Cursor<'_>, usize, Wanted) -> Result<Found<Phrase>, ParseError>,
 > Grammar<'t, F> {
     /// An operand with an operator and the operand behind it, which is of the next stronger level.
     #[tactic(auto, unfolding(crate::specs::Reading::combined))]
@@ -28,9 +28,9 @@ impl<
         begin: Pos,
         op: BinaryOp,
         a: Found<Operand>,
-    ) -> Result<Found<Operand>, Stop>
-        requires { Nests self.now.limit (F.pre self.now.inner) (F.post self.now.inner) }
-        ensures { Gives (spec.combined self.now.types.now self.now.limit (below self.now.types.now self.now.limit) stronger begin op (read a.it a.height tokens.old)) result tokens.new }
+    ) -> Result<Found<Operand>, ParseError>
+        requires { ReadsParts self.now F.pre F.post }
+        ensures { Gives (under self.now spec.combined stronger begin op (read a.it a.height tokens.old)) result tokens.new }
     {
         let place = Place {
             token: tokens.first_pos(),
@@ -49,10 +49,10 @@ impl<
         stronger: u8,
         begin: Pos,
         first: Found<Operand>,
-    ) -> Result<Found<Operand>, Stop>
-        requires nests { Nests self.now.limit (F.pre self.now.inner) (F.post self.now.inner) }
+    ) -> Result<Found<Operand>, ParseError>
+        requires nests { ReadsParts self.now F.pre F.post }
         requires level { stronger < 255 }
-        ensures { Gives (spec.chain self.now.types.now self.now.limit (below self.now.types.now self.now.limit) self.now.limit stronger begin (read first.it first.height tokens.old)) result tokens.new }
+        ensures { Gives (under self.now spec.chain self.now.limit stronger begin (read first.it first.height tokens.old)) result tokens.new }
     {
         let mut a = first;
         for _turn in 0..self.limit {
@@ -62,7 +62,7 @@ impl<
             a = self.combined(tokens, stronger, begin, op, a)?;
         }
         if tokens.binary_at(stronger + 1).is_some() {
-            return Err(Stop::Not);
+            return Err(ParseError::NoMatch);
         }
         Ok(a)
     }
@@ -71,9 +71,9 @@ impl<
         &self,
         tokens: &mut Cursor<'_>,
         level: u8,
-    ) -> Result<Found<Operand>, Stop>
-        requires { Nests self.now.limit (F.pre self.now.inner) (F.post self.now.inner) }
-        ensures { Gives (spec.operators self.now.types.now self.now.limit (below self.now.types.now self.now.limit) level tokens.old) result tokens.new }
+    ) -> Result<Found<Operand>, ParseError>
+        requires { ReadsParts self.now F.pre F.post }
+        ensures { Gives (under self.now spec.operators level tokens.old) result tokens.new }
     {
         let begin = tokens.first_pos();
         let mut a = self.casts(tokens)?;

@@ -19,7 +19,8 @@ ghost use Rattle.sc_parse_expr.specs.Laws.{BeginsDeclarator, BeginsExpr, BeginsS
 pub fn how_phrases_begin()
     ensures expr { (types : List NameId) (level : Level) (h : ℕ) (t : Expr) (s : List Token) → Spells types level h t s → BeginsExpr types s }
     ensures specs { (types : List NameId) (h : ℕ) (f : Specified) (s : List Token) → Specifies types h f s → BeginsSpecs types s }
-    ensures declarator { (types : List NameId) (n : Naming) (c : Core) (h : ℕ) (t : Declarator) (s : List Token) → may_lack n ≡ false → Declares types n c h t s → BeginsDeclarator s }
+    ensures declarator { (types : List NameId) (n : Naming) (c : Core) (h : ℕ) (t : Declarator) (s : List Token) → may_lack n ≡ false
+        → Declares types n c h t s → BeginsDeclarator s }
 {}
 
 /// What is spelled with a height of at most the limit is read, whatever follows that does not go on
@@ -32,7 +33,8 @@ pub fn reading_is_complete()
 /// Tokens spell at most one expression of a level, and at one height.
 #[tactic(auto, using(crate::proofs::Whole::one_tree))]
 pub fn one_expression()
-    ensures { (types : List NameId) (level : Level) (h m : ℕ) (a b : Expr) (s : List Token) → Spells types level h a s → Spells types level m b s → (a ≡ b) × (h ≡ m) }
+    ensures { (types : List NameId) (level : Level) (h m : ℕ) (a b : Expr) (s : List Token) → Spells types level h a s
+        → Spells types level m b s → (a ≡ b) × (h ≡ m) }
 {}
 
 /// Tokens are at most one type's specifiers, at one height.
@@ -44,5 +46,6 @@ pub fn one_type()
 /// Tokens spell at most one declarator of a naming, which declares one thing, at one height.
 #[tactic(auto, using(crate::proofs::Whole::one_declarator))]
 pub fn one_declarator()
-    ensures { (types : List NameId) (n : Naming) (c e : Core) (h m : ℕ) (a b : Declarator) (s : List Token) → Declares types n c h a s → Declares types n e m b s → (a ≡ b) × (c ≡ e) × (h ≡ m) }
+    ensures { (types : List NameId) (n : Naming) (c e : Core) (h m : ℕ) (a b : Declarator) (s : List Token) → Declares types n c h a s
+        → Declares types n e m b s → (a ≡ b) × (c ≡ e) × (h ≡ m) }
 {}

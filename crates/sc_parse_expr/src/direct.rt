@@ -4,9 +4,9 @@ ghost use Rattle.std.specs.Prelude.{◌≡◌};
 ghost use Rattle.sc_tree.specs.Grammar.{called, covered, may_lack, may_name};
 ghost use Rattle.sc_parse_front.specs.Front.{front, front_word, suffix};
 ghost use Rattle.sc_parse_expr.specs.Gives.{Grows};
-ghost use Rattle.sc_parse_expr.specs.Steps.{enclosed_at, one_derived};
+ghost use Rattle.sc_parse_expr.specs.Reading.{enclosed_at, one_derived};
 ghost use Rattle.sc_parse_expr.specs.Gives.{Gives};
-ghost use Rattle.sc_parse_expr.specs.Nests.{Nests, below};
+ghost use Rattle.sc_parse_expr.specs.Nests.{ReadsParts, under};
 ghost use Rattle.sc_parse_expr.specs.Read.{read};
 ghost use Rattle.sc_parse_expr.specs.Reading as spec;
 
@@ -14,7 +14,7 @@ use crate::found::{Declared, Found, Phrase, Wanted};
 use crate::grammar::{Grammar, node};
 use crate::parameters::Params;
 use sc_base::{Boxed, NameId};
-use sc_parse_front::{Cursor, Stop, TypeNames};
+use sc_parse_front::{Cursor, ParseError, TypeNames};
 use sc_tree::Punct;
 use sc_tree::expr::{Declarator, Expr};
 use sc_tree::grammar::{Core, Level, Naming};
@@ -57,7 +57,7 @@ fn may_lack(naming: Naming) -> bool
 
 impl<
     't,
-    F: Fn(Global, &TypeNames, &mut Cursor<'_>, usize, Wanted) -> Result<Found<Phrase>, Stop>,
+    F: Fn(Global, &TypeNames, &mut Cursor<'_>, usize, Wanted) -> Result<Found<Phrase>, ParseError>,
 > Grammar<'t, F> {
     /// A declarator over parts of that height.
     fn declared(
@@ -65,7 +65,7 @@ impl<
         declarator: Declarator,
         core: Core,
         below: usize,
-    ) -> Result<Found<Declared>, Stop>
+    ) -> Result<Found<Declared>, ParseError>
         ensures { Grows self.now.limit (spec.declared declarator core) below result }
     {
         let declarator = Boxed::new(self.alloc, declarator)?;
@@ -74,9 +74,13 @@ impl<
 
     /// Behind the opening bracket of a declarator in brackets.
     #[tactic(auto, unfolding(crate::specs::Reading::enclosed))]
-    fn enclosed(&self, tokens: &mut Cursor<'_>, naming: Naming) -> Result<Found<Declared>, Stop>
-        requires { Nests self.now.limit (F.pre self.now.inner) (F.post self.now.inner) }
-        ensures { Gives (enclosed_at self.now.types.now self.now.limit (below self.now.types.now self.now.limit) naming tokens.old) result tokens.new }
+    fn enclosed(
+        &self,
+        tokens: &mut Cursor<'_>,
+        naming: Naming,
+    ) -> Result<Found<Declared>, ParseError>
+        requires { ReadsParts self.now F.pre F.post }
+        ensures { Gives (under self.now enclosed_at naming tokens.old) result tokens.new }
     {
         let found = self.inner_declarator(tokens, naming)?;
         tokens.pass_right_paren()?;
@@ -85,30 +89,34 @@ impl<
     }
 
     fn encloses(&self, tokens: &Cursor<'_>, naming: Naming) -> bool
-        ensures { result ≡ spec.encloses self.now.types.now self.now.limit (below self.now.types.now self.now.limit) naming tokens.now }
+        ensures { result ≡ under self.now spec.encloses naming tokens.now }
     {
         !(may_lack(naming) && (tokens.is_right_paren() || tokens.begins_type(self.types)))
     }
 
     #[tactic(auto, unfolding(crate::specs::Reading::unnamed))]
-    fn unnamed(&self, tokens: &mut Cursor<'_>, naming: Naming) -> Result<Found<Declared>, Stop>
-        requires { Nests self.now.limit (F.pre self.now.inner) (F.post self.now.inner) }
-        ensures { Gives (spec.unnamed self.now.types.now self.now.limit (below self.now.types.now self.now.limit) naming tokens.old) result tokens.new }
+    fn unnamed(
+        &self,
+        tokens: &mut Cursor<'_>,
+        naming: Naming,
+    ) -> Result<Found<Declared>, ParseError>
+        requires { ReadsParts self.now F.pre F.post }
+        ensures { Gives (under self.now spec.unnamed naming tokens.old) result tokens.new }
     {
         if tokens.is_left_paren() && self.encloses(&tokens.behind(), naming) {
             tokens.advance();
             return self.enclosed(tokens, naming);
         }
         if !may_lack(naming) {
-            return Err(Stop::Not);
+            return Err(ParseError::NoMatch);
         }
         self.declared(Declarator::Name(None), Core::Nameless, 0)
     }
 
     #[tactic(auto, unfolding(crate::specs::Reading::begun))]
-    fn begun(&self, tokens: &mut Cursor<'_>, naming: Naming) -> Result<Found<Declared>, Stop>
-        requires { Nests self.now.limit (F.pre self.now.inner) (F.post self.now.inner) }
-        ensures { Gives (spec.begun self.now.types.now self.now.limit (below self.now.types.now self.now.limit) naming (front_word tokens.old) tokens.old) result tokens.new }
+    fn begun(&self, tokens: &mut Cursor<'_>, naming: Naming) -> Result<Found<Declared>, ParseError>
+        requires { ReadsParts self.now F.pre F.post }
+        ensures { Gives (under self.now spec.begun naming (front_word tokens.old) tokens.old) result tokens.new }
     {
         let Some(word) = tokens.word() else {
             return self.unnamed(tokens, naming);
@@ -126,9 +134,9 @@ impl<
         &self,
         tokens: &mut Cursor<'_>,
         inside: Found<Declared>,
-    ) -> Result<Found<Declared>, Stop>
-        requires { Nests self.now.limit (F.pre self.now.inner) (F.post self.now.inner) }
-        ensures { Gives (spec.array_of self.now.types.now self.now.limit (below self.now.types.now self.now.limit) (read inside.it inside.height tokens.old)) result tokens.new }
+    ) -> Result<Found<Declared>, ParseError>
+        requires { ReadsParts self.now F.pre F.post }
+        ensures { Gives (under self.now spec.array_of (read inside.it inside.height tokens.old)) result tokens.new }
     {
         let core = covered(inside.it.core);
         tokens.advance();
@@ -155,9 +163,9 @@ impl<
         &self,
         tokens: &mut Cursor<'_>,
         inside: Found<Declared>,
-    ) -> Result<Found<Declared>, Stop>
-        requires { Nests self.now.limit (F.pre self.now.inner) (F.post self.now.inner) }
-        ensures { Gives (spec.function_of self.now.types.now self.now.limit (below self.now.types.now self.now.limit) (read inside.it inside.height tokens.old)) result tokens.new }
+    ) -> Result<Found<Declared>, ParseError>
+        requires { ReadsParts self.now F.pre F.post }
+        ensures { Gives (under self.now spec.function_of (read inside.it inside.height tokens.old)) result tokens.new }
     {
         tokens.advance();
         let found = self.parameters(tokens)?;
@@ -178,14 +186,14 @@ impl<
         &self,
         tokens: &mut Cursor<'_>,
         inside: Found<Declared>,
-    ) -> Result<Found<Declared>, Stop>
-        requires { Nests self.now.limit (F.pre self.now.inner) (F.post self.now.inner) }
-        ensures { Gives (one_derived self.now.types.now self.now.limit (below self.now.types.now self.now.limit) (suffix (front tokens.old)) (read inside.it inside.height tokens.old)) result tokens.new }
+    ) -> Result<Found<Declared>, ParseError>
+        requires { ReadsParts self.now F.pre F.post }
+        ensures { Gives (under self.now one_derived (suffix (front tokens.old)) (read inside.it inside.height tokens.old)) result tokens.new }
     {
         match tokens.front() {
             Some(Punct::LeftBracket) => self.array_of(tokens, inside),
             Some(Punct::LeftParen) => self.function_of(tokens, inside),
-            _ => Err(Stop::Not),
+            _ => Err(ParseError::NoMatch),
         }
     }
 
@@ -194,9 +202,9 @@ impl<
         &self,
         tokens: &mut Cursor<'_>,
         first: Found<Declared>,
-    ) -> Result<Found<Declared>, Stop>
-        requires { Nests self.now.limit (F.pre self.now.inner) (F.post self.now.inner) }
-        ensures { Gives (spec.derive self.now.types.now self.now.limit (below self.now.types.now self.now.limit) self.now.limit (read first.it first.height tokens.old)) result tokens.new }
+    ) -> Result<Found<Declared>, ParseError>
+        requires { ReadsParts self.now F.pre F.post }
+        ensures { Gives (under self.now spec.derive self.now.limit (read first.it first.height tokens.old)) result tokens.new }
     {
         let mut a = first;
         for _turn in 0..self.limit {
@@ -206,15 +214,15 @@ impl<
             a = self.derived(tokens, a)?;
         }
         if tokens.has_derived() {
-            return Err(Stop::Not);
+            return Err(ParseError::NoMatch);
         }
         Ok(a)
     }
 
     #[tactic(auto, unfolding(crate::specs::Reading::direct))]
-    fn direct(&self, tokens: &mut Cursor<'_>, naming: Naming) -> Result<Found<Declared>, Stop>
-        requires { Nests self.now.limit (F.pre self.now.inner) (F.post self.now.inner) }
-        ensures { Gives (spec.direct self.now.types.now self.now.limit (below self.now.types.now self.now.limit) naming tokens.old) result tokens.new }
+    fn direct(&self, tokens: &mut Cursor<'_>, naming: Naming) -> Result<Found<Declared>, ParseError>
+        requires { ReadsParts self.now F.pre F.post }
+        ensures { Gives (under self.now spec.direct naming tokens.old) result tokens.new }
     {
         let first = self.begun(tokens, naming)?;
         self.derive(tokens, first)
@@ -225,9 +233,9 @@ impl<
         &self,
         tokens: &mut Cursor<'_>,
         naming: Naming,
-    ) -> Result<Found<Declared>, Stop>
-        requires { Nests self.now.limit (F.pre self.now.inner) (F.post self.now.inner) }
-        ensures { Gives (spec.declarator self.now.types.now self.now.limit (below self.now.types.now self.now.limit) naming tokens.old) result tokens.new }
+    ) -> Result<Found<Declared>, ParseError>
+        requires { ReadsParts self.now F.pre F.post }
+        ensures { Gives (under self.now spec.declarator naming tokens.old) result tokens.new }
     {
         if !tokens.is_star() {
             return self.direct(tokens, naming);

@@ -5,15 +5,15 @@ ghost use Rattle.sc_tree.specs.declared.expr.Base.TheVariants as base;
 ghost use Rattle.sc_tree.specs.declared.expr.EnumSpec.{roll-EnumSpec};
 ghost use Rattle.sc_tree.specs.declared.grammar.Piece.TheVariants as piece;
 ghost use Rattle.sc_parse_front.specs.Front.{front_word};
-ghost use Rattle.sc_parse_expr.specs.Steps.{some_enumerators};
+ghost use Rattle.sc_parse_expr.specs.Reading.{some_enumerators};
 ghost use Rattle.sc_parse_expr.specs.Gives.{Gives};
-ghost use Rattle.sc_parse_expr.specs.Nests.{Nests, below};
+ghost use Rattle.sc_parse_expr.specs.Nests.{ReadsParts, under};
 ghost use Rattle.sc_parse_expr.specs.Reading as spec;
 
 use crate::found::{Found, Phrase, Wanted};
 use crate::grammar::{Grammar, node};
 use sc_base::{Boxed, List, NameId, OutOfMemory, Pos};
-use sc_parse_front::{Cursor, Stop, TypeNames};
+use sc_parse_front::{Cursor, ParseError, TypeNames};
 use sc_tree::expr::{Base, EnumSpec, Enumerator, Expr};
 use sc_tree::grammar::{BodyForm, Level, Piece};
 use std::alloc::Global;
@@ -33,15 +33,15 @@ fn enum_piece(
 
 impl<
     't,
-    F: Fn(Global, &TypeNames, &mut Cursor<'_>, usize, Wanted) -> Result<Found<Phrase>, Stop>,
+    F: Fn(Global, &TypeNames, &mut Cursor<'_>, usize, Wanted) -> Result<Found<Phrase>, ParseError>,
 > Grammar<'t, F> {
     #[tactic(auto, unfolding(crate::specs::Reading::enumerator))]
-    fn enumerator(&self, tokens: &mut Cursor<'_>) -> Result<Found<Enumerator>, Stop>
-        requires { Nests self.now.limit (F.pre self.now.inner) (F.post self.now.inner) }
-        ensures { Gives (spec.enumerator self.now.types.now self.now.limit (below self.now.types.now self.now.limit) tokens.old) result tokens.new }
+    fn enumerator(&self, tokens: &mut Cursor<'_>) -> Result<Found<Enumerator>, ParseError>
+        requires { ReadsParts self.now F.pre F.post }
+        ensures { Gives (under self.now spec.enumerator tokens.old) result tokens.new }
     {
         let Some(name) = tokens.word() else {
-            return Err(Stop::Not);
+            return Err(ParseError::NoMatch);
         };
         let pos = tokens.first_pos();
         tokens.advance();
@@ -68,9 +68,9 @@ impl<
     }
 
     /// The enumerators, with commas between; a comma may end them.
-    fn enumerators(&self, tokens: &mut Cursor<'_>) -> Result<Found<List<Enumerator>>, Stop>
-        requires { Nests self.now.limit (F.pre self.now.inner) (F.post self.now.inner) }
-        ensures { Gives (some_enumerators self.now.types.now self.now.limit (below self.now.types.now self.now.limit) tokens.old) result tokens.new }
+    fn enumerators(&self, tokens: &mut Cursor<'_>) -> Result<Found<List<Enumerator>>, ParseError>
+        requires { ReadsParts self.now F.pre F.post }
+        ensures { Gives (under self.now some_enumerators tokens.old) result tokens.new }
     {
         let mut all = List::new(self.alloc);
         let mut height = 0;
@@ -86,7 +86,7 @@ impl<
                 return Ok(Found { it: all, height });
             }
         }
-        Err(Stop::Not)
+        Err(ParseError::NoMatch)
     }
 
     #[tactic(auto, unfolding(crate::specs::Reading::enum_body))]
@@ -95,9 +95,9 @@ impl<
         tokens: &mut Cursor<'_>,
         pos: Pos,
         tag: Option<NameId>,
-    ) -> Result<Found<Piece>, Stop>
-        requires { Nests self.now.limit (F.pre self.now.inner) (F.post self.now.inner) }
-        ensures { Gives (spec.enum_body self.now.types.now self.now.limit (below self.now.types.now self.now.limit) pos tag tokens.old) result tokens.new }
+    ) -> Result<Found<Piece>, ParseError>
+        requires { ReadsParts self.now F.pre F.post }
+        ensures { Gives (under self.now spec.enum_body pos tag tokens.old) result tokens.new }
     {
         let all = self.enumerators(tokens)?;
         tokens.pass_right_brace()?;
@@ -111,9 +111,9 @@ impl<
         tokens: &mut Cursor<'_>,
         pos: Pos,
         tag: NameId,
-    ) -> Result<Found<Piece>, Stop>
-        requires { Nests self.now.limit (F.pre self.now.inner) (F.post self.now.inner) }
-        ensures { Gives (spec.tagged_enum self.now.types.now self.now.limit (below self.now.types.now self.now.limit) pos tag tokens.old) result tokens.new }
+    ) -> Result<Found<Piece>, ParseError>
+        requires { ReadsParts self.now F.pre F.post }
+        ensures { Gives (under self.now spec.tagged_enum pos tag tokens.old) result tokens.new }
     {
         if tokens.is_left_brace() {
             tokens.advance();
@@ -131,9 +131,9 @@ impl<
         &self,
         tokens: &mut Cursor<'_>,
         pos: Pos,
-    ) -> Result<Found<Piece>, Stop>
-        requires { Nests self.now.limit (F.pre self.now.inner) (F.post self.now.inner) }
-        ensures { Gives (spec.enum_by self.now.types.now self.now.limit (below self.now.types.now self.now.limit) pos (front_word tokens.old) tokens.old) result tokens.new }
+    ) -> Result<Found<Piece>, ParseError>
+        requires { ReadsParts self.now F.pre F.post }
+        ensures { Gives (under self.now spec.enum_by pos (front_word tokens.old) tokens.old) result tokens.new }
     {
         if let Some(tag) = tokens.word() {
             let place = tokens.first_pos();
@@ -141,7 +141,7 @@ impl<
             return self.tagged_enum(tokens, place, tag);
         }
         if !tokens.is_left_brace() {
-            return Err(Stop::Not);
+            return Err(ParseError::NoMatch);
         }
         tokens.advance();
         self.enum_body(tokens, pos, None)

@@ -1,5 +1,9 @@
 //! What is read at the front of tokens.
 
+ghost use Rattle.std.specs.Prelude.{◌≡◌, true};
+ghost use Rattle.sc_parse_expr.specs.declared.found.Phrase.TheVariants as phrase;
+ghost use Rattle.sc_parse_expr.specs.Reading.{are_specs, is_declarator, is_expr};
+
 use sc_base::Boxed;
 use sc_tree::expr::{Declarator, Expr, Head};
 use sc_tree::grammar::{Core, Level, Naming, Specified};
@@ -21,6 +25,41 @@ pub enum Phrase {
     Expr(Operand),
     Specs(Specified),
     Declarator(Declared),
+}
+
+impl Phrase {
+    /// The expression that it is.
+    pub(crate) fn into_expr(self) -> Operand
+        requires { is_expr self ≡ true }
+        ensures { self ≡ phrase.Expr result }
+    {
+        match self {
+            Phrase::Expr(it) => it,
+            Phrase::Specs(_) | Phrase::Declarator(_) => unreachable!(),
+        }
+    }
+
+    /// The specifiers that it is.
+    pub(crate) fn into_specs(self) -> Specified
+        requires { are_specs self ≡ true }
+        ensures { self ≡ phrase.Specs result }
+    {
+        match self {
+            Phrase::Specs(it) => it,
+            Phrase::Expr(_) | Phrase::Declarator(_) => unreachable!(),
+        }
+    }
+
+    /// The declarator that it is.
+    pub(crate) fn into_declarator(self) -> Declared
+        requires { is_declarator self ≡ true }
+        ensures { self ≡ phrase.Declarator result }
+    {
+        match self {
+            Phrase::Declarator(it) => it,
+            Phrase::Expr(_) | Phrase::Specs(_) => unreachable!(),
+        }
+    }
 }
 
 /// An expression, and whether it is one that an assignment may stand behind: nothing weaker than

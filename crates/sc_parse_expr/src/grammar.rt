@@ -3,12 +3,12 @@
 ghost use Rattle.std.specs.Prelude.{◌≡◌};
 ghost use Rattle.sc_tree.specs.Grammar.{is_named};
 ghost use Rattle.sc_parse_expr.specs.Gives.{Gives, Grows};
-ghost use Rattle.sc_parse_expr.specs.Nests.{Nests, below};
+ghost use Rattle.sc_parse_expr.specs.Nests.{ReadsParts, below, under};
 ghost use Rattle.sc_parse_expr.specs.Reading as spec;
 
 use crate::found::{Declared, Found, Headed, Operand, Phrase, Wanted};
 use sc_base::Boxed;
-use sc_parse_front::{Cursor, Stop, TypeNames};
+use sc_parse_front::{Cursor, ParseError, TypeNames};
 use sc_tree::expr::{Expr, Head};
 use sc_tree::grammar::{Core, Level, Naming, Specified};
 use std::alloc::Global;
@@ -25,11 +25,11 @@ pub struct Grammar<'t, F> {
 }
 
 /// A tree over parts of that height, where the limit allows one more.
-pub fn node<T: Drop>(limit: usize, it: T, below: usize) -> Result<Found<T>, Stop>
+pub fn node<T: Drop>(limit: usize, it: T, below: usize) -> Result<Found<T>, ParseError>
     ensures { Grows limit it below result }
 {
     if below >= limit {
-        return Err(Stop::Not);
+        return Err(ParseError::NoMatch);
     }
     Ok(Found {
         it,
@@ -45,10 +45,10 @@ fn is_named(core: Core) -> bool
 
 impl<
     't,
-    F: Fn(Global, &TypeNames, &mut Cursor<'_>, usize, Wanted) -> Result<Found<Phrase>, Stop>,
+    F: Fn(Global, &TypeNames, &mut Cursor<'_>, usize, Wanted) -> Result<Found<Phrase>, ParseError>,
 > Grammar<'t, F> {
-    fn inner(&self, tokens: &mut Cursor<'_>, wanted: Wanted) -> Result<Found<Phrase>, Stop>
-        requires { Nests self.now.limit (F.pre self.now.inner) (F.post self.now.inner) }
+    fn inner(&self, tokens: &mut Cursor<'_>, wanted: Wanted) -> Result<Found<Phrase>, ParseError>
+        requires { ReadsParts self.now F.pre F.post }
         ensures { Gives (below self.now.types.now self.now.limit wanted tokens.old) result tokens.new }
     {
         (self.inner)(self.alloc, self.types, tokens, self.limit - 1, wanted)
@@ -60,7 +60,7 @@ impl<
         tree: Expr,
         unary: bool,
         below: usize,
-    ) -> Result<Found<Operand>, Stop>
+    ) -> Result<Found<Operand>, ParseError>
         ensures { Grows self.now.limit (spec.operand tree unary) below result }
     {
         let tree = Boxed::new(self.alloc, tree)?;
@@ -68,50 +68,53 @@ impl<
     }
 
     /// An expression of the level under a node.
+    #[tactic(auto, using(crate::proofs::Phrases::expr_is_read))]
     pub(crate) fn inner_expr(
         &self,
         tokens: &mut Cursor<'_>,
         level: Level,
-    ) -> Result<Found<Operand>, Stop>
-        requires { Nests self.now.limit (F.pre self.now.inner) (F.post self.now.inner) }
-        ensures { Gives (spec.inner_expr self.now.types.now self.now.limit (below self.now.types.now self.now.limit) level tokens.old) result tokens.new }
+    ) -> Result<Found<Operand>, ParseError>
+        requires { ReadsParts self.now F.pre F.post }
+        ensures { Gives (under self.now spec.inner_expr level tokens.old) result tokens.new }
     {
-        let found = self.inner(tokens, Wanted::Expr(level))?;
-        let Found { it, height } = found;
-        match it {
-            Phrase::Expr(it) => Ok(Found { it, height }),
-            _ => Err(Stop::Not),
-        }
+        let Found { it, height } = self.inner(tokens, Wanted::Expr(level))?;
+        Ok(Found {
+            it: it.into_expr(),
+            height,
+        })
     }
 
     /// Specifiers under a node.
-    pub(crate) fn inner_specs(&self, tokens: &mut Cursor<'_>) -> Result<Found<Specified>, Stop>
-        requires { Nests self.now.limit (F.pre self.now.inner) (F.post self.now.inner) }
-        ensures { Gives (spec.inner_specs self.now.types.now self.now.limit (below self.now.types.now self.now.limit) tokens.old) result tokens.new }
+    #[tactic(auto, using(crate::proofs::Phrases::specs_are_read))]
+    pub(crate) fn inner_specs(
+        &self,
+        tokens: &mut Cursor<'_>,
+    ) -> Result<Found<Specified>, ParseError>
+        requires { ReadsParts self.now F.pre F.post }
+        ensures { Gives (under self.now spec.inner_specs tokens.old) result tokens.new }
     {
-        let found = self.inner(tokens, Wanted::Specs)?;
-        let Found { it, height } = found;
-        match it {
-            Phrase::Specs(it) => Ok(Found { it, height }),
-            _ => Err(Stop::Not),
-        }
+        let Found { it, height } = self.inner(tokens, Wanted::Specs)?;
+        Ok(Found {
+            it: it.into_specs(),
+            height,
+        })
     }
 
     /// A declarator under a node.
+    #[tactic(auto, using(crate::proofs::Phrases::declarator_is_read))]
     pub(crate) fn inner_declarator(
         &self,
         tokens: &mut Cursor<'_>,
         naming: Naming,
-    ) -> Result<Found<Declared>, Stop>
-        requires { Nests self.now.limit (F.pre self.now.inner) (F.post self.now.inner) }
-        ensures { Gives (spec.inner_declarator self.now.types.now self.now.limit (below self.now.types.now self.now.limit) naming tokens.old) result tokens.new }
+    ) -> Result<Found<Declared>, ParseError>
+        requires { ReadsParts self.now F.pre F.post }
+        ensures { Gives (under self.now spec.inner_declarator naming tokens.old) result tokens.new }
     {
-        let found = self.inner(tokens, Wanted::Declarator(naming))?;
-        let Found { it, height } = found;
-        match it {
-            Phrase::Declarator(it) => Ok(Found { it, height }),
-            _ => Err(Stop::Not),
-        }
+        let Found { it, height } = self.inner(tokens, Wanted::Declarator(naming))?;
+        Ok(Found {
+            it: it.into_declarator(),
+            height,
+        })
     }
 
     /// Specifiers and a declarator under a node.
@@ -120,9 +123,9 @@ impl<
         &self,
         tokens: &mut Cursor<'_>,
         naming: Naming,
-    ) -> Result<Found<Headed>, Stop>
-        requires { Nests self.now.limit (F.pre self.now.inner) (F.post self.now.inner) }
-        ensures { Gives (spec.inner_head self.now.types.now self.now.limit (below self.now.types.now self.now.limit) naming tokens.old) result tokens.new }
+    ) -> Result<Found<Headed>, ParseError>
+        requires { ReadsParts self.now F.pre F.post }
+        ensures { Gives (under self.now spec.inner_head naming tokens.old) result tokens.new }
     {
         let pos = tokens.first_pos();
         let specified = self.inner_specs(tokens)?;

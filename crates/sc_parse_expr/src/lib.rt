@@ -3,29 +3,35 @@
 //! `specs/Reading.antt` has the reading as functions on lists of tokens. Two laws tie it to
 //! `sc_tree/specs/Grammar.antt`: what is read is spelled (`sound`), and what is spelled is read
 //! (`complete`). The code gives what the functions give: `grammar` reads trees up to a height over a
-//! function that reads those lower by one, `primary`, `suffixes`, `prefix`, `chain` and `choice` read
-//! expressions, `pieces`, `records` and `enums` specifiers, `direct` and `parameters` declarators, and
-//! `parse` ties the knot. `span` has the expression that a span of tokens is.
+//! function that reads those lower by one, `primary`, `suffixes`, `prefix`, `chain`, `conditional`,
+//! `assignment` and `comma` read expressions, `pieces`, `records` and `enums` specifiers, `direct` and
+//! `parameters` declarators, and `parse` ties the knot. `span` has the expression that a span of tokens is.
 #![tactic(auto)]
 
+mod assignment;
 mod chain;
-mod choice;
-pub mod complete;
+mod comma;
+mod complete;
+mod conditional;
 mod direct;
 mod enums;
-pub mod found;
+mod found;
 mod grammar;
 mod parameters;
-pub mod parse;
+mod parse;
 mod pieces;
 mod prefix;
 mod primary;
 mod records;
-pub mod sound;
-pub mod span;
+mod sound;
+mod span;
 mod suffixes;
 
+pub use complete::{
+    how_phrases_begin, one_declarator, one_expression, one_type, reading_is_complete,
+};
 pub use found::{Declared, Found, Operand, Phrase, Wanted};
 pub use grammar::node;
 pub use parse::{read_declarator, read_expr, read_specs};
+pub use sound::reading_is_spelled;
 pub use span::{Parsed, expr};

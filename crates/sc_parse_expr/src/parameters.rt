@@ -2,14 +2,14 @@
 
 ghost use Rattle.std.specs.Prelude.{◌≡◌, ◌&&◌};
 ghost use Rattle.sc_parse_expr.specs.Gives.{GivesAs};
-ghost use Rattle.sc_parse_expr.specs.Nests.{Nests, below};
+ghost use Rattle.sc_parse_expr.specs.Nests.{ReadsParts, under};
 ghost use Rattle.sc_parse_expr.specs.Reading as spec;
-ghost use Rattle.sc_parse_expr.specs.Steps.{params_of, some_heads};
+ghost use Rattle.sc_parse_expr.specs.Reading.{params_of, some_heads};
 
 use crate::found::{Found, Headed, Phrase, Wanted};
 use crate::grammar::Grammar;
 use sc_base::List;
-use sc_parse_front::{Cursor, Stop, TypeNames, room_for_one};
+use sc_parse_front::{Cursor, ParseError, TypeNames, room_for_one};
 use sc_tree::expr::Head;
 use sc_tree::grammar::Naming;
 use std::alloc::Global;
@@ -31,12 +31,12 @@ fn both(all: bool, this: bool) -> bool
 
 impl<
     't,
-    F: Fn(Global, &TypeNames, &mut Cursor<'_>, usize, Wanted) -> Result<Found<Phrase>, Stop>,
+    F: Fn(Global, &TypeNames, &mut Cursor<'_>, usize, Wanted) -> Result<Found<Phrase>, ParseError>,
 > Grammar<'t, F> {
     /// Parameters with commas between, and `...` behind them or not.
-    fn heads(&self, tokens: &mut Cursor<'_>) -> Result<Found<Params>, Stop>
-        requires { Nests self.now.limit (F.pre self.now.inner) (F.post self.now.inner) }
-        ensures { GivesAs params_of (some_heads self.now.types.now self.now.limit (below self.now.types.now self.now.limit) tokens.old) result tokens.new }
+    fn heads(&self, tokens: &mut Cursor<'_>) -> Result<Found<Params>, ParseError>
+        requires { ReadsParts self.now F.pre F.post }
+        ensures { GivesAs params_of (under self.now some_heads tokens.old) result tokens.new }
     {
         let mut all = room_for_one(self.alloc)?;
         let mut named = true;
@@ -70,13 +70,13 @@ impl<
                 return Ok(Found { it, height });
             }
         }
-        Err(Stop::Not)
+        Err(ParseError::NoMatch)
     }
 
     #[tactic(auto, unfolding(crate::specs::Reading::parameters))]
-    pub(crate) fn parameters(&self, tokens: &mut Cursor<'_>) -> Result<Found<Params>, Stop>
-        requires { Nests self.now.limit (F.pre self.now.inner) (F.post self.now.inner) }
-        ensures { GivesAs params_of (spec.parameters self.now.types.now self.now.limit (below self.now.types.now self.now.limit) tokens.old) result tokens.new }
+    pub(crate) fn parameters(&self, tokens: &mut Cursor<'_>) -> Result<Found<Params>, ParseError>
+        requires { ReadsParts self.now F.pre F.post }
+        ensures { GivesAs params_of (under self.now spec.parameters tokens.old) result tokens.new }
     {
         if tokens.is_right_paren() {
             let it = Params {

@@ -2,23 +2,40 @@
 
 ghost use Rattle.std.specs.Prelude.{◌≡◌};
 ghost use Rattle.sc_parse_expr.specs.Gives.{Gives};
-ghost use Rattle.sc_parse_expr.specs.Nests.{Nests, below};
+ghost use Rattle.sc_parse_expr.specs.Nests.{ReadsParts, under};
 ghost use Rattle.sc_parse_expr.specs.Reading as spec;
 
 use crate::found::{Declared, Found, Operand, Phrase, Wanted};
 use crate::grammar::Grammar;
-use sc_parse_front::{Cursor, Stop, TypeNames};
+use sc_parse_front::{Cursor, ParseError, TypeNames};
 use sc_tree::grammar::{Level, Naming, Specified};
 use std::alloc::Global;
 
 impl<
     't,
-    F: Fn(Global, &TypeNames, &mut Cursor<'_>, usize, Wanted) -> Result<Found<Phrase>, Stop>,
+    F: Fn(Global, &TypeNames, &mut Cursor<'_>, usize, Wanted) -> Result<Found<Phrase>, ParseError>,
 > Grammar<'t, F> {
+    #[tactic(auto, unfolding(crate::specs::Reading::at_level))]
+    fn at_level(&self, tokens: &mut Cursor<'_>, level: Level) -> Result<Found<Operand>, ParseError>
+        requires { ReadsParts self.now F.pre F.post }
+        ensures { Gives (under self.now spec.at_level level tokens.old) result tokens.new }
+    {
+        match level {
+            Level::Primary => self.primary(tokens),
+            Level::Postfix => self.postfix(tokens),
+            Level::Prefix => self.prefix(tokens),
+            Level::Cast => self.casts(tokens),
+            Level::Operators(level) => self.operators(tokens, level),
+            Level::Choice => self.conditional(tokens),
+            Level::Assignment => self.assignment(tokens),
+            Level::Whole => self.whole(tokens),
+        }
+    }
+
     #[tactic(auto, unfolding(crate::specs::Reading::wanted))]
-    fn wanted(&self, tokens: &mut Cursor<'_>, wanted: Wanted) -> Result<Found<Phrase>, Stop>
-        requires { Nests self.now.limit (F.pre self.now.inner) (F.post self.now.inner) }
-        ensures { Gives (spec.wanted self.now.types.now self.now.limit (below self.now.types.now self.now.limit) wanted tokens.old) result tokens.new }
+    fn wanted(&self, tokens: &mut Cursor<'_>, wanted: Wanted) -> Result<Found<Phrase>, ParseError>
+        requires { ReadsParts self.now F.pre F.post }
+        ensures { Gives (under self.now spec.wanted wanted tokens.old) result tokens.new }
     {
         match wanted {
             Wanted::Expr(level) => {
@@ -53,11 +70,11 @@ fn parse(
     tokens: &mut Cursor<'_>,
     limit: usize,
     wanted: Wanted,
-) -> Result<Found<Phrase>, Stop>
+) -> Result<Found<Phrase>, ParseError>
     ensures { Gives (spec.parse types.now limit wanted tokens.old) result tokens.new }
 {
     if limit == 0 {
-        return Err(Stop::Not);
+        return Err(ParseError::NoMatch);
     }
     Grammar {
         alloc,
@@ -70,51 +87,54 @@ fn parse(
 
 /// The expression of that level at the front of the tokens, of at most that height, and goes behind
 /// it. After a refusal nothing is known of the tokens that are left.
+#[tactic(auto, using(crate::proofs::Phrases::expr_is_read))]
 pub fn read_expr(
     alloc: Global,
     types: &TypeNames,
     tokens: &mut Cursor<'_>,
     limit: usize,
     level: Level,
-) -> Result<Found<Operand>, Stop>
+) -> Result<Found<Operand>, ParseError>
     ensures { Gives (spec.expr_at types.now limit level tokens.old) result tokens.new }
 {
     let Found { it, height } = parse(alloc, types, tokens, limit, Wanted::Expr(level))?;
-    match it {
-        Phrase::Expr(it) => Ok(Found { it, height }),
-        _ => Err(Stop::Not),
-    }
+    Ok(Found {
+        it: it.into_expr(),
+        height,
+    })
 }
 
 /// The specifiers that name a type at the front of the tokens, with bodies of at most that height.
+#[tactic(auto, using(crate::proofs::Phrases::specs_are_read))]
 pub fn read_specs(
     alloc: Global,
     types: &TypeNames,
     tokens: &mut Cursor<'_>,
     limit: usize,
-) -> Result<Found<Specified>, Stop>
+) -> Result<Found<Specified>, ParseError>
     ensures { Gives (spec.specs_at types.now limit tokens.old) result tokens.new }
 {
     let Found { it, height } = parse(alloc, types, tokens, limit, Wanted::Specs)?;
-    match it {
-        Phrase::Specs(it) => Ok(Found { it, height }),
-        _ => Err(Stop::Not),
-    }
+    Ok(Found {
+        it: it.into_specs(),
+        height,
+    })
 }
 
 /// The declarator of that naming at the front of the tokens, of at most that height.
+#[tactic(auto, using(crate::proofs::Phrases::declarator_is_read))]
 pub fn read_declarator(
     alloc: Global,
     types: &TypeNames,
     tokens: &mut Cursor<'_>,
     limit: usize,
     naming: Naming,
-) -> Result<Found<Declared>, Stop>
+) -> Result<Found<Declared>, ParseError>
     ensures { Gives (spec.declarator_at types.now limit naming tokens.old) result tokens.new }
 {
     let Found { it, height } = parse(alloc, types, tokens, limit, Wanted::Declarator(naming))?;
-    match it {
-        Phrase::Declarator(it) => Ok(Found { it, height }),
-        _ => Err(Stop::Not),
-    }
+    Ok(Found {
+        it: it.into_declarator(),
+        height,
+    })
 }

@@ -5,21 +5,21 @@ ghost use Rattle.sc_tree.specs.Specifiers.{no_pieces};
 ghost use Rattle.sc_parse_front.specs.Front.{behind};
 ghost use Rattle.sc_parse_front.specs.Start.{start_of};
 ghost use Rattle.sc_parse_expr.specs.Gives.{Gives};
-ghost use Rattle.sc_parse_expr.specs.Nests.{Nests, below};
+ghost use Rattle.sc_parse_expr.specs.Nests.{ReadsParts, under};
 ghost use Rattle.sc_parse_expr.specs.Read.{read};
 ghost use Rattle.sc_parse_expr.specs.Reading as spec;
 
 use crate::found::{Found, Phrase, Wanted};
 use crate::grammar::Grammar;
 use sc_parse_front::{
-    Cursor, Start, Stop, TypeNames, begun_piece, finished, no_pieces, with_piece,
+    Cursor, ParseError, Start, TypeNames, begun_piece, finished, no_pieces, with_piece,
 };
 use sc_tree::expr::Base;
 use sc_tree::grammar::{BodyForm, Gathered, Piece, Specified};
 use std::alloc::Global;
 
 /// A piece of one token.
-fn one_token(tokens: &mut Cursor<'_>, piece: Piece) -> Result<Found<Piece>, Stop>
+fn one_token(tokens: &mut Cursor<'_>, piece: Piece) -> Result<Found<Piece>, ParseError>
     ensures { Gives (Some (read piece 0 (behind tokens.old))) result tokens.new }
 {
     tokens.advance();
@@ -31,12 +31,12 @@ fn one_token(tokens: &mut Cursor<'_>, piece: Piece) -> Result<Found<Piece>, Stop
 
 impl<
     't,
-    F: Fn(Global, &TypeNames, &mut Cursor<'_>, usize, Wanted) -> Result<Found<Phrase>, Stop>,
+    F: Fn(Global, &TypeNames, &mut Cursor<'_>, usize, Wanted) -> Result<Found<Phrase>, ParseError>,
 > Grammar<'t, F> {
     #[tactic(auto, unfolding(crate::specs::Reading::piece_by))]
-    fn piece(&self, tokens: &mut Cursor<'_>, start: Start) -> Result<Found<Piece>, Stop>
-        requires { Nests self.now.limit (F.pre self.now.inner) (F.post self.now.inner) }
-        ensures { Gives (spec.piece_by self.now.types.now self.now.limit (below self.now.types.now self.now.limit) (start_of (Some start)) tokens.old) result tokens.new }
+    fn piece(&self, tokens: &mut Cursor<'_>, start: Start) -> Result<Found<Piece>, ParseError>
+        requires { ReadsParts self.now F.pre F.post }
+        ensures { Gives (under self.now spec.piece_by (start_of (Some start)) tokens.old) result tokens.new }
     {
         match start {
             Start::Storage(word) => one_token(tokens, Piece::Storage(word)),
@@ -62,9 +62,9 @@ impl<
     }
 
     /// All pieces, as long as one begins.
-    fn gather(&self, tokens: &mut Cursor<'_>) -> Result<Found<Gathered>, Stop>
-        requires { Nests self.now.limit (F.pre self.now.inner) (F.post self.now.inner) }
-        ensures { Gives (spec.gather self.now.types.now self.now.limit (below self.now.types.now self.now.limit) (length tokens.old) no_pieces 0 tokens.old) result tokens.new }
+    fn gather(&self, tokens: &mut Cursor<'_>) -> Result<Found<Gathered>, ParseError>
+        requires { ReadsParts self.now F.pre F.post }
+        ensures { Gives (under self.now spec.gather (length tokens.old) no_pieces 0 tokens.old) result tokens.new }
     {
         let mut gathered = no_pieces(self.alloc);
         let mut height = 0;
@@ -80,7 +80,7 @@ impl<
             height = height.max(piece.height);
         }
         if begun_piece(self.types, &gathered.so_far, tokens).is_some() {
-            return Err(Stop::Not);
+            return Err(ParseError::NoMatch);
         }
         Ok(Found {
             it: gathered,
@@ -89,9 +89,9 @@ impl<
     }
 
     #[tactic(auto, unfolding(crate::specs::Reading::specs))]
-    pub(crate) fn specs(&self, tokens: &mut Cursor<'_>) -> Result<Found<Specified>, Stop>
-        requires { Nests self.now.limit (F.pre self.now.inner) (F.post self.now.inner) }
-        ensures { Gives (spec.specs self.now.types.now self.now.limit (below self.now.types.now self.now.limit) tokens.old) result tokens.new }
+    pub(crate) fn specs(&self, tokens: &mut Cursor<'_>) -> Result<Found<Specified>, ParseError>
+        requires { ReadsParts self.now F.pre F.post }
+        ensures { Gives (under self.now spec.specs tokens.old) result tokens.new }
     {
         let found = self.gather(tokens)?;
         let it = finished(found.it)?;

@@ -2,13 +2,13 @@
 
 ghost use Rattle.std.specs.Prelude.{◌≡◌};
 ghost use Rattle.sc_parse_expr.specs.Gives.{Gives};
-ghost use Rattle.sc_parse_expr.specs.Nests.{Nests, below};
+ghost use Rattle.sc_parse_expr.specs.Nests.{ReadsParts, under};
 ghost use Rattle.sc_parse_expr.specs.Reading as spec;
 
 use crate::found::{Found, Operand, Phrase, Wanted};
 use crate::grammar::Grammar;
 use crate::primary::at;
-use sc_parse_front::{Cursor, Stop, TypeNames};
+use sc_parse_front::{Cursor, ParseError, TypeNames};
 use sc_tree::expr::Expr;
 use sc_tree::grammar::{Level, Naming};
 use sc_tree::op::{Step, UnaryOp};
@@ -16,12 +16,12 @@ use std::alloc::Global;
 
 impl<
     't,
-    F: Fn(Global, &TypeNames, &mut Cursor<'_>, usize, Wanted) -> Result<Found<Phrase>, Stop>,
+    F: Fn(Global, &TypeNames, &mut Cursor<'_>, usize, Wanted) -> Result<Found<Phrase>, ParseError>,
 > Grammar<'t, F> {
     #[tactic(auto, unfolding(crate::specs::Reading::applied))]
-    fn applied(&self, tokens: &mut Cursor<'_>, op: UnaryOp) -> Result<Found<Operand>, Stop>
-        requires { Nests self.now.limit (F.pre self.now.inner) (F.post self.now.inner) }
-        ensures { Gives (spec.applied self.now.types.now self.now.limit (below self.now.types.now self.now.limit) op tokens.old) result tokens.new }
+    fn applied(&self, tokens: &mut Cursor<'_>, op: UnaryOp) -> Result<Found<Operand>, ParseError>
+        requires { ReadsParts self.now F.pre F.post }
+        ensures { Gives (under self.now spec.applied op tokens.old) result tokens.new }
     {
         let pos = tokens.first_pos();
         tokens.advance();
@@ -30,9 +30,9 @@ impl<
     }
 
     #[tactic(auto, unfolding(crate::specs::Reading::stepped_first))]
-    fn stepped_first(&self, tokens: &mut Cursor<'_>, by: Step) -> Result<Found<Operand>, Stop>
-        requires { Nests self.now.limit (F.pre self.now.inner) (F.post self.now.inner) }
-        ensures { Gives (spec.stepped_first self.now.types.now self.now.limit (below self.now.types.now self.now.limit) by tokens.old) result tokens.new }
+    fn stepped_first(&self, tokens: &mut Cursor<'_>, by: Step) -> Result<Found<Operand>, ParseError>
+        requires { ReadsParts self.now F.pre F.post }
+        ensures { Gives (under self.now spec.stepped_first by tokens.old) result tokens.new }
     {
         let pos = tokens.first_pos();
         tokens.advance();
@@ -41,9 +41,9 @@ impl<
     }
 
     #[tactic(auto, unfolding(crate::specs::Reading::size_of_type))]
-    fn size_of_type(&self, tokens: &mut Cursor<'_>) -> Result<Found<Operand>, Stop>
-        requires { Nests self.now.limit (F.pre self.now.inner) (F.post self.now.inner) }
-        ensures { Gives (spec.size_of_type self.now.types.now self.now.limit (below self.now.types.now self.now.limit) tokens.old) result tokens.new }
+    fn size_of_type(&self, tokens: &mut Cursor<'_>) -> Result<Found<Operand>, ParseError>
+        requires { ReadsParts self.now F.pre F.post }
+        ensures { Gives (under self.now spec.size_of_type tokens.old) result tokens.new }
     {
         let pos = tokens.first_pos();
         tokens.advance();
@@ -54,9 +54,9 @@ impl<
     }
 
     #[tactic(auto, unfolding(crate::specs::Reading::size_of))]
-    fn size_of(&self, tokens: &mut Cursor<'_>) -> Result<Found<Operand>, Stop>
-        requires { Nests self.now.limit (F.pre self.now.inner) (F.post self.now.inner) }
-        ensures { Gives (spec.size_of self.now.types.now self.now.limit (below self.now.types.now self.now.limit) tokens.old) result tokens.new }
+    fn size_of(&self, tokens: &mut Cursor<'_>) -> Result<Found<Operand>, ParseError>
+        requires { ReadsParts self.now F.pre F.post }
+        ensures { Gives (under self.now spec.size_of tokens.old) result tokens.new }
     {
         let pos = tokens.first_pos();
         tokens.advance();
@@ -66,15 +66,15 @@ impl<
 
     /// Whether a type in brackets stands there.
     fn opens_type(&self, tokens: &Cursor<'_>) -> bool
-        ensures { result ≡ spec.opens_type self.now.types.now self.now.limit (below self.now.types.now self.now.limit) tokens.now }
+        ensures { result ≡ under self.now spec.opens_type tokens.now }
     {
         tokens.is_left_paren() && tokens.behind().begins_type(self.types)
     }
 
     #[tactic(auto, unfolding(crate::specs::Reading::sized))]
-    fn sized(&self, tokens: &mut Cursor<'_>) -> Result<Found<Operand>, Stop>
-        requires { Nests self.now.limit (F.pre self.now.inner) (F.post self.now.inner) }
-        ensures { Gives (spec.sized self.now.types.now self.now.limit (below self.now.types.now self.now.limit) tokens.old) result tokens.new }
+    fn sized(&self, tokens: &mut Cursor<'_>) -> Result<Found<Operand>, ParseError>
+        requires { ReadsParts self.now F.pre F.post }
+        ensures { Gives (under self.now spec.sized tokens.old) result tokens.new }
     {
         if self.opens_type(&tokens.behind()) {
             self.size_of_type(tokens)
@@ -84,9 +84,9 @@ impl<
     }
 
     #[tactic(auto, unfolding(crate::specs::Reading::prefix, crate::specs::Reading::prefix_by))]
-    pub(crate) fn prefix(&self, tokens: &mut Cursor<'_>) -> Result<Found<Operand>, Stop>
-        requires { Nests self.now.limit (F.pre self.now.inner) (F.post self.now.inner) }
-        ensures { Gives (spec.prefix self.now.types.now self.now.limit (below self.now.types.now self.now.limit) tokens.old) result tokens.new }
+    pub(crate) fn prefix(&self, tokens: &mut Cursor<'_>) -> Result<Found<Operand>, ParseError>
+        requires { ReadsParts self.now F.pre F.post }
+        ensures { Gives (under self.now spec.prefix tokens.old) result tokens.new }
     {
         if let Some(op) = tokens.unary_at() {
             return self.applied(tokens, op);
@@ -101,9 +101,9 @@ impl<
     }
 
     #[tactic(auto, unfolding(crate::specs::Reading::cast))]
-    fn cast(&self, tokens: &mut Cursor<'_>) -> Result<Found<Operand>, Stop>
-        requires { Nests self.now.limit (F.pre self.now.inner) (F.post self.now.inner) }
-        ensures { Gives (spec.cast self.now.types.now self.now.limit (below self.now.types.now self.now.limit) tokens.old) result tokens.new }
+    fn cast(&self, tokens: &mut Cursor<'_>) -> Result<Found<Operand>, ParseError>
+        requires { ReadsParts self.now F.pre F.post }
+        ensures { Gives (under self.now spec.cast tokens.old) result tokens.new }
     {
         let pos = tokens.first_pos();
         tokens.advance();
@@ -115,9 +115,9 @@ impl<
     }
 
     #[tactic(auto, unfolding(crate::specs::Reading::casts))]
-    pub(crate) fn casts(&self, tokens: &mut Cursor<'_>) -> Result<Found<Operand>, Stop>
-        requires { Nests self.now.limit (F.pre self.now.inner) (F.post self.now.inner) }
-        ensures { Gives (spec.casts self.now.types.now self.now.limit (below self.now.types.now self.now.limit) tokens.old) result tokens.new }
+    pub(crate) fn casts(&self, tokens: &mut Cursor<'_>) -> Result<Found<Operand>, ParseError>
+        requires { ReadsParts self.now F.pre F.post }
+        ensures { Gives (under self.now spec.casts tokens.old) result tokens.new }
     {
         if self.opens_type(tokens) {
             self.cast(tokens)

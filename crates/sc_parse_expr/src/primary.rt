@@ -4,13 +4,13 @@ ghost use Rattle.std.specs.Prelude.{◌≡◌, ◌∷◌, Some, OnOk, IfOk};
 ghost use Rattle.sc_tree.specs.declared.token.Punct.TheVariants as sign;
 ghost use Rattle.sc_tree.specs.Tokens.{at, is_type};
 ghost use Rattle.sc_parse_expr.specs.Gives.{Gives};
-ghost use Rattle.sc_parse_expr.specs.Nests.{Nests, below};
+ghost use Rattle.sc_parse_expr.specs.Nests.{ReadsParts, under};
 ghost use Rattle.sc_parse_expr.specs.Reading as spec;
 
 use crate::found::{Found, Operand, Phrase, Wanted};
 use crate::grammar::{Grammar, node};
 use sc_base::{List, NameId, OutOfMemory, Pos};
-use sc_parse_front::{Cursor, Stop, TypeNames};
+use sc_parse_front::{Cursor, ParseError, TypeNames};
 use sc_tree::expr::{Expr, Place};
 use sc_tree::grammar::Level;
 use sc_tree::{Kind, Punct, StrToken};
@@ -46,30 +46,35 @@ fn strings(
 
 impl<
     't,
-    F: Fn(Global, &TypeNames, &mut Cursor<'_>, usize, Wanted) -> Result<Found<Phrase>, Stop>,
+    F: Fn(Global, &TypeNames, &mut Cursor<'_>, usize, Wanted) -> Result<Found<Phrase>, ParseError>,
 > Grammar<'t, F> {
     /// A name or a constant.
-    fn atom(&self, tokens: &Cursor<'_>, tree: Expr) -> Result<Found<Operand>, Stop>
-        ensures { Gives (spec.atom self.now.types.now self.now.limit (below self.now.types.now self.now.limit) tree tokens.now) result tokens.now }
+    fn atom(&self, tokens: &Cursor<'_>, tree: Expr) -> Result<Found<Operand>, ParseError>
+        ensures { Gives (under self.now spec.atom tree tokens.now) result tokens.now }
     {
         self.operand(tree, true, 0)
     }
 
     /// Behind the word, which is to be no typedef name.
-    fn named(&self, tokens: &Cursor<'_>, word: NameId, pos: Pos) -> Result<Found<Operand>, Stop>
-        ensures { Gives (spec.named_atom self.now.types.now self.now.limit (below self.now.types.now self.now.limit) (is_type self.now.types.now word) word pos tokens.now) result tokens.now }
+    fn named(
+        &self,
+        tokens: &Cursor<'_>,
+        word: NameId,
+        pos: Pos,
+    ) -> Result<Found<Operand>, ParseError>
+        ensures { Gives (under self.now spec.named_atom (is_type self.now.types.now word) word pos tokens.now) result tokens.now }
     {
         if self.types.contains(word) {
-            return Err(Stop::Not);
+            return Err(ParseError::NoMatch);
         }
         self.atom(tokens, Expr::Name(word, at(pos)))
     }
 
     /// Behind the opening bracket.
     #[tactic(auto, unfolding(crate::specs::Reading::bracketed))]
-    fn bracketed(&self, tokens: &mut Cursor<'_>) -> Result<Found<Operand>, Stop>
-        requires { Nests self.now.limit (F.pre self.now.inner) (F.post self.now.inner) }
-        ensures { Gives (spec.in_round self.now.types.now self.now.limit (below self.now.types.now self.now.limit) (Some sign.LeftParen) tokens.old) result tokens.new }
+    fn bracketed(&self, tokens: &mut Cursor<'_>) -> Result<Found<Operand>, ParseError>
+        requires { ReadsParts self.now F.pre F.post }
+        ensures { Gives (under self.now spec.in_round (Some sign.LeftParen) tokens.old) result tokens.new }
     {
         let a = self.inner_expr(tokens, Level::Whole)?;
         tokens.pass_right_paren()?;
@@ -85,9 +90,9 @@ impl<
         tokens: &mut Cursor<'_>,
         first: Kind,
         pos: Pos,
-    ) -> Result<Found<Operand>, Stop>
-        requires { Nests self.now.limit (F.pre self.now.inner) (F.post self.now.inner) }
-        ensures { Gives (spec.primary_by self.now.types.now self.now.limit (below self.now.types.now self.now.limit) first pos tokens.old) result tokens.new }
+    ) -> Result<Found<Operand>, ParseError>
+        requires { ReadsParts self.now F.pre F.post }
+        ensures { Gives (under self.now spec.primary_by first pos tokens.old) result tokens.new }
     {
         match first {
             Kind::Word(word) => self.named(tokens, word, pos),
@@ -99,18 +104,18 @@ impl<
                 self.atom(tokens, Expr::Str(all, at(pos)))
             }
             Kind::Punct(Punct::LeftParen) => self.bracketed(tokens),
-            Kind::Punct(_) => Err(Stop::Not),
-            Kind::Reserved(_) => Err(Stop::Not),
+            Kind::Punct(_) => Err(ParseError::NoMatch),
+            Kind::Reserved(_) => Err(ParseError::NoMatch),
         }
     }
 
     #[tactic(auto, unfolding(crate::specs::Reading::primary))]
-    pub(crate) fn primary(&self, tokens: &mut Cursor<'_>) -> Result<Found<Operand>, Stop>
-        requires { Nests self.now.limit (F.pre self.now.inner) (F.post self.now.inner) }
-        ensures { Gives (spec.primary self.now.types.now self.now.limit (below self.now.types.now self.now.limit) tokens.old) result tokens.new }
+    pub(crate) fn primary(&self, tokens: &mut Cursor<'_>) -> Result<Found<Operand>, ParseError>
+        requires { ReadsParts self.now F.pre F.post }
+        ensures { Gives (under self.now spec.primary tokens.old) result tokens.new }
     {
         let Some(first) = tokens.next() else {
-            return Err(Stop::Not);
+            return Err(ParseError::NoMatch);
         };
         self.primary_by(tokens, first.kind, first.pos)
     }

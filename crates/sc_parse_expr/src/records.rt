@@ -7,16 +7,16 @@ ghost use Rattle.sc_tree.specs.declared.grammar.Piece.TheVariants as piece;
 ghost use Rattle.sc_tree.specs.Grammar.{body_form};
 ghost use Rattle.sc_parse_front.specs.Front.{front_word, is_right_brace};
 ghost use Rattle.sc_parse_expr.specs.Read.{many};
-ghost use Rattle.sc_parse_expr.specs.Steps.{some_parts};
+ghost use Rattle.sc_parse_expr.specs.Reading.{some_parts};
 ghost use Rattle.sc_parse_expr.specs.Gives.{Gives};
-ghost use Rattle.sc_parse_expr.specs.Nests.{Nests, below};
+ghost use Rattle.sc_parse_expr.specs.Nests.{ReadsParts, under};
 ghost use Rattle.sc_parse_expr.specs.Read.{read};
 ghost use Rattle.sc_parse_expr.specs.Reading as spec;
 
 use crate::found::{Declared, Found, Phrase, Wanted};
 use crate::grammar::{Grammar, node};
 use sc_base::{Boxed, List, NameId, OutOfMemory, Pos};
-use sc_parse_front::{Cursor, Stop, TypeNames, room_for_one};
+use sc_parse_front::{Cursor, ParseError, TypeNames, room_for_one};
 use sc_tree::expr::{Aggregate, Base, Expr, Member, Part};
 use sc_tree::grammar::{BodyForm, Level, Naming, Piece, Specified};
 use std::alloc::Global;
@@ -52,13 +52,13 @@ fn record_piece(
 
 impl<
     't,
-    F: Fn(Global, &TypeNames, &mut Cursor<'_>, usize, Wanted) -> Result<Found<Phrase>, Stop>,
+    F: Fn(Global, &TypeNames, &mut Cursor<'_>, usize, Wanted) -> Result<Found<Phrase>, ParseError>,
 > Grammar<'t, F> {
     /// A width alone, behind its `:`.
     #[tactic(auto, unfolding(crate::specs::Reading::padding))]
-    fn padding(&self, tokens: &mut Cursor<'_>) -> Result<Found<Part>, Stop>
-        requires { Nests self.now.limit (F.pre self.now.inner) (F.post self.now.inner) }
-        ensures { Gives (spec.padding self.now.types.now self.now.limit (below self.now.types.now self.now.limit) tokens.old) result tokens.new }
+    fn padding(&self, tokens: &mut Cursor<'_>) -> Result<Found<Part>, ParseError>
+        requires { ReadsParts self.now F.pre F.post }
+        ensures { Gives (under self.now spec.padding tokens.old) result tokens.new }
     {
         tokens.advance();
         let width = self.inner_expr(tokens, Level::Choice)?;
@@ -76,9 +76,9 @@ impl<
         &self,
         tokens: &mut Cursor<'_>,
         declared: Found<Declared>,
-    ) -> Result<Found<Part>, Stop>
-        requires { Nests self.now.limit (F.pre self.now.inner) (F.post self.now.inner) }
-        ensures { Gives (spec.with_width self.now.types.now self.now.limit (below self.now.types.now self.now.limit) (read declared.it declared.height tokens.old)) result tokens.new }
+    ) -> Result<Found<Part>, ParseError>
+        requires { ReadsParts self.now F.pre F.post }
+        ensures { Gives (under self.now spec.with_width (read declared.it declared.height tokens.old)) result tokens.new }
     {
         if !tokens.is_colon() {
             return Ok(Found {
@@ -101,9 +101,9 @@ impl<
     }
 
     #[tactic(auto, unfolding(crate::specs::Reading::part))]
-    fn part(&self, tokens: &mut Cursor<'_>) -> Result<Found<Part>, Stop>
-        requires { Nests self.now.limit (F.pre self.now.inner) (F.post self.now.inner) }
-        ensures { Gives (spec.part self.now.types.now self.now.limit (below self.now.types.now self.now.limit) tokens.old) result tokens.new }
+    fn part(&self, tokens: &mut Cursor<'_>) -> Result<Found<Part>, ParseError>
+        requires { ReadsParts self.now F.pre F.post }
+        ensures { Gives (under self.now spec.part tokens.old) result tokens.new }
     {
         if tokens.is_colon() {
             return self.padding(tokens);
@@ -113,9 +113,9 @@ impl<
     }
 
     /// The members of a line, with commas between.
-    fn some_parts(&self, tokens: &mut Cursor<'_>) -> Result<Found<List<Part>>, Stop>
-        requires { Nests self.now.limit (F.pre self.now.inner) (F.post self.now.inner) }
-        ensures { Gives (some_parts self.now.types.now self.now.limit (below self.now.types.now self.now.limit) tokens.old) result tokens.new }
+    fn some_parts(&self, tokens: &mut Cursor<'_>) -> Result<Found<List<Part>>, ParseError>
+        requires { ReadsParts self.now F.pre F.post }
+        ensures { Gives (under self.now some_parts tokens.old) result tokens.new }
     {
         let mut all = room_for_one(self.alloc)?;
         let mut height = 0;
@@ -128,7 +128,7 @@ impl<
             }
             tokens.advance();
         }
-        Err(Stop::Not)
+        Err(ParseError::NoMatch)
     }
 
     #[tactic(auto, unfolding(crate::specs::Reading::parts))]
@@ -136,9 +136,9 @@ impl<
         &self,
         tokens: &mut Cursor<'_>,
         specified: Found<Specified>,
-    ) -> Result<Found<Member>, Stop>
-        requires { Nests self.now.limit (F.pre self.now.inner) (F.post self.now.inner) }
-        ensures { Gives (spec.parts self.now.types.now self.now.limit (below self.now.types.now self.now.limit) (read specified.it specified.height tokens.old)) result tokens.new }
+    ) -> Result<Found<Member>, ParseError>
+        requires { ReadsParts self.now F.pre F.post }
+        ensures { Gives (under self.now spec.parts (read specified.it specified.height tokens.old)) result tokens.new }
     {
         let parts = self.some_parts(tokens)?;
         tokens.pass_semicolon()?;
@@ -156,11 +156,11 @@ impl<
         &self,
         tokens: &mut Cursor<'_>,
         specified: Found<Specified>,
-    ) -> Result<Found<Member>, Stop>
-        ensures { Gives (spec.lone_member self.now.types.now self.now.limit (below self.now.types.now self.now.limit) specified.it.form (read specified.it specified.height tokens.old)) result tokens.new }
+    ) -> Result<Found<Member>, ParseError>
+        ensures { Gives (under self.now spec.lone_member specified.it.form (read specified.it specified.height tokens.old)) result tokens.new }
     {
         if !matches!(specified.it.form, BodyForm::Untagged) {
-            return Err(Stop::Not);
+            return Err(ParseError::NoMatch);
         }
         tokens.advance();
         Ok(Found {
@@ -173,9 +173,9 @@ impl<
     }
 
     #[tactic(auto, unfolding(crate::specs::Reading::member))]
-    fn member(&self, tokens: &mut Cursor<'_>) -> Result<Found<Member>, Stop>
-        requires { Nests self.now.limit (F.pre self.now.inner) (F.post self.now.inner) }
-        ensures { Gives (spec.member self.now.types.now self.now.limit (below self.now.types.now self.now.limit) tokens.old) result tokens.new }
+    fn member(&self, tokens: &mut Cursor<'_>) -> Result<Found<Member>, ParseError>
+        requires { ReadsParts self.now F.pre F.post }
+        ensures { Gives (under self.now spec.member tokens.old) result tokens.new }
     {
         let specified = self.inner_specs(tokens)?;
         if tokens.is_semicolon() {
@@ -186,9 +186,9 @@ impl<
     }
 
     /// All lines up to the closing brace.
-    fn members(&self, tokens: &mut Cursor<'_>) -> Result<Found<List<Member>>, Stop>
-        requires { Nests self.now.limit (F.pre self.now.inner) (F.post self.now.inner) }
-        ensures { Gives (many (spec.member self.now.types.now self.now.limit (below self.now.types.now self.now.limit)) spec.with_item is_right_brace (length tokens.old) [] 0 tokens.old) result tokens.new }
+    fn members(&self, tokens: &mut Cursor<'_>) -> Result<Found<List<Member>>, ParseError>
+        requires { ReadsParts self.now F.pre F.post }
+        ensures { Gives (many (under self.now spec.member) spec.with_item is_right_brace (length tokens.old) [] 0 tokens.old) result tokens.new }
     {
         let mut all = List::new(self.alloc);
         let mut height = 0;
@@ -201,7 +201,7 @@ impl<
             height = height.max(found.height);
         }
         if !tokens.is_right_brace() {
-            return Err(Stop::Not);
+            return Err(ParseError::NoMatch);
         }
         Ok(Found { it: all, height })
     }
@@ -213,9 +213,9 @@ impl<
         union: bool,
         pos: Pos,
         tag: Option<NameId>,
-    ) -> Result<Found<Piece>, Stop>
-        requires { Nests self.now.limit (F.pre self.now.inner) (F.post self.now.inner) }
-        ensures { Gives (spec.record_body self.now.types.now self.now.limit (below self.now.types.now self.now.limit) union pos tag tokens.old) result tokens.new }
+    ) -> Result<Found<Piece>, ParseError>
+        requires { ReadsParts self.now F.pre F.post }
+        ensures { Gives (under self.now spec.record_body union pos tag tokens.old) result tokens.new }
     {
         let members = self.members(tokens)?;
         tokens.advance();
@@ -231,9 +231,9 @@ impl<
         union: bool,
         pos: Pos,
         tag: NameId,
-    ) -> Result<Found<Piece>, Stop>
-        requires { Nests self.now.limit (F.pre self.now.inner) (F.post self.now.inner) }
-        ensures { Gives (spec.tagged_record self.now.types.now self.now.limit (below self.now.types.now self.now.limit) union pos tag tokens.old) result tokens.new }
+    ) -> Result<Found<Piece>, ParseError>
+        requires { ReadsParts self.now F.pre F.post }
+        ensures { Gives (under self.now spec.tagged_record union pos tag tokens.old) result tokens.new }
     {
         if tokens.is_left_brace() {
             tokens.advance();
@@ -252,9 +252,9 @@ impl<
         tokens: &mut Cursor<'_>,
         union: bool,
         pos: Pos,
-    ) -> Result<Found<Piece>, Stop>
-        requires { Nests self.now.limit (F.pre self.now.inner) (F.post self.now.inner) }
-        ensures { Gives (spec.record_by self.now.types.now self.now.limit (below self.now.types.now self.now.limit) union pos (front_word tokens.old) tokens.old) result tokens.new }
+    ) -> Result<Found<Piece>, ParseError>
+        requires { ReadsParts self.now F.pre F.post }
+        ensures { Gives (under self.now spec.record_by union pos (front_word tokens.old) tokens.old) result tokens.new }
     {
         if let Some(tag) = tokens.word() {
             let place = tokens.first_pos();
@@ -262,7 +262,7 @@ impl<
             return self.tagged_record(tokens, union, place, tag);
         }
         if !tokens.is_left_brace() {
-            return Err(Stop::Not);
+            return Err(ParseError::NoMatch);
         }
         tokens.advance();
         self.record_body(tokens, union, pos, None)

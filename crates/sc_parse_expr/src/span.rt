@@ -8,7 +8,7 @@ ghost use Rattle.sc_parse_expr.specs.Spans.{Answers, IsParsed};
 
 use crate::parse::read_expr;
 use sc_base::OutOfMemory;
-use sc_parse_front::{Cursor, Stop, TypeNames};
+use sc_parse_front::{Cursor, ParseError, TypeNames};
 use sc_tree::expr::Expr;
 use sc_tree::grammar::Level;
 use sc_tree::{Token, Tokens};
@@ -39,8 +39,8 @@ fn all_of(alloc: Global, span: &[Token], types: &TypeNames) -> Result<Parsed<Exp
                 Ok(Parsed::Not)
             }
         }
-        Err(Stop::Not) => Ok(Parsed::Not),
-        Err(Stop::Memory) => Err(OutOfMemory),
+        Err(ParseError::NoMatch) => Ok(Parsed::Not),
+        Err(ParseError::Memory) => Err(OutOfMemory),
     }
 }
 

@@ -2,16 +2,16 @@
 
 ghost use Rattle.std.specs.Prelude.{◌≡◌};
 ghost use Rattle.sc_parse_front.specs.Front.{front, suffix};
-ghost use Rattle.sc_parse_expr.specs.Steps.{one_suffix, some_arguments};
+ghost use Rattle.sc_parse_expr.specs.Reading.{one_suffix, some_arguments};
 ghost use Rattle.sc_parse_expr.specs.Gives.{Gives};
-ghost use Rattle.sc_parse_expr.specs.Nests.{Nests, below};
+ghost use Rattle.sc_parse_expr.specs.Nests.{ReadsParts, under};
 ghost use Rattle.sc_parse_expr.specs.Read.{read};
 ghost use Rattle.sc_parse_expr.specs.Reading as spec;
 
 use crate::found::{Found, Operand, Phrase, Wanted};
 use crate::grammar::Grammar;
 use sc_base::{List, Pos};
-use sc_parse_front::{Cursor, Stop, TypeNames, room_for_one};
+use sc_parse_front::{Cursor, ParseError, TypeNames, room_for_one};
 use sc_tree::Punct;
 use sc_tree::expr::{Expr, Place};
 use sc_tree::grammar::Level;
@@ -20,7 +20,7 @@ use std::alloc::Global;
 
 impl<
     't,
-    F: Fn(Global, &TypeNames, &mut Cursor<'_>, usize, Wanted) -> Result<Found<Phrase>, Stop>,
+    F: Fn(Global, &TypeNames, &mut Cursor<'_>, usize, Wanted) -> Result<Found<Phrase>, ParseError>,
 > Grammar<'t, F> {
     /// An operand with an index behind it.
     #[tactic(auto, unfolding(crate::specs::Reading::indexed))]
@@ -29,9 +29,9 @@ impl<
         tokens: &mut Cursor<'_>,
         begin: Pos,
         a: Found<Operand>,
-    ) -> Result<Found<Operand>, Stop>
-        requires { Nests self.now.limit (F.pre self.now.inner) (F.post self.now.inner) }
-        ensures { Gives (spec.indexed self.now.types.now self.now.limit (below self.now.types.now self.now.limit) begin (read a.it a.height tokens.old)) result tokens.new }
+    ) -> Result<Found<Operand>, ParseError>
+        requires { ReadsParts self.now F.pre F.post }
+        ensures { Gives (under self.now spec.indexed begin (read a.it a.height tokens.old)) result tokens.new }
     {
         let place = Place {
             token: tokens.first_pos(),
@@ -45,9 +45,9 @@ impl<
     }
 
     /// Arguments with commas between, at least one.
-    fn some_arguments(&self, tokens: &mut Cursor<'_>) -> Result<Found<List<Expr>>, Stop>
-        requires { Nests self.now.limit (F.pre self.now.inner) (F.post self.now.inner) }
-        ensures { Gives (some_arguments self.now.types.now self.now.limit (below self.now.types.now self.now.limit) tokens.old) result tokens.new }
+    fn some_arguments(&self, tokens: &mut Cursor<'_>) -> Result<Found<List<Expr>>, ParseError>
+        requires { ReadsParts self.now F.pre F.post }
+        ensures { Gives (under self.now some_arguments tokens.old) result tokens.new }
     {
         let mut all = room_for_one(self.alloc)?;
         let mut height = 0;
@@ -60,14 +60,14 @@ impl<
             }
             tokens.advance();
         }
-        Err(Stop::Not)
+        Err(ParseError::NoMatch)
     }
 
     /// What stands between the brackets of a call.
     #[tactic(auto, unfolding(crate::specs::Reading::arguments))]
-    fn arguments(&self, tokens: &mut Cursor<'_>) -> Result<Found<List<Expr>>, Stop>
-        requires { Nests self.now.limit (F.pre self.now.inner) (F.post self.now.inner) }
-        ensures { Gives (spec.arguments self.now.types.now self.now.limit (below self.now.types.now self.now.limit) tokens.old) result tokens.new }
+    fn arguments(&self, tokens: &mut Cursor<'_>) -> Result<Found<List<Expr>>, ParseError>
+        requires { ReadsParts self.now F.pre F.post }
+        ensures { Gives (under self.now spec.arguments tokens.old) result tokens.new }
     {
         if tokens.is_right_paren() {
             return Ok(Found {
@@ -85,9 +85,9 @@ impl<
         tokens: &mut Cursor<'_>,
         begin: Pos,
         a: Found<Operand>,
-    ) -> Result<Found<Operand>, Stop>
-        requires { Nests self.now.limit (F.pre self.now.inner) (F.post self.now.inner) }
-        ensures { Gives (spec.calling self.now.types.now self.now.limit (below self.now.types.now self.now.limit) begin (read a.it a.height tokens.old)) result tokens.new }
+    ) -> Result<Found<Operand>, ParseError>
+        requires { ReadsParts self.now F.pre F.post }
+        ensures { Gives (under self.now spec.calling begin (read a.it a.height tokens.old)) result tokens.new }
     {
         let place = Place {
             token: tokens.first_pos(),
@@ -108,12 +108,12 @@ impl<
         begin: Pos,
         arrow: bool,
         a: Found<Operand>,
-    ) -> Result<Found<Operand>, Stop>
-        ensures { Gives (spec.fielded self.now.types.now self.now.limit (below self.now.types.now self.now.limit) begin arrow (read a.it a.height tokens.old)) result tokens.new }
+    ) -> Result<Found<Operand>, ParseError>
+        ensures { Gives (under self.now spec.fielded begin arrow (read a.it a.height tokens.old)) result tokens.new }
     {
         tokens.advance();
         let Some(word) = tokens.word() else {
-            return Err(Stop::Not);
+            return Err(ParseError::NoMatch);
         };
         let place = Place {
             token: tokens.first_pos(),
@@ -131,8 +131,8 @@ impl<
         begin: Pos,
         by: Step,
         a: Found<Operand>,
-    ) -> Result<Found<Operand>, Stop>
-        ensures { Gives (spec.stepped self.now.types.now self.now.limit (below self.now.types.now self.now.limit) begin by (read a.it a.height tokens.old)) result tokens.new }
+    ) -> Result<Found<Operand>, ParseError>
+        ensures { Gives (under self.now spec.stepped begin by (read a.it a.height tokens.old)) result tokens.new }
     {
         let place = Place {
             token: tokens.first_pos(),
@@ -148,9 +148,9 @@ impl<
         tokens: &mut Cursor<'_>,
         begin: Pos,
         a: Found<Operand>,
-    ) -> Result<Found<Operand>, Stop>
-        requires { Nests self.now.limit (F.pre self.now.inner) (F.post self.now.inner) }
-        ensures { Gives (one_suffix self.now.types.now self.now.limit (below self.now.types.now self.now.limit) begin (suffix (front tokens.old)) (read a.it a.height tokens.old)) result tokens.new }
+    ) -> Result<Found<Operand>, ParseError>
+        requires { ReadsParts self.now F.pre F.post }
+        ensures { Gives (under self.now one_suffix begin (suffix (front tokens.old)) (read a.it a.height tokens.old)) result tokens.new }
     {
         match tokens.front() {
             Some(Punct::LeftBracket) => self.indexed(tokens, begin, a),
@@ -159,7 +159,7 @@ impl<
             Some(Punct::Arrow) => self.fielded(tokens, begin, true, a),
             Some(Punct::PlusPlus) => self.stepped(tokens, begin, Step::Up, a),
             Some(Punct::MinusMinus) => self.stepped(tokens, begin, Step::Down, a),
-            _ => Err(Stop::Not),
+            _ => Err(ParseError::NoMatch),
         }
     }
 
@@ -169,9 +169,9 @@ impl<
         tokens: &mut Cursor<'_>,
         begin: Pos,
         first: Found<Operand>,
-    ) -> Result<Found<Operand>, Stop>
-        requires { Nests self.now.limit (F.pre self.now.inner) (F.post self.now.inner) }
-        ensures { Gives (spec.suffixes self.now.types.now self.now.limit (below self.now.types.now self.now.limit) self.now.limit begin (read first.it first.height tokens.old)) result tokens.new }
+    ) -> Result<Found<Operand>, ParseError>
+        requires { ReadsParts self.now F.pre F.post }
+        ensures { Gives (under self.now spec.suffixes self.now.limit begin (read first.it first.height tokens.old)) result tokens.new }
     {
         let mut a = first;
         for _turn in 0..self.limit {
@@ -181,15 +181,15 @@ impl<
             a = self.suffixed(tokens, begin, a)?;
         }
         if tokens.has_suffix() {
-            return Err(Stop::Not);
+            return Err(ParseError::NoMatch);
         }
         Ok(a)
     }
 
     #[tactic(auto, unfolding(crate::specs::Reading::postfix))]
-    pub(crate) fn postfix(&self, tokens: &mut Cursor<'_>) -> Result<Found<Operand>, Stop>
-        requires { Nests self.now.limit (F.pre self.now.inner) (F.post self.now.inner) }
-        ensures { Gives (spec.postfix self.now.types.now self.now.limit (below self.now.types.now self.now.limit) tokens.old) result tokens.new }
+    pub(crate) fn postfix(&self, tokens: &mut Cursor<'_>) -> Result<Found<Operand>, ParseError>
+        requires { ReadsParts self.now F.pre F.post }
+        ensures { Gives (under self.now spec.postfix tokens.old) result tokens.new }
     {
         let begin = tokens.first_pos();
         let a = self.primary(tokens)?;

@@ -13,13 +13,15 @@ pub is_type_at : (keys : List ℕ) (w : NameId) → is_type (map name_at keys) w
 is_type_at [] w = refl
 is_type_at (k ∷ keys) w = ap (λ b. b || is_type (map name_at keys) w) (nat_eq_equiv.symm k w.at) ∙ ap (λ b. nat_eq w.at k || b) (is_type_at keys w)
 
-declared_by : (b : Bool) (keys : List ℕ) (w : NameId) → map name_at (if b then keys else keys ++ w.at ∷ []) ≡ (if b then map name_at keys else map name_at keys ++ w ∷ [])
+declared_by : (b : Bool) (keys : List ℕ) (w : NameId) → map name_at (if b then keys else keys ++ w.at ∷ [])
+    ≡ (if b then map name_at keys else map name_at keys ++ w ∷ [])
 declared_by true keys w = refl
 declared_by false keys w = map-append name_at keys (w.at ∷ [])
 
 pub name_declared : (keys new : List ℕ) (w : NameId) → new ≡ insert_key nat_eq keys w.at → map name_at new ≡ with_type (map name_at keys) w
 name_declared keys new w is =
-    ap (map name_at) is ∙ declared_by (list_any (nat_eq w.at) keys) keys w ∙ ap (λ b. if b then map name_at keys else map name_at keys ++ w ∷ []) (sym (is_type_at keys w))
+    ap (map name_at) is ∙ declared_by (list_any (nat_eq w.at) keys) keys w
+    ∙ ap (λ b. if b then map name_at keys else map name_at keys ++ w ∷ []) (sym (is_type_at keys w))
 
 pub names_kept : (n : ℕ) (keys new : List ℕ) → new ≡ take n keys → map name_at new ≡ take n (map name_at keys)
 names_kept n keys new is = ap (map name_at) is ∙ sym (take-map name_at n keys)

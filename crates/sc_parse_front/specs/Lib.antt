@@ -1,4 +1,4 @@
+pub mod Error
 pub mod Front
 pub mod Start
-pub mod Stop
 pub mod TypeNames

@@ -2,10 +2,10 @@
 
 ghost use Rattle.std.specs.Prelude.{◌≡◌};
 ghost use Rattle.sc_parse_front.specs.Front as spec;
-ghost use Rattle.sc_parse_front.specs.Stop.{Passes};
+ghost use Rattle.sc_parse_front.specs.Error.{Passes};
 
 use crate::cursor::Cursor;
-use crate::stop::Stop;
+use crate::error::ParseError;
 use sc_tree::{Punct, Reserved};
 
 impl<'a> Cursor<'a> {
@@ -115,18 +115,18 @@ impl<'a> Cursor<'a> {
     }
 
     /// Goes behind the first token where it was found to be the wanted one.
-    pub fn pass(&mut self, found: bool) -> Result<(), Stop>
+    pub fn pass(&mut self, found: bool) -> Result<(), ParseError>
         ensures { Passes found result self.old self.new }
     {
         if !found {
-            return Err(Stop::Not);
+            return Err(ParseError::NoMatch);
         }
         self.advance();
         Ok(())
     }
 
     /// Goes behind a `)`, which is to stand at the front.
-    pub fn pass_right_paren(&mut self) -> Result<(), Stop>
+    pub fn pass_right_paren(&mut self) -> Result<(), ParseError>
         ensures { Passes (spec.is_right_paren (spec.front self.old)) result self.old self.new }
     {
         let found = self.is_right_paren();
@@ -134,7 +134,7 @@ impl<'a> Cursor<'a> {
     }
 
     /// Goes behind a `]`, which is to stand at the front.
-    pub fn pass_right_bracket(&mut self) -> Result<(), Stop>
+    pub fn pass_right_bracket(&mut self) -> Result<(), ParseError>
         ensures { Passes (spec.is_right_bracket (spec.front self.old)) result self.old self.new }
     {
         let found = self.is_right_bracket();
@@ -142,7 +142,7 @@ impl<'a> Cursor<'a> {
     }
 
     /// Goes behind a `}`, which is to stand at the front.
-    pub fn pass_right_brace(&mut self) -> Result<(), Stop>
+    pub fn pass_right_brace(&mut self) -> Result<(), ParseError>
         ensures { Passes (spec.is_right_brace (spec.front self.old)) result self.old self.new }
     {
         let found = self.is_right_brace();
@@ -150,7 +150,7 @@ impl<'a> Cursor<'a> {
     }
 
     /// Goes behind a `:`, which is to stand at the front.
-    pub fn pass_colon(&mut self) -> Result<(), Stop>
+    pub fn pass_colon(&mut self) -> Result<(), ParseError>
         ensures { Passes (spec.is_colon (spec.front self.old)) result self.old self.new }
     {
         let found = self.is_colon();
@@ -158,7 +158,7 @@ impl<'a> Cursor<'a> {
     }
 
     /// Goes behind a `;`, which is to stand at the front.
-    pub fn pass_semicolon(&mut self) -> Result<(), Stop>
+    pub fn pass_semicolon(&mut self) -> Result<(), ParseError>
         ensures { Passes (spec.is_semicolon (spec.front self.old)) result self.old self.new }
     {
         let found = self.is_semicolon();

@@ -4,9 +4,9 @@ ghost use Rattle.std.specs.Prelude.{◌≡◌};
 ghost use Rattle.sc_tree.specs.TypeWords as words;
 ghost use Rattle.sc_tree.specs.Specifiers as specifiers;
 ghost use Rattle.sc_tree.specs.declared.grammar.Piece.TheVariants as piece;
-ghost use Rattle.sc_parse_front.specs.Stop.{Makes};
+ghost use Rattle.sc_parse_front.specs.Error.{Makes};
 
-use crate::stop::Stop;
+use crate::error::ParseError;
 use sc_base::List;
 use sc_tree::ctype::{CType, IntKind, OpaqueKind};
 use sc_tree::expr::{Base, Specs, Storage};
@@ -199,7 +199,7 @@ pub fn no_pieces(alloc: Global) -> Gathered
     }
 }
 
-fn with_storage(gathered: Gathered, word: Storage) -> Result<Gathered, Stop>
+fn with_storage(gathered: Gathered, word: Storage) -> Result<Gathered, ParseError>
     ensures { Makes (specifiers.with_piece gathered (piece.Storage word)) result }
 {
     let Gathered {
@@ -230,17 +230,17 @@ fn typed_whole(so_far: SoFar, base: Base, form: BodyForm) -> Option<SoFar>
     }
 }
 
-fn with_type(storage: List<Storage>, so_far: Option<SoFar>) -> Result<Gathered, Stop>
+fn with_type(storage: List<Storage>, so_far: Option<SoFar>) -> Result<Gathered, ParseError>
     ensures { Makes (specifiers.gathered_as storage so_far) result }
 {
     match so_far {
         Some(so_far) => Ok(Gathered { storage, so_far }),
-        None => Err(Stop::Not),
+        None => Err(ParseError::NoMatch),
     }
 }
 
 /// One piece more.
-pub fn with_piece(gathered: Gathered, piece: Piece) -> Result<Gathered, Stop>
+pub fn with_piece(gathered: Gathered, piece: Piece) -> Result<Gathered, ParseError>
     ensures { Makes (specifiers.with_piece gathered piece) result }
 {
     match piece {
@@ -275,15 +275,15 @@ fn specified(storage: List<Storage>, base: Base, form: BodyForm) -> Specified
 }
 
 /// The specifiers that the pieces make, which have a type always.
-pub fn finished(gathered: Gathered) -> Result<Specified, Stop>
+pub fn finished(gathered: Gathered) -> Result<Specified, ParseError>
     ensures { Makes (specifiers.finished gathered) result }
 {
     let Gathered { storage, so_far } = gathered;
     match so_far {
-        SoFar::Untyped => Err(Stop::Not),
+        SoFar::Untyped => Err(ParseError::NoMatch),
         SoFar::Words(words) => match type_of(words) {
             Some(base) => Ok(specified(storage, Base::Words(base), BodyForm::NoBody)),
-            None => Err(Stop::Not),
+            None => Err(ParseError::NoMatch),
         },
         SoFar::Typed(base, form) => Ok(specified(storage, base, form)),
     }

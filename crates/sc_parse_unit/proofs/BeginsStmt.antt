@@ -20,7 +20,8 @@ use Rattle.sc_tree.specs.Operators.{Binding, binary, step, assign, field}
 use Rattle.sc_tree.specs.Tokens.{token, word, punct, reserved, is_type}
 use Rattle.sc_tree.specs.Grammar as g
 use Rattle.sc_tree.specs.Grammar.{may_lack, Strings, one_string, more_strings, Spells, Specifies, pieces, Pieces, no_piece, more_pieces, APiece, Declares}
-use Rattle.sc_parse_front.specs.Front.{punct_of, word_of, reserved_of, front, front_word, front_reserved, behind, is_right_paren, is_left_brace, is_right_brace, is_colon, is_semicolon, is_type_word, begins_piece, begins_type}
+use Rattle.sc_parse_front.specs.Front.{punct_of, word_of, reserved_of, front, front_word, front_reserved, behind, is_right_paren}
+use Rattle.sc_parse_front.specs.Front.{is_left_brace, is_right_brace, is_colon, is_semicolon, is_type_word, begins_piece, begins_type}
 use Rattle.sc_parse_expr.specs.Laws.{opens_expr, BeginsExpr, BeginsSpecs, opens_declarator, BeginsDeclarator}
 use Rattle.sc_parse_unit.specs.Reading.{begins_designator, label_at, keyword, NoKeyword, marker, NoMarker}
 
@@ -55,7 +56,8 @@ strings_no_label (one_string x p) rest = no_word_no_label (token (k.Str x) p ∷
 strings_no_label (more_strings {s = s} x p more) rest = no_word_no_label (token (k.Str x) p ∷ (s ++ rest)) refl
 
 -- no expression begins as a label does: what follows its first word is no colon, inside or behind it
-pub expr_no_label : (types : List NameId) {level : Level} {h : ℕ} {t : Expr} {s : List Token} → Spells types level h t s → (rest : List Token) → is_colon (front rest) ≡ false
+pub expr_no_label : (types : List NameId) {level : Level} {h : ℕ} {t : Expr} {s : List Token} → Spells types level h t s
+    → (rest : List Token) → is_colon (front rest) ≡ false
     → label_at (s ++ rest) ≡ None
 expr_no_label types (g.a_name w p e) rest end = rw end refl
 expr_no_label types (g.an_int i p) rest end = no_word_no_label (token (k.Int i) p ∷ rest) refl
@@ -72,7 +74,8 @@ expr_no_label types (g.a_postfix d) rest end = expr_no_label types d rest end
 expr_no_label types (g.a_unary {s = s} o op p e d) rest end = no_word_no_label (punct o p ∷ (s ++ rest)) refl
 expr_no_label types (g.a_step_before {s = s} o by p e d) rest end = no_word_no_label (punct o p ∷ (s ++ rest)) refl
 expr_no_label types (g.a_size {s = s} p d) rest end = no_word_no_label (reserved key.Sizeof p ∷ (s ++ rest)) refl
-expr_no_label types (g.a_size_of_type {s = s} p q o d) rest end = no_word_no_label (reserved key.Sizeof p ∷ punct sign.LeftParen q ∷ ((s ++ punct sign.RightParen o ∷ []) ++ rest)) refl
+expr_no_label types (g.a_size_of_type {s = s} p q o d) rest end =
+    no_word_no_label (reserved key.Sizeof p ∷ punct sign.LeftParen q ∷ ((s ++ punct sign.RightParen o ∷ []) ++ rest)) refl
 expr_no_label types (g.a_prefix d) rest end = expr_no_label types d rest end
 expr_no_label types (g.a_cast {s = s} {r = r} p q d x) rest end = no_word_no_label (punct sign.LeftParen p ∷ ((s ++ punct sign.RightParen q ∷ r) ++ rest)) refl
 expr_no_label types (g.an_operand d) rest end = expr_no_label types d rest end
@@ -108,11 +111,15 @@ piece_no_label (g.a_storage_word w x p e) rest end = no_word_no_label (reserved 
 piece_no_label (g.a_type_word w x p e) rest end = no_word_no_label (reserved w p ∷ rest) refl
 piece_no_label (g.a_typedef_name w p e) rest end = rw end refl
 piece_no_label (g.a_record w u tag p q e) rest end = no_word_no_label (reserved w p ∷ word tag q ∷ rest) refl
-piece_no_label (g.a_record_body {s = s} w u p q o e m) rest end = no_word_no_label (reserved w p ∷ punct sign.LeftBrace q ∷ ((s ++ punct sign.RightBrace o ∷ []) ++ rest)) refl
-piece_no_label (g.a_record_whole {s = s} w u tag p q o v e m) rest end = no_word_no_label (reserved w p ∷ word tag q ∷ punct sign.LeftBrace o ∷ ((s ++ punct sign.RightBrace v ∷ []) ++ rest)) refl
+piece_no_label (g.a_record_body {s = s} w u p q o e m) rest end =
+    no_word_no_label (reserved w p ∷ punct sign.LeftBrace q ∷ ((s ++ punct sign.RightBrace o ∷ []) ++ rest)) refl
+piece_no_label (g.a_record_whole {s = s} w u tag p q o v e m) rest end =
+    no_word_no_label (reserved w p ∷ word tag q ∷ punct sign.LeftBrace o ∷ ((s ++ punct sign.RightBrace v ∷ []) ++ rest)) refl
 piece_no_label (g.an_enum tag p q) rest end = no_word_no_label (reserved key.Enum p ∷ word tag q ∷ rest) refl
-piece_no_label (g.an_enum_body {s = s} p q o m) rest end = no_word_no_label (reserved key.Enum p ∷ punct sign.LeftBrace q ∷ ((s ++ punct sign.RightBrace o ∷ []) ++ rest)) refl
-piece_no_label (g.an_enum_whole {s = s} tag p q o v m) rest end = no_word_no_label (reserved key.Enum p ∷ word tag q ∷ punct sign.LeftBrace o ∷ ((s ++ punct sign.RightBrace v ∷ []) ++ rest)) refl
+piece_no_label (g.an_enum_body {s = s} p q o m) rest end = no_word_no_label
+    (reserved key.Enum p ∷ punct sign.LeftBrace q ∷ ((s ++ punct sign.RightBrace o ∷ []) ++ rest)) refl
+piece_no_label (g.an_enum_whole {s = s} tag p q o v m) rest end =
+    no_word_no_label (reserved key.Enum p ∷ word tag q ∷ punct sign.LeftBrace o ∷ ((s ++ punct sign.RightBrace v ∷ []) ++ rest)) refl
 
 -- ---- the first token
 
@@ -222,7 +229,8 @@ specs_no_end {types = types} b rest = of_specs (λ z. is_end (front z)) false b 
 pub specs_type : {types : List NameId} {s : List Token} → BeginsSpecs types s → (rest : List Token) → begins_type types (s ++ rest) ≡ true
 specs_type {types = types} b rest = of_specs (λ z. begins_type types z) true b (λ t ts e. e) rest
 
-specs_kind_no_marker : (types : List NameId) (x : Kind) → (begins_piece (reserved_of x) || is_type_word types (word_of x)) ≡ true → marker (reserved_of x) ≡ NoMarker
+specs_kind_no_marker : (types : List NameId) (x : Kind) → (begins_piece (reserved_of x) || is_type_word types (word_of x)) ≡ true
+    → marker (reserved_of x) ≡ NoMarker
 specs_kind_no_marker types (k.Reserved key.Case) e = absurd cc
 specs_kind_no_marker types (k.Reserved key.Default) e = absurd cc
 specs_kind_no_marker types (k.Reserved _) e = refl
@@ -231,7 +239,8 @@ specs_kind_no_marker types _ e = refl
 pub specs_no_marker : {types : List NameId} {s : List Token} → BeginsSpecs types s → (rest : List Token) → marker (front_reserved (s ++ rest)) ≡ NoMarker
 specs_no_marker {types = types} b rest = of_specs (λ z. marker (front_reserved z)) NoMarker b (λ t ts e. specs_kind_no_marker types t.kind e) rest
 
-pub specs_no_label : {types : List NameId} {h : ℕ} {f : Specified} {s : List Token} → Specifies types h f s → BeginsSpecs types s → (rest : List Token) → is_colon (front rest) ≡ false
+pub specs_no_label : {types : List NameId} {h : ℕ} {f : Specified} {s : List Token} → Specifies types h f s → BeginsSpecs types s
+    → (rest : List Token) → is_colon (front rest) ≡ false
     → label_at (s ++ rest) ≡ None
 specs_no_label (pieces ps e x) b rest end = by ps b
   where

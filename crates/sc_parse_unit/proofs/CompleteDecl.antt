@@ -1,5 +1,6 @@
 -- What is spelled is read: declarations in a body.
-use Rattle.std.proofs.Common.{◌≡◌, ℕ, ◌≤◌, max, true, false, List, [], ◌∷◌, ◌++◌, length, Some, None, refl, sym, ap, ap₂, subst, ◌∙◌, append_assoc, arith, length-append}
+use Rattle.std.proofs.Common.{◌≡◌, ℕ, ◌≤◌, max, true, false, List, [], ◌∷◌, ◌++◌, length, Some, None, refl, sym, ap, ap₂, subst, ◌∙◌}
+use Rattle.std.proofs.Common.{append_assoc, arith, length-append}
 use Rattle.sc_base.specs.declared.pos.Pos.{Pos}
 use Rattle.sc_base.specs.declared.pos.NameId.{NameId}
 use Rattle.sc_tree.specs.declared.token.Token.{Token}
@@ -14,7 +15,8 @@ use Rattle.sc_tree.specs.declared.grammar.Core.{Core}
 use Rattle.sc_tree.specs.declared.grammar.Specified.{Specified}
 use Rattle.sc_tree.specs.Tokens.{punct, first_pos}
 use Rattle.sc_tree.specs.Grammar.{Declares}
-use Rattle.sc_tree.specs.Statements.{AnInitDeclarator, uninitialised, initialised, InitDeclarators, one_declared, more_declared, IsPlain, ADeclaration, without_declarators, with_declarators}
+use Rattle.sc_tree.specs.Statements.{AnInitDeclarator, uninitialised, initialised, InitDeclarators, one_declared, more_declared, IsPlain}
+use Rattle.sc_tree.specs.Statements.{ADeclaration, without_declarators, with_declarators}
 use Rattle.sc_parse_front.specs.Front.{front, is_equals}
 use Rattle.sc_parse_expr.specs.Read.{read, commas}
 use Rattle.sc_parse_expr.specs.Reading.{declared, with_item, never}
@@ -64,7 +66,8 @@ decl_no_label {types = types} (without_declarators {s = s} p d plain) rest =
     rw (append_assoc s (punct sign.Semicolon p ∷ []) rest) (specs_no_label d (begins_specs types _ _ _ d) (punct sign.Semicolon p ∷ rest) refl)
 decl_no_label {types = types} (with_declarators {s = s} {r = r} p d plain xs) rest =
     rw (append_assoc s (r ++ punct sign.Semicolon p ∷ []) rest, append_assoc r (punct sign.Semicolon p ∷ []) rest)
-    (specs_no_label d (begins_specs types _ _ _ d) (r ++ punct sign.Semicolon p ∷ rest) (no_colon _ (declarator_no_end (parts_begin xs) (punct sign.Semicolon p ∷ rest))))
+    (specs_no_label d (begins_specs types _ _ _ d) (r ++ punct sign.Semicolon p ∷ rest)
+    (no_colon _ (declarator_no_end (parts_begin xs) (punct sign.Semicolon p ∷ rest))))
 
 -- ---- declarators with their initialisers
 
@@ -85,7 +88,8 @@ pub with_no_init : (types : List NameId) (limit : ℕ) (t : Declarator) (c : Cor
 unfolding with_init
 with_no_init types limit t c h rest e = rw e refl
 
-pub with_some_init : (types : List NameId) (limit : ℕ) (t : Declarator) (c : Core) (h m : ℕ) (i : Init) (p : Pos) (r rest : List Token) → initialiser types limit (r ++ rest) ≡ Some (read i m rest)
+pub with_some_init : (types : List NameId) (limit : ℕ) (t : Declarator) (c : Core) (h m : ℕ) (i : Init) (p : Pos) (r rest : List Token)
+    → initialiser types limit (r ++ rest) ≡ Some (read i m rest)
     → with_init types limit (read (declared t c) h (punct sign.Assign p ∷ (r ++ rest))) ≡ Some (read (declared_as t (Some i)) (max h m) rest)
 unfolding with_init
 with_some_init types limit t c h m i p r rest e = rw e refl
@@ -97,10 +101,15 @@ module _ (types : List NameId) (known : (limit : ℕ) → below.IsComplete types
   part_read (uninitialised {c = c} {h = h} {t = t} {s = s} d) low rest ends =
       rw ((known limit).declarator naming.Required c h t s rest d low ends.declarator) (with_no_init types limit t c h rest ends.plain)
   part_read (initialised {c = c} {h = h} {m = m} {t = t} {i = i} {s = s} {r = r} p d x) low rest ends =
-      rw (append_assoc s (punct sign.Assign p ∷ r) rest, (known limit).declarator naming.Required c h t s (punct sign.Assign p ∷ (r ++ rest)) d (omega arith) refl)
+      rw (
+        append_assoc s (punct sign.Assign p ∷ r) rest,
+        (known limit).declarator naming.Required c h t s
+            (punct sign.Assign p ∷ (r ++ rest)) d (omega arith) refl,
+      )
       (with_some_init types limit t c h m i p r rest (initialiser_read types known limit m i r rest x (omega arith) ends.init))
 
-  parts_read : {m : ℕ} {xs : List InitDeclarator} {s : List Token} → InitDeclarators types m xs s → m ≤ limit → (n : ℕ) → length s ≤ n → (ys : List InitDeclarator) (h : ℕ) (q : Pos) (rest : List Token)
+  parts_read : {m : ℕ} {xs : List InitDeclarator} {s : List Token} → InitDeclarators types m xs s → m ≤ limit → (n : ℕ) → length s ≤ n
+      → (ys : List InitDeclarator) (h : ℕ) (q : Pos) (rest : List Token)
       → commas (init_declarator types limit) with_item never n ys h (s ++ punct sign.Semicolon q ∷ rest)
       ≡ Some (read (record { items = ys ++ xs; comma = false }) (max h m) (punct sign.Semicolon q ∷ rest))
   parts_read (one_declared {h = m} {x = x} {s = s} d) low n room ys h q rest =
@@ -117,14 +126,16 @@ module _ (types : List NameId) (known : (limit : ℕ) → below.IsComplete types
       (part_read d (omega arith) (punct sign.Comma p ∷ (r ++ end)) (behind_comma p (r ++ end))) refl in
       let others = parts_read more (omega arith) turn.0 (omega (arith, room, long, same)) (ys ++ x ∷ []) (max h m) q rest in
       rw (same, append_assoc s (punct sign.Comma p ∷ r) end)
-      (step ∙ (others ∙ ap₂ (λ (z : List InitDeclarator) (w : ℕ). Some (read (record { items = z; comma = false }) w end)) (append_assoc ys (x ∷ []) xs) (omega arith)))
+      (step ∙ (others ∙ ap₂ (λ (z : List InitDeclarator) (w : ℕ). Some (read (record { items = z; comma = false }) w end))
+      (append_assoc ys (x ∷ []) xs) (omega arith)))
 
   -- ---- declarations
 
   plain_is : (f : Specified) → IsPlain f → is_plain f ≡ true
   plain_is f p = rw (p.no_typedef, p.no_body) refl
 
-  pub declaration_read : (h : ℕ) (t : Decl) (s rest : List Token) → ADeclaration types h t s → h ≤ limit → 1 ≤ limit → body_declaration types limit (s ++ rest) ≡ Some (read t h rest)
+  pub declaration_read : (h : ℕ) (t : Decl) (s rest : List Token) → ADeclaration types h t s → h ≤ limit → 1 ≤ limit
+      → body_declaration types limit (s ++ rest) ≡ Some (read t h rest)
   unfolding body_declaration declared_plain declarators
   declaration_read h t x rest (without_declarators {f = f} {s = s} p d plain) low high =
       let end = punct sign.Semicolon p ∷ rest in

@@ -1,6 +1,7 @@
 -- What is spelled is read: statements. By recursion on what spells them; statements within them are read by
 -- `inner`.
-use Rattle.std.proofs.Common.{◌≡◌, ℕ, zero, suc, ◌≤◌, max, Bool, true, false, not, ◌&&◌, ◌||◌, List, [], ◌∷◌, ◌++◌, length, Option, Some, None, refl, sym, ap, ap₂, subst, ◌∙◌, append_assoc, arith, length-append, lt-ltb}
+use Rattle.std.proofs.Common.{◌≡◌, ℕ, zero, suc, ◌≤◌, max, Bool, true, false, not, ◌&&◌, ◌||◌, List, [], ◌∷◌, ◌++◌, length, Option, Some}
+use Rattle.std.proofs.Common.{None, refl, sym, ap, ap₂, subst, ◌∙◌, append_assoc, arith, length-append, lt-ltb}
 use Rattle.std.proofs.lemmas.List.{append-nil}
 use Rattle.sc_base.specs.declared.pos.Pos.{Pos}
 use Rattle.sc_base.specs.declared.pos.NameId.{NameId}
@@ -21,7 +22,8 @@ use Rattle.sc_tree.specs.Tokens.{punct, word, reserved, first_pos}
 use Rattle.sc_tree.specs.Grammar.{Spells}
 use Rattle.sc_tree.specs.Statements as g
 use Rattle.sc_tree.specs.Statements.{ADeclaration, for_head, AtMost, left_out, there, Starts, with_nothing, with_expr, with_declaration, States, Items, AnItem}
-use Rattle.sc_parse_front.specs.Front.{punct_of, word_of, reserved_of, front, front_reserved, is_right_brace, is_right_paren, is_semicolon, begins_piece, is_type_word, begins_type}
+use Rattle.sc_parse_front.specs.Front.{punct_of, word_of, reserved_of, front, front_reserved, is_right_brace, is_right_paren, is_semicolon}
+use Rattle.sc_parse_front.specs.Front.{begins_piece, is_type_word, begins_type}
 use Rattle.sc_parse_expr.specs.Read.{Read, read, Parse, node, many}
 use Rattle.sc_parse_expr.specs.Reading.{with_item}
 use Rattle.sc_parse_expr.specs.Laws.{opens_expr, ends_expr, BeginsExpr, BeginsSpecs}
@@ -29,8 +31,13 @@ use Rattle.sc_parse_expr.specs.Laws as below
 use Rattle.sc_parse_expr.proofs.Begins.{begins_expr}
 use Rattle.sc_parse_expr.proofs.Inner.{node_is, has_turn, many_end, many_more}
 use Rattle.sc_parse_unit.specs.Reading as reading
-use Rattle.sc_parse_unit.specs.Reading.{is_else, is_while, taking_word, body_declaration, Keyword, NoKeyword, keyword, Marker, ACase, ADefault, NoMarker, marker, label_at, is_label, condition, at_most, local, case_item, default_item, if_else, if_rest, for_expr, for_local, for_start, expression, plain_item, marked_item, items, by_keyword, by_label, statement_by, statement}
-use Rattle.sc_parse_unit.proofs.BeginsStmt.{is_end, expr_no_end, expr_no_type, expr_no_keyword, expr_no_marker, expr_no_label, specs_no_end, specs_type, specs_no_marker, no_semicolon, no_right_paren, no_right_brace, no_left_brace, no_word_no_label}
+use Rattle.sc_parse_unit.specs.Reading.{is_else, is_while, taking_word, body_declaration, Keyword, NoKeyword, keyword, Marker, ACase}
+use Rattle.sc_parse_unit.specs.Reading.{ADefault, NoMarker, marker, label_at, is_label, condition, at_most, local, case_item, default_item}
+use Rattle.sc_parse_unit.specs.Reading.{if_else, if_rest, for_expr, for_local, for_start, expression, plain_item, marked_item, items}
+use Rattle.sc_parse_unit.specs.Reading.{by_keyword, by_label, statement_by, statement}
+use Rattle.sc_parse_unit.proofs.BeginsStmt.{is_end, expr_no_end, expr_no_type, expr_no_keyword, expr_no_marker, expr_no_label, specs_no_end}
+use Rattle.sc_parse_unit.proofs.BeginsStmt.{specs_type, specs_no_marker, no_semicolon, no_right_paren, no_right_brace, no_left_brace}
+use Rattle.sc_parse_unit.proofs.BeginsStmt.{no_word_no_label}
 use Rattle.sc_parse_unit.proofs.CompleteDecl.{decl_begins, decl_no_label, specs_first, declaration_read}
 
 -- ---- how items begin
@@ -69,7 +76,8 @@ expr_begins_item types s r b = record {
   no_else = expr_kind_no_else types b.first.kind b.opens;
 }
 
-specs_kind_no_else : (types : List NameId) (x : Kind) → (begins_piece (reserved_of x) || is_type_word types (word_of x)) ≡ true → is_else (reserved_of x) ≡ false
+specs_kind_no_else : (types : List NameId) (x : Kind) → (begins_piece (reserved_of x) || is_type_word types (word_of x)) ≡ true
+    → is_else (reserved_of x) ≡ false
 specs_kind_no_else types (k.Reserved key.Else) e = absurd cc
 specs_kind_no_else types (k.Reserved _) e = refl
 specs_kind_no_else types _ e = refl
@@ -109,9 +117,11 @@ item_begins (g.a_case p q d) = begun _ _ refl refl
 item_begins (g.a_default p q) = begun _ _ refl refl
 
 -- a statement begins with no `case` and no `default`
-state_no_marker : {types : List NameId} {b : Bool} {h : ℕ} {x : Stmt} {s : List Token} → States types b h x s → (rest : List Token) → marker (front_reserved (s ++ rest)) ≡ NoMarker
+state_no_marker : {types : List NameId} {b : Bool} {h : ℕ} {x : Stmt} {s : List Token} → States types b h x s → (rest : List Token)
+    → marker (front_reserved (s ++ rest)) ≡ NoMarker
 state_no_marker (g.a_block p q d) rest = refl
-state_no_marker {types = types} (g.an_expression {s = s} p d) rest = rw (append_assoc s (punct sign.Semicolon p ∷ []) rest) (expr_no_marker (begins_expr types _ _ _ _ d) (punct sign.Semicolon p ∷ rest))
+state_no_marker {types = types} (g.an_expression {s = s} p d) rest =
+    rw (append_assoc s (punct sign.Semicolon p ∷ []) rest) (expr_no_marker (begins_expr types _ _ _ _ d) (punct sign.Semicolon p ∷ rest))
 state_no_marker (g.no_expression p) rest = refl
 state_no_marker (g.an_if p q o d x) rest = refl
 state_no_marker (g.an_if_else p q o v d x y) rest = refl
@@ -133,7 +143,8 @@ and_false false = refl
 state_no_type : {types : List NameId} {b : Bool} {h : ℕ} {x : Stmt} {s : List Token} → States types b h x s → (rest : List Token)
     → (begins_type types (s ++ rest) && not (is_label (label_at (s ++ rest)))) ≡ false
 state_no_type (g.a_block p q d) rest = refl
-state_no_type {types = types} (g.an_expression {s = s} p d) rest = rw (append_assoc s (punct sign.Semicolon p ∷ []) rest, expr_no_type (begins_expr types _ _ _ _ d) (punct sign.Semicolon p ∷ rest)) refl
+state_no_type {types = types} (g.an_expression {s = s} p d) rest =
+    rw (append_assoc s (punct sign.Semicolon p ∷ []) rest, expr_no_type (begins_expr types _ _ _ _ d) (punct sign.Semicolon p ∷ rest)) refl
 state_no_type (g.no_expression p) rest = refl
 state_no_type (g.an_if p q o d x) rest = refl
 state_no_type (g.an_if_else p q o v d x y) rest = refl
@@ -160,33 +171,47 @@ module _ (types : List NameId) (known : (limit : ℕ) → below.IsComplete types
   unfolding condition
   condition_read {h = h} {c = c} {s = s} d low p q rest = rw ((known limit).expr Whole h c s (punct sign.RightParen q ∷ rest) d low refl).1 refl
 
-  at_most_read : {h : ℕ} {t : Option Expr} {s : List Token} → AtMost types h t s → h ≤ limit → (test : Option Punct → Bool) → ((o : Option Punct) → is_end o ≡ false → test o ≡ false)
+  at_most_read : {h : ℕ} {t : Option Expr} {s : List Token} → AtMost types h t s → h ≤ limit → (test : Option Punct → Bool)
+      → ((o : Option Punct) → is_end o ≡ false → test o ≡ false)
       → (rest : List Token) → test (front rest) ≡ true → ends_expr Whole rest ≡ true → at_most types limit inner test (s ++ rest) ≡ Some (read t h rest)
   unfolding at_most
   at_most_read left_out low test other rest end ends = rw end refl
   at_most_read (there {h = h} {t = t} {s = s} d) low test other rest end ends =
       rw (other _ (expr_no_end (begins_expr types _ _ _ _ d) rest), ((known limit).expr Whole h t s rest d low ends).1) refl
 
-  start_read : {h : ℕ} {f : ForStart} {s : List Token} → Starts types h f s → h ≤ limit → (rest : List Token) → for_start types limit inner (s ++ rest) ≡ Some (read f h rest)
+  start_read : {h : ℕ} {f : ForStart} {s : List Token} → Starts types h f s → h ≤ limit → (rest : List Token)
+      → for_start types limit inner (s ++ rest) ≡ Some (read f h rest)
   unfolding for_start for_expr for_local
   start_read (with_nothing p) low rest = refl
   start_read (with_expr {h = h} {t = t} {s = s} p d) low rest =
       let end = punct sign.Semicolon p ∷ rest in
       let b = begins_expr types _ _ _ _ d in
-      rw (append_assoc s (punct sign.Semicolon p ∷ []) rest, no_semicolon _ (expr_no_end b end), expr_no_type b end, ((known limit).expr Whole h t s end d low refl).1) refl
+      rw (
+        append_assoc s (punct sign.Semicolon p ∷ []) rest,
+        no_semicolon _ (expr_no_end b end),
+        expr_no_type b end,
+        ((known limit).expr Whole h t s end d low refl).1,
+      ) refl
   start_read (with_declaration {h = h} {t = t} {s = s} d) low rest =
       let b = decl_begins d in
-      rw (no_semicolon _ (specs_no_end b rest), specs_type b rest, declaration_read types known limit h t s rest d (omega arith) (omega arith), specs_first b rest)
+      rw (
+        no_semicolon _ (specs_no_end b rest),
+        specs_type b rest,
+        declaration_read types known limit h t s rest d (omega arith) (omega arith),
+        specs_first b rest,
+      )
       (node_at limit (first.Decl t (first_pos s)) h rest low)
 
   -- ---- items
 
-  unmarked : (switch : Bool) (ts : List Token) (r : Option (Read Stmt)) → marker (front_reserved ts) ≡ NoMarker → plain_item types limit inner ts ≡ r → reading.an_item types limit inner switch ts ≡ r
+  unmarked : (switch : Bool) (ts : List Token) (r : Option (Read Stmt)) → marker (front_reserved ts) ≡ NoMarker
+      → plain_item types limit inner ts ≡ r → reading.an_item types limit inner switch ts ≡ r
   unfolding reading.an_item marked_item
   unmarked true ts r e x = rw e x
   unmarked false ts r e x = x
 
-  item_read : {switch : Bool} {h : ℕ} {x : Stmt} {s : List Token} → AnItem types switch h x s → h ≤ limit → (rest : List Token) → is_else (front_reserved rest) ≡ false
+  item_read : {switch : Bool} {h : ℕ} {x : Stmt} {s : List Token} → AnItem types switch h x s → h ≤ limit → (rest : List Token)
+      → is_else (front_reserved rest) ≡ false
       → reading.an_item types limit inner switch (s ++ rest) ≡ Some (read x h rest)
   unfolding reading.an_item marked_item plain_item case_item default_item local
   item_read (g.a_statement {b = b} {h = h} {x = x} {s = s} switch d) low rest closed =
@@ -194,7 +219,12 @@ module _ (types : List NameId) (known : (limit : ℕ) → below.IsComplete types
   item_read (g.a_declared {h = h} {t = t} {s = s} switch d) low rest closed =
       let b = decl_begins d in
       unmarked switch (s ++ rest) (Some (read (stmt.Decl t (first_pos s)) (suc h) rest)) (specs_no_marker b rest)
-      (rw (specs_type b rest, decl_no_label d rest, declaration_read types known limit h t s rest d (omega arith) (omega arith), specs_first b rest) (node_at limit (stmt.Decl t (first_pos s)) h rest low))
+      (rw (
+        specs_type b rest,
+        decl_no_label d rest,
+        declaration_read types known limit h t s rest d (omega arith) (omega arith),
+        specs_first b rest,
+      ) (node_at limit (stmt.Decl t (first_pos s)) h rest low))
   item_read (g.a_case {h = h} {t = t} {s = s} p q d) low rest closed =
       rw (append_assoc s (punct sign.Colon q ∷ []) rest, ((known limit).expr Choice h t s (punct sign.Colon q ∷ rest) d low refl).1) refl
   item_read (g.a_default p q) low rest closed = refl
@@ -202,10 +232,13 @@ module _ (types : List NameId) (known : (limit : ℕ) → below.IsComplete types
   items_no_else : {switch : Bool} {m : ℕ} {xs : List Stmt} {s : List Token} → Items types switch m xs s → (q : Pos) (rest : List Token)
       → is_else (front_reserved (s ++ punct sign.RightBrace q ∷ rest)) ≡ false
   items_no_else (g.no_item switch) q rest = refl
-  items_no_else (g.more {s = s} {r = r} d ds) q rest = rw (append_assoc s r (punct sign.RightBrace q ∷ rest)) (not_else (item_begins d) (r ++ punct sign.RightBrace q ∷ rest))
+  items_no_else (g.more {s = s} {r = r} d ds) q rest = rw (append_assoc s r (punct sign.RightBrace q ∷ rest))
+      (not_else (item_begins d) (r ++ punct sign.RightBrace q ∷ rest))
 
-  many_read : {switch : Bool} {m : ℕ} {xs : List Stmt} {s : List Token} → Items types switch m xs s → m ≤ limit → (n : ℕ) → length s ≤ n → (ys : List Stmt) (h : ℕ) (q : Pos) (rest : List Token)
-      → many (reading.an_item types limit inner switch) with_item is_right_brace n ys h (s ++ punct sign.RightBrace q ∷ rest) ≡ Some (read (ys ++ xs) (max h m) (punct sign.RightBrace q ∷ rest))
+  many_read : {switch : Bool} {m : ℕ} {xs : List Stmt} {s : List Token} → Items types switch m xs s → m ≤ limit → (n : ℕ) → length s ≤ n
+      → (ys : List Stmt) (h : ℕ) (q : Pos) (rest : List Token)
+      → many (reading.an_item types limit inner switch) with_item is_right_brace n ys h (s ++ punct sign.RightBrace q ∷ rest)
+      ≡ Some (read (ys ++ xs) (max h m) (punct sign.RightBrace q ∷ rest))
   many_read (g.no_item switch) low n room ys h q rest =
       let end = punct sign.RightBrace q ∷ rest in
       many_end (reading.an_item types limit inner switch) with_item is_right_brace n ys h end refl
@@ -216,7 +249,8 @@ module _ (types : List NameId) (known : (limit : ℕ) → below.IsComplete types
       let turn = has_turn n (omega (arith, room, some, long)) in
       let same = turn.1 in
       let end = punct sign.RightBrace q ∷ rest in
-      let step = many_more (reading.an_item types limit inner switch) with_item is_right_brace turn.0 ys h (s ++ (r ++ end)) x m (r ++ end) (goes_on (item_begins d) (r ++ end))
+      let step = many_more (reading.an_item types limit inner switch) with_item is_right_brace turn.0 ys h (s ++ (r ++ end)) x m (r ++ end)
+      (goes_on (item_begins d) (r ++ end))
       (item_read d (omega arith) (r ++ end) (items_no_else ds q rest)) in
       let others = many_read ds (omega arith) turn.0 (omega (arith, room, some, long, same)) (ys ++ x ∷ []) (max h m) q rest in
       rw (same, append_assoc s r end) (step ∙ (others ∙ ap₂ (λ (z : List Stmt) (w : ℕ). Some (read z w end)) (append_assoc ys (x ∷ []) xs) (omega arith)))
@@ -236,7 +270,8 @@ module _ (types : List NameId) (known : (limit : ℕ) → below.IsComplete types
   unfolding statement_by
   unlabelled ts r e x = rw e x
 
-  worded : (w : Reserved) (p : Pos) (ts : List Token) (r : Option (Read Stmt)) → by_keyword types limit inner (keyword (Some w)) (reserved w p ∷ ts) ≡ r → statement_by types limit inner (reserved w p ∷ ts) ≡ r
+  worded : (w : Reserved) (p : Pos) (ts : List Token) (r : Option (Read Stmt))
+      → by_keyword types limit inner (keyword (Some w)) (reserved w p ∷ ts) ≡ r → statement_by types limit inner (reserved w p ∷ ts) ≡ r
   unfolding by_label
   worded w p ts r x = unlabelled (reserved w p ∷ ts) r (no_word_no_label (reserved w p ∷ ts) refl) x
 
@@ -250,9 +285,12 @@ module _ (types : List NameId) (known : (limit : ℕ) → below.IsComplete types
       (rw (no_left_brace _ (expr_no_end b end), expr_no_keyword b end, at_most_read (there d) low is_semicolon no_semicolon end refl refl, expr_first b end)
       (node_is limit (stmt.Expr (Some t) (first_pos s)) h rest low))
 
-  state_read : {b : Bool} {h : ℕ} {t : Stmt} {s : List Token} → States types b h t s → h ≤ suc limit → (rest : List Token) → (b ≡ true → is_else (front_reserved rest) ≡ false)
+  state_read : {b : Bool} {h : ℕ} {t : Stmt} {s : List Token} → States types b h t s → h ≤ suc limit → (rest : List Token)
+      → (b ≡ true → is_else (front_reserved rest) ≡ false)
       → statement_by types limit inner (s ++ rest) ≡ Some (read t h rest)
-  unfolding statement_by by_label by_keyword reading.a_block reading.an_if if_rest if_else reading.a_while reading.a_do reading.do_rest reading.do_test reading.a_for reading.for_begin reading.for_rest reading.for_last reading.a_switch reading.a_goto reading.a_break reading.a_continue reading.a_return expression at_most reading.a_label
+  unfolding statement_by by_label by_keyword reading.a_block reading.an_if if_rest if_else reading.a_while reading.a_do reading.do_rest
+      reading.do_test reading.a_for reading.for_begin reading.for_rest reading.for_last reading.a_switch reading.a_goto reading.a_break
+      reading.a_continue reading.a_return expression at_most reading.a_label
   state_read (g.a_block {h = h} {xs = xs} {s = s} p q d) low rest closed =
       let ts = punct sign.LeftBrace p ∷ ((s ++ punct sign.RightBrace q ∷ []) ++ rest) in
       unlabelled ts (Some (read (stmt.Block xs p q) (suc h) rest)) (no_word_no_label ts refl)
@@ -265,11 +303,17 @@ module _ (types : List NameId) (known : (limit : ℕ) → below.IsComplete types
   state_read (g.an_if {b = b} {h = h} {m = m} {c = c} {x = x} {s = s} {r = r} p q o d y) low rest closed =
       let out = stmt.If c x None p in
       worded key.If p (punct sign.LeftParen q ∷ ((s ++ punct sign.RightParen o ∷ r) ++ rest)) (Some (read out (suc (max h m)) rest))
-      (rw (append_assoc s (punct sign.RightParen o ∷ r) rest, condition_read d (omega arith) q o (r ++ rest), complete b m x r rest y (omega arith) (λ e. closed refl), closed refl)
+      (rw (
+        append_assoc s (punct sign.RightParen o ∷ r) rest,
+        condition_read d (omega arith) q o (r ++ rest),
+        complete b m x r rest y (omega arith) (λ e. closed refl),
+        closed refl,
+      )
       (node_is limit out (max h m) rest (omega arith)))
   state_read (g.an_if_else {b = b} {h = h} {m = m} {n = n} {c = c} {x = x} {y = y} {s = s} {r = r} {u = u} p q o v d i j) low rest closed =
       let out = stmt.If c x (Some y) p in
-      worded key.If p (punct sign.LeftParen q ∷ ((s ++ punct sign.RightParen o ∷ (r ++ reserved key.Else v ∷ u)) ++ rest)) (Some (read out (suc (max h (max m n))) rest))
+      worded key.If p (punct sign.LeftParen q ∷ ((s ++ punct sign.RightParen o ∷ (r ++ reserved key.Else v ∷ u)) ++ rest))
+      (Some (read out (suc (max h (max m n))) rest))
       (rw (
         append_assoc s (punct sign.RightParen o ∷ (r ++ reserved key.Else v ∷ u)) rest,
         append_assoc r (reserved key.Else v ∷ u) rest,
@@ -295,7 +339,8 @@ module _ (types : List NameId) (known : (limit : ℕ) → below.IsComplete types
         condition_read d (omega arith) o v (punct sign.Semicolon w ∷ rest),
       )
       (node_is limit out (max h m) rest (omega arith)))
-  state_read (g.a_for {b = b} {h = h} {k = j} {m = m} {n = n} {f = f} {c = c} {e = e} {x = x} {s = s} {r = r} {u = u} {v = v} p q o w df dc de y) low rest closed =
+  state_read (g.a_for {b = b} {h = h} {k = j} {m = m} {n = n} {f = f} {c = c} {e = e} {x = x} {s = s} {r = r} {u = u} {v = v} p q o w df dc
+      de y) low rest closed =
       let out = stmt.For (for_head f c e) x p in
       let inside = u ++ punct sign.RightParen w ∷ v in
       let two = punct sign.Semicolon o ∷ (u ++ punct sign.RightParen w ∷ (v ++ rest)) in
@@ -313,7 +358,8 @@ module _ (types : List NameId) (known : (limit : ℕ) → below.IsComplete types
   state_read (g.a_switch {h = h} {m = m} {c = c} {xs = xs} {s = s} {r = r} p q o v w d ds) low rest closed =
       let out = stmt.Switch c xs p w in
       let inside = r ++ punct sign.RightBrace w ∷ [] in
-      worded key.Switch p (punct sign.LeftParen q ∷ ((s ++ punct sign.RightParen o ∷ punct sign.LeftBrace v ∷ inside) ++ rest)) (Some (read out (suc (max h m)) rest))
+      worded key.Switch p (punct sign.LeftParen q ∷ ((s ++ punct sign.RightParen o ∷ punct sign.LeftBrace v ∷ inside) ++ rest))
+      (Some (read out (suc (max h m)) rest))
       (rw (
         append_assoc s (punct sign.RightParen o ∷ punct sign.LeftBrace v ∷ inside) rest,
         append_assoc r (punct sign.RightBrace w ∷ []) rest,
@@ -329,7 +375,11 @@ module _ (types : List NameId) (known : (limit : ℕ) → below.IsComplete types
       worded key.Continue p (punct sign.Semicolon q ∷ rest) (Some (read (stmt.Continue p) 1 rest)) (node_is limit (stmt.Continue p) 0 rest (omega arith))
   state_read (g.a_return {h = h} {t = t} {s = s} p q d) low rest closed =
       worded key.Return p ((s ++ punct sign.Semicolon q ∷ []) ++ rest) (Some (read (stmt.Return t p) (suc h) rest))
-      (rw (append_assoc s (punct sign.Semicolon q ∷ []) rest, at_most_read d (omega arith) is_semicolon no_semicolon (punct sign.Semicolon q ∷ rest) refl refl) (node_is limit (stmt.Return t p) h rest (omega arith)))
+      (rw (
+        append_assoc s (punct sign.Semicolon q ∷ []) rest,
+        at_most_read d (omega arith) is_semicolon no_semicolon (punct sign.Semicolon q ∷ rest) refl refl,
+      )
+      (node_is limit (stmt.Return t p) h rest (omega arith)))
   state_read (g.a_label {b = b} {h = h} {x = x} {s = s} l p q d) low rest closed =
       rw (complete b h x s rest d (omega arith) closed) (node_is limit (stmt.Label l x p) h rest (omega arith))
 
@@ -351,7 +401,8 @@ state_is_high (g.a_return p q d) = omega arith
 state_is_high (g.a_label l p q d) = omega arith
 
 module _ (types : List NameId) (known : (limit : ℕ) → below.IsComplete types limit) where
-  pub statement_read : (limit : ℕ) (b : Bool) (h : ℕ) (t : Stmt) (s rest : List Token) → States types b h t s → h ≤ limit → (b ≡ true → is_else (front_reserved rest) ≡ false)
+  pub statement_read : (limit : ℕ) (b : Bool) (h : ℕ) (t : Stmt) (s rest : List Token) → States types b h t s → h ≤ limit
+      → (b ≡ true → is_else (front_reserved rest) ≡ false)
       → statement types limit (s ++ rest) ≡ Some (read t h rest)
   unfolding statement
   statement_read zero b h t s rest d low closed = let high = state_is_high d in let bad : ⊥ = omega arith in absurd bad

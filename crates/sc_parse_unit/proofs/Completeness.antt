@@ -33,7 +33,8 @@ outline types ts = record {
 -- ---- at most one
 
 -- what is read with nothing behind it is one
-same_read : {A : Type 0} (f : Parse A) (s : List Token) (x y : A) (h m : ℕ) → f (s ++ []) ≡ Some (read x h []) → f (s ++ []) ≡ Some (read y m []) → (x ≡ y) × (h ≡ m)
+same_read : {A : Type 0} (f : Parse A) (s : List Token) (x y : A) (h m : ℕ) → f (s ++ []) ≡ Some (read x h []) → f (s ++ [])
+    ≡ Some (read y m []) → (x ≡ y) × (h ≡ m)
 same_read f s x y h m a b = both x y h m (sym a ∙ b)
   where
     both : {A : Type 0} (x y : A) (h m : ℕ) → Some (read x h []) ≡ Some (read y m []) → (x ≡ y) × (h ≡ m)
@@ -50,9 +51,11 @@ one_initialiser types h m x y s a b =
 pub one_declaration : (types : List NameId) (h m : ℕ) (x y : Decl) (s : List Token) → ADeclaration types h x s → ADeclaration types m y s → (x ≡ y) × (h ≡ m)
 one_declaration types h m x y s a b =
     let all = complete types (suc (max h m)) in
-    same_read (λ ts. body_declaration types (suc (max h m)) ts) s x y h m (all.declaration h x s [] a (omega arith) (omega arith)) (all.declaration m y s [] b (omega arith) (omega arith))
+    same_read (λ ts. body_declaration types (suc (max h m)) ts) s x y h m (all.declaration h x s [] a (omega arith) (omega arith))
+    (all.declaration m y s [] b (omega arith) (omega arith))
 
 pub one_statement : (types : List NameId) (b c : Bool) (h m : ℕ) (x y : Stmt) (s : List Token) → States types b h x s → States types c m y s → (x ≡ y) × (h ≡ m)
 one_statement types b c h m x y s d e =
     let all = complete types (max h m) in
-    same_read (λ ts. statement types (max h m) ts) s x y h m (all.statement b h x s [] d (omega arith) (λ f. refl)) (all.statement c m y s [] e (omega arith) (λ f. refl))
+    same_read (λ ts. statement types (max h m) ts) s x y h m (all.statement b h x s [] d (omega arith) (λ f. refl))
+    (all.statement c m y s [] e (omega arith) (λ f. refl))

@@ -34,7 +34,8 @@ pub record Items {A : Type 0} (ends : Option Punct → Bool) (Good : A → ℕ �
   pub chained : Chained Good x.it.items x.height span
   pub ending : Ending ends x.it.comma tail x.rest
 
-pub items_took : {A : Type 0} (item : Parse A) (ends : Option Punct → Bool) (Good : A → ℕ → List Token → Type 0) → ((ts : List Token) (a : Read A) → item ts ≡ Some a → Item Good ts a)
+pub items_took : {A : Type 0} (item : Parse A) (ends : Option Punct → Bool) (Good : A → ℕ → List Token → Type 0)
+    → ((ts : List Token) (a : Read A) → item ts ≡ Some a → Item Good ts a)
     → (n : ℕ) (ts : List Token) (x : Read (Listed (List A))) → commas item with_item ends n [] 0 ts ≡ Some x → Items ends Good ts x
 items_took item ends Good reads n ts x is =
     let t = commas_took item with_item ends Good reads n [] 0 ts x is in
@@ -72,7 +73,8 @@ pub record Rows {A : Type 0} (ends : Option Punct → Bool) (Good : A → ℕ �
   pub row : Row Good x.it x.height span
   pub ended : ends (front x.rest) ≡ true
 
-pub rows_took : {A : Type 0} (item : Parse A) (ends : Option Punct → Bool) (Good : A → ℕ → List Token → Type 0) → ((ts : List Token) (a : Read A) → item ts ≡ Some a → Item Good ts a)
+pub rows_took : {A : Type 0} (item : Parse A) (ends : Option Punct → Bool) (Good : A → ℕ → List Token → Type 0)
+    → ((ts : List Token) (a : Read A) → item ts ≡ Some a → Item Good ts a)
     → (n : ℕ) (ts : List Token) (x : Read (List A)) → many item with_item ends n [] 0 ts ≡ Some x → Rows ends Good ts x
 rows_took item ends Good reads n ts x is =
     let t = many_took item with_item ends Good reads n [] 0 ts x is in

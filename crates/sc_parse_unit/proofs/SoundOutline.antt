@@ -1,5 +1,6 @@
 -- Segments before their bodies: what is read is spelled.
-use Rattle.std.proofs.Common.{◌≡◌, ℕ, zero, suc, ◌≤◌, max, Bool, true, List, [], ◌∷◌, ◌++◌, length, Some, None, refl, sym, subst, ◌∙◌, append_assoc, arith, ⊎_elim}
+use Rattle.std.proofs.Common.{◌≡◌, ℕ, zero, suc, ◌≤◌, max, Bool, true, List, [], ◌∷◌, ◌++◌, length, Some, None, refl, sym, subst, ◌∙◌}
+use Rattle.std.proofs.Common.{append_assoc, arith, ⊎_elim}
 use Rattle.std.specs.Prelude.{if◌then◌else◌, ◌&&◌}
 use Rattle.std.proofs.lemmas.Bool.{and_parts}
 use Rattle.std.proofs.lemmas.List.{append-nil}
@@ -29,7 +30,8 @@ use Rattle.sc_parse_expr.proofs.Tools.{bind_some, if_is, test_is, given, Splits,
 use Rattle.sc_parse_expr.proofs.SoundLists.{Item}
 use Rattle.sc_parse_expr.proofs.Begins.{specs_begin}
 use Rattle.sc_parse_unit.specs.declared.found.Outline.TheVariants as outline
-use Rattle.sc_parse_unit.specs.Reading.{with_init, FileParts, file_parts, file_rest, file_declarator, file_declarators, Outlined, outlined, ended, is_function, function_head, first_declared, specified, is_lone_semicolon, outline_of}
+use Rattle.sc_parse_unit.specs.Reading.{with_init, FileParts, file_parts, file_rest, file_declarator, file_declarators, Outlined, outlined}
+use Rattle.sc_parse_unit.specs.Reading.{ended, is_function, function_head, first_declared, specified, is_lone_semicolon, outline_of}
 use Rattle.sc_parse_unit.specs.Laws.{Outlines}
 use Rattle.sc_parse_unit.proofs.SoundInit.{init_took}
 use Rattle.sc_parse_unit.proofs.SoundDecl.{cut_begins, with_init_is}
@@ -92,18 +94,26 @@ module _ (exprs : (types : List NameId) (limit : ℕ) → lower.IsSound types li
 
   declarator_took : (go : List InitDeclarator → List NameId → ℕ → Parse FileParts) (def : Bool)
       → ((xs : List InitDeclarator) (us : List NameId) (m : ℕ) (rs : List Token) (y : Read FileParts) → go xs us m rs ≡ Some y → TookParts def us xs m rs y)
-      → (types : List NameId) (xs : List InitDeclarator) (h : ℕ) (ts : List Token) (t : Read Declared) → lower.TakesDeclarator types max_height naming.Required ts t
+      → (types : List NameId) (xs : List InitDeclarator) (h : ℕ) (ts : List Token) (t : Read Declared)
+      → lower.TakesDeclarator types max_height naming.Required ts t
       → (y : Read FileParts) → file_declarator go def xs types h t ≡ Some y → TookParts def types xs h ts y
   unfolding file_declarator
   declarator_took go def ih types xs h ts t w y is =
       let between = with_declared def types t.it.core in
       let x = bind_some (with_init between max_height t) (file_rest go xs between h) y is in
-      let part = with_init_is between max_height (λ us i e. init_took between (exprs between) max_height us i e) (λ (z : Read InitDeclarator). Item (PartFits def types between) ts z) t x.value x.is
+      let part = with_init_is between max_height (λ us i e. init_took between (exprs between) max_height us i e)
+      (λ (z : Read InitDeclarator). Item (PartFits def types between) ts z) t x.value x.is
       (record { span = w.span; split = record { is = w.split }; good = (units.plain def types w.spelled, w.low) })
-      (λ i p s split spelled low. let a = w.low in record { span = _; split = glue (record { is = w.split }) split; good = (units.set def types p w.spelled spelled, omega arith) }) in
+      (λ i p s split spelled low. let a = w.low in record {
+        span = _;
+        split = glue (record { is = w.split }) split;
+        good =
+            (units.set def types p w.spelled spelled, omega arith);
+      }) in
       rest_took go def ih types between xs h ts x.value part y x.gives
 
-  declarators_took : (n : ℕ) (def : Bool) (xs : List InitDeclarator) (types : List NameId) (h : ℕ) (ts : List Token) (y : Read FileParts) → file_declarators n def xs types h ts ≡ Some y → TookParts def types xs h ts y
+  declarators_took : (n : ℕ) (def : Bool) (xs : List InitDeclarator) (types : List NameId) (h : ℕ) (ts : List Token) (y : Read FileParts)
+      → file_declarators n def xs types h ts ≡ Some y → TookParts def types xs h ts y
   unfolding file_declarators
   declarators_took zero def xs types h ts y is = absurd cc
   declarators_took (suc n) def xs types h ts y is =
@@ -117,7 +127,8 @@ module _ (exprs : (types : List NameId) (limit : ℕ) → lower.IsSound types li
   abbrev Good : List NameId → List Token → Outlined → Type 0
   Good types ts o = Outlines types ts o.it o.types o.inside
 
-  ended_took : (types : List NameId) (ts : List Token) (f : Read Specified) → lower.TakesSpecs types max_height ts f → (xs : Read FileParts) → TookParts f.it.typedef types [] 0 f.rest xs
+  ended_took : (types : List NameId) (ts : List Token) (f : Read Specified) → lower.TakesSpecs types max_height ts f → (xs : Read FileParts)
+      → TookParts f.it.typedef types [] 0 f.rest xs
       → (o : Outlined) → ended (first_pos ts) f xs ≡ Some o → Good types ts o
   unfolding ended
   ended_took types ts f w xs t o is =
@@ -127,14 +138,23 @@ module _ (exprs : (types : List NameId) (limit : ℕ) → lower.IsSound types li
       let close = taken is_semicolon sign.Semicolon semicolon xs.rest c.value c.is in
       let all = all_taken ts _ c.value (glue before (glue t.split close)) e.0 in
       let parts = subst (λ ys. FileDeclarators f.it.typedef types xs.it.types t.height ys t.span) (sym t.whole) t.spelled in
-      let spelled = subst (λ (p : Pos). AFileDeclaration types xs.it.types (max f.height t.height) (file.Full (declaration p f.it xs.it.parts)) (w.span ++ (t.span ++ punct sign.Semicolon (first_pos xs.rest) ∷ []))) (cut_begins before (specs_begin types w.spelled))
+      let spelled = subst (λ (p : Pos). AFileDeclaration types xs.it.types (max f.height t.height)
+      (file.Full (declaration p f.it xs.it.parts)) (w.span ++ (t.span ++ punct sign.Semicolon (first_pos xs.rest) ∷ [])))
+      (cut_begins before (specs_begin types w.spelled))
       (units.full (first_pos xs.rest) w.spelled parts) in
       let a = w.low in
       let b = t.low in
       given (Good types ts) (outlined (outline.Decl (file.Full (declaration (first_pos ts) f.it xs.it.parts))) xs.it.types []) o e.1
-      (record { height = max f.height t.height; low = omega arith; spelled = subst (λ (us : List Token). AFileDeclaration types xs.it.types (max f.height t.height) (file.Full (declaration (first_pos ts) f.it xs.it.parts)) us) all spelled })
+      (record {
+        height = max f.height t.height;
+        low = omega arith;
+        spelled =
+            subst (λ (us : List Token). AFileDeclaration types xs.it.types (max f.height t.height)
+            (file.Full (declaration (first_pos ts) f.it xs.it.parts)) us) all spelled;
+      })
 
-  head_took : (types : List NameId) (ts : List Token) (f : Read Specified) → lower.TakesSpecs types max_height ts f → (t : Read Declared) → lower.TakesDeclarator types max_height naming.Required f.rest t
+  head_took : (types : List NameId) (ts : List Token) (f : Read Specified) → lower.TakesSpecs types max_height ts f → (t : Read Declared)
+      → lower.TakesDeclarator types max_height naming.Required f.rest t
       → (o : Outlined) → function_head types (first_pos ts) f t ≡ Some o → Good types ts o
   unfolding function_head
   head_took types ts f w t v o is =
@@ -143,34 +163,58 @@ module _ (exprs : (types : List NameId) (limit : ℕ) → lower.IsSound types li
       let c = function_is t.it.core b.0 in
       let before : Splits ts w.span f.rest = record { is = w.split } in
       let declares = subst (λ (k : Core). Declares types naming.Required k t.height t.it.declarator v.span) c.is v.spelled in
-      let spelled = subst (λ (p : Pos). AFunctionHead types (max f.height t.height) (roll-Head (record { pos = p; specs = f.it.specs; declarator = t.it.declarator })) (w.span ++ v.span)) (cut_begins before (specs_begin types w.spelled))
+      let spelled = subst (λ (p : Pos). AFunctionHead types (max f.height t.height)
+      (roll-Head (record { pos = p; specs = f.it.specs; declarator = t.it.declarator })) (w.span ++ v.span))
+      (cut_begins before (specs_begin types w.spelled))
       (a_function_head c.name w.spelled declares) in
       let m = w.low in
       let n = v.low in
-      given (Good types ts) (outlined (outline.Function (roll-Head (record { pos = first_pos ts; specs = f.it.specs; declarator = t.it.declarator }))) types t.rest) o e.1
-      (record { before = w.span ++ v.span; split = (glue before (record { is = v.split })).is; height = max f.height t.height; low = omega arith; spelled = spelled; braced = b.1 }, refl)
+      given (Good types ts) (outlined (outline.Function (roll-Head
+      (record { pos = first_pos ts; specs = f.it.specs; declarator = t.it.declarator }))) types t.rest) o e.1 (
+        record {
+          before = w.span ++ v.span;
+          split = (glue before (record { is = v.split })).is;
+          height = max f.height t.height;
+          low =
+              omega arith;
+          spelled = spelled;
+          braced = b.1;
+        },
+        refl,
+      )
 
-  first_took : (types : List NameId) (ts : List Token) (f : Read Specified) → lower.TakesSpecs types max_height ts f → (t : Read Declared) → lower.TakesDeclarator types max_height naming.Required f.rest t
+  first_took : (types : List NameId) (ts : List Token) (f : Read Specified) → lower.TakesSpecs types max_height ts f → (t : Read Declared)
+      → lower.TakesDeclarator types max_height naming.Required f.rest t
       → (o : Outlined) → first_declared types (first_pos ts) f t ≡ Some o → Good types ts o
   unfolding first_declared
   first_took types ts f w t v o is = ⊎_elim
       (λ a. head_took types ts f w t v o a.1)
       (λ a. let go : List InitDeclarator → List NameId → ℕ → Parse FileParts = λ xs us m rs. file_declarators (length rs) f.it.typedef xs us m rs in
       let xs = bind_some (file_declarator go f.it.typedef [] types 0 t) (ended (first_pos ts) f) o a.1 in
-      ended_took types ts f w xs.value (declarator_took go f.it.typedef (λ ys us m rs y e. declarators_took (length rs) f.it.typedef ys us m rs y e) types [] 0 f.rest t v xs.value xs.is) o xs.gives)
+      ended_took types ts f w xs.value (declarator_took go f.it.typedef
+      (λ ys us m rs y e. declarators_took (length rs) f.it.typedef ys us m rs y e) types [] 0 f.rest t v xs.value xs.is) o xs.gives)
       (if_is (is_left_brace (front t.rest)) _ _ (Some o) is)
 
   bare_took : (types : List NameId) (ts : List Token) (f : Read Specified) → lower.TakesSpecs types max_height ts f → is_semicolon (front f.rest) ≡ true
-      → (o : Outlined) → (if is_empty (behind f.rest) then Some (outlined (outline.Decl (file.Full (declaration (first_pos ts) f.it []))) types []) else None) ≡ Some o → Good types ts o
+      → (o : Outlined) → (if is_empty (behind f.rest) then Some
+      (outlined (outline.Decl (file.Full (declaration (first_pos ts) f.it []))) types []) else None) ≡ Some o → Good types ts o
   bare_took types ts f w ends o is =
       let e = test_is (is_empty (behind f.rest)) _ o is in
       let before : Splits ts w.span f.rest = record { is = w.split } in
       let all = all_taken ts _ (behind f.rest) (glue before (front_is f.rest sign.Semicolon (semicolon (front f.rest) ends))) e.0 in
-      let spelled = subst (λ (p : Pos). AFileDeclaration types types f.height (file.Full (declaration p f.it [])) (w.span ++ punct sign.Semicolon (first_pos f.rest) ∷ [])) (cut_begins before (specs_begin types w.spelled)) (units.bare (first_pos f.rest) w.spelled) in
+      let spelled = subst (λ (p : Pos). AFileDeclaration types types f.height (file.Full (declaration p f.it []))
+      (w.span ++ punct sign.Semicolon (first_pos f.rest) ∷ [])) (cut_begins before (specs_begin types w.spelled))
+      (units.bare (first_pos f.rest) w.spelled) in
       given (Good types ts) (outlined (outline.Decl (file.Full (declaration (first_pos ts) f.it []))) types []) o e.1
-      (record { height = f.height; low = w.low; spelled = subst (λ (us : List Token). AFileDeclaration types types f.height (file.Full (declaration (first_pos ts) f.it [])) us) all spelled })
+      (record {
+        height = f.height;
+        low = w.low;
+        spelled = subst
+            (λ (us : List Token). AFileDeclaration types types f.height (file.Full (declaration (first_pos ts) f.it [])) us) all spelled;
+      })
 
-  specified_took : (types : List NameId) (ts : List Token) (f : Read Specified) → lower.TakesSpecs types max_height ts f → (o : Outlined) → specified types (first_pos ts) f ≡ Some o → Good types ts o
+  specified_took : (types : List NameId) (ts : List Token) (f : Read Specified) → lower.TakesSpecs types max_height ts f → (o : Outlined)
+      → specified types (first_pos ts) f ≡ Some o → Good types ts o
   unfolding specified
   specified_took types ts f w o is = ⊎_elim
       (λ a. bare_took types ts f w a.0 o a.1)
@@ -178,11 +222,17 @@ module _ (exprs : (types : List NameId) (limit : ℕ) → lower.IsSound types li
       first_took types ts f w t.value ((exprs types max_height).declarator naming.Required f.rest t.value t.is) o t.gives)
       (if_is (is_semicolon (front f.rest)) _ _ (Some o) is)
 
-  lone_took : (types : List NameId) (ts : List Token) → is_lone_semicolon ts ≡ true → Good types ts (outlined (outline.Decl (file.Empty (first_pos ts))) types [])
+  lone_took : (types : List NameId) (ts : List Token) → is_lone_semicolon ts ≡ true
+      → Good types ts (outlined (outline.Decl (file.Empty (first_pos ts))) types [])
   lone_took types ts lone =
       let b = and_parts (is_semicolon (front ts)) (is_empty (behind ts)) lone in
       let all = all_taken ts _ (behind ts) (front_is ts sign.Semicolon (semicolon (front ts) b.0)) b.1 in
-      record { height = 0; low = omega arith; spelled = subst (λ (us : List Token). AFileDeclaration types types 0 (file.Empty (first_pos ts)) us) all (units.empty types (first_pos ts)) }
+      record {
+        height = 0;
+        low = omega arith;
+        spelled = subst
+            (λ (us : List Token). AFileDeclaration types types 0 (file.Empty (first_pos ts)) us) all (units.empty types (first_pos ts));
+      }
 
   pub outline_took : (types : List NameId) (ts : List Token) (o : Outlined) → outline_of types ts ≡ Some o → Outlines types ts o.it o.types o.inside
   unfolding outline_of

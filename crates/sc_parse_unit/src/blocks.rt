@@ -1,9 +1,9 @@
 //! Blocks, and the items between the braces of a block or a `switch` (C11 6.8.1, 6.8.2).
 
-ghost use Rattle.std.specs.Prelude.{◌≡◌, ◌-◌};
+ghost use Rattle.std.specs.Prelude.{◌≡◌};
 ghost use Rattle.sc_parse_expr.specs.Gives.{Gives};
 ghost use Rattle.sc_parse_front.specs.Front.{front_reserved};
-ghost use Rattle.sc_parse_unit.specs.Nests.{Nests, inner_stmt};
+ghost use Rattle.sc_parse_unit.specs.Nests.{ReadsStatements, in_statement};
 ghost use Rattle.sc_parse_unit.specs.Reading as spec;
 
 use crate::declarations::read_declaration;
@@ -11,7 +11,7 @@ use crate::fronts;
 use crate::parts::Statements;
 use sc_base::{Boxed, List};
 use sc_parse_expr::{Found, node, read_expr};
-use sc_parse_front::{Cursor, Stop, TypeNames};
+use sc_parse_front::{Cursor, ParseError, TypeNames};
 use sc_tree::Reserved;
 use sc_tree::grammar::Level;
 use sc_tree::stmt::Stmt;
@@ -19,13 +19,13 @@ use std::alloc::Global;
 
 impl<
     't,
-    F: Fn(Global, &TypeNames, &mut Cursor<'_>, usize) -> Result<Found<Boxed<Stmt>>, Stop>,
+    F: Fn(Global, &TypeNames, &mut Cursor<'_>, usize) -> Result<Found<Boxed<Stmt>>, ParseError>,
 > Statements<'t, F> {
     /// A declaration among items.
     #[tactic(auto, unfolding(crate::specs::Reading::local))]
-    fn local(&self, tokens: &mut Cursor<'_>) -> Result<Found<Boxed<Stmt>>, Stop>
-        requires { Nests spec.statement self.now.limit (F.pre self.now.inner) (F.post self.now.inner) }
-        ensures { Gives (spec.local self.now.types.now (self.now.limit - 1) (inner_stmt self.now.types.now self.now.limit) tokens.old) result tokens.new }
+    fn local(&self, tokens: &mut Cursor<'_>) -> Result<Found<Boxed<Stmt>>, ParseError>
+        requires { ReadsStatements self.now F.pre F.post }
+        ensures { Gives (in_statement self.now spec.local tokens.old) result tokens.new }
     {
         let pos = tokens.first_pos();
         let found = read_declaration(self.alloc, self.types, tokens, self.limit - 1)?;
@@ -34,9 +34,9 @@ impl<
     }
 
     #[tactic(auto, unfolding(crate::specs::Reading::case_item))]
-    fn case_item(&self, tokens: &mut Cursor<'_>) -> Result<Found<Boxed<Stmt>>, Stop>
-        requires { Nests spec.statement self.now.limit (F.pre self.now.inner) (F.post self.now.inner) }
-        ensures { Gives (spec.case_item self.now.types.now (self.now.limit - 1) (inner_stmt self.now.types.now self.now.limit) tokens.old) result tokens.new }
+    fn case_item(&self, tokens: &mut Cursor<'_>) -> Result<Found<Boxed<Stmt>>, ParseError>
+        requires { ReadsStatements self.now F.pre F.post }
+        ensures { Gives (in_statement self.now spec.case_item tokens.old) result tokens.new }
     {
         let pos = tokens.first_pos();
         tokens.advance();
@@ -56,9 +56,9 @@ impl<
     }
 
     #[tactic(auto, unfolding(crate::specs::Reading::default_item))]
-    fn default_item(&self, tokens: &mut Cursor<'_>) -> Result<Found<Boxed<Stmt>>, Stop>
-        requires { Nests spec.statement self.now.limit (F.pre self.now.inner) (F.post self.now.inner) }
-        ensures { Gives (spec.default_item self.now.types.now (self.now.limit - 1) (inner_stmt self.now.types.now self.now.limit) tokens.old) result tokens.new }
+    fn default_item(&self, tokens: &mut Cursor<'_>) -> Result<Found<Boxed<Stmt>>, ParseError>
+        requires { ReadsStatements self.now F.pre F.post }
+        ensures { Gives (in_statement self.now spec.default_item tokens.old) result tokens.new }
     {
         let pos = tokens.first_pos();
         tokens.advance();
@@ -71,9 +71,9 @@ impl<
 
     /// A declaration or a statement.
     #[tactic(auto, unfolding(crate::specs::Reading::plain_item))]
-    fn plain_item(&self, tokens: &mut Cursor<'_>) -> Result<Found<Boxed<Stmt>>, Stop>
-        requires { Nests spec.statement self.now.limit (F.pre self.now.inner) (F.post self.now.inner) }
-        ensures { Gives (spec.plain_item self.now.types.now (self.now.limit - 1) (inner_stmt self.now.types.now self.now.limit) tokens.old) result tokens.new }
+    fn plain_item(&self, tokens: &mut Cursor<'_>) -> Result<Found<Boxed<Stmt>>, ParseError>
+        requires { ReadsStatements self.now F.pre F.post }
+        ensures { Gives (in_statement self.now spec.plain_item tokens.old) result tokens.new }
     {
         if tokens.begins_type(self.types) && !fronts::is_label(tokens) {
             self.local(tokens)
@@ -84,9 +84,9 @@ impl<
 
     /// An item of a `switch`.
     #[tactic(auto, unfolding(crate::specs::Reading::marked_item))]
-    fn marked_item(&self, tokens: &mut Cursor<'_>) -> Result<Found<Boxed<Stmt>>, Stop>
-        requires { Nests spec.statement self.now.limit (F.pre self.now.inner) (F.post self.now.inner) }
-        ensures { Gives (spec.marked_item self.now.types.now (self.now.limit - 1) (inner_stmt self.now.types.now self.now.limit) (spec.marker (front_reserved tokens.old)) tokens.old) result tokens.new }
+    fn marked_item(&self, tokens: &mut Cursor<'_>) -> Result<Found<Boxed<Stmt>>, ParseError>
+        requires { ReadsStatements self.now F.pre F.post }
+        ensures { Gives (in_statement self.now spec.marked_item (spec.marker (front_reserved tokens.old)) tokens.old) result tokens.new }
     {
         match tokens.reserved() {
             Some(Reserved::Case) => self.case_item(tokens),
@@ -97,9 +97,13 @@ impl<
 
     /// An item, of a `switch` where the flag is set.
     #[tactic(auto, unfolding(crate::specs::Reading::an_item))]
-    fn an_item(&self, tokens: &mut Cursor<'_>, switch: bool) -> Result<Found<Boxed<Stmt>>, Stop>
-        requires { Nests spec.statement self.now.limit (F.pre self.now.inner) (F.post self.now.inner) }
-        ensures { Gives (spec.an_item self.now.types.now (self.now.limit - 1) (inner_stmt self.now.types.now self.now.limit) switch tokens.old) result tokens.new }
+    fn an_item(
+        &self,
+        tokens: &mut Cursor<'_>,
+        switch: bool,
+    ) -> Result<Found<Boxed<Stmt>>, ParseError>
+        requires { ReadsStatements self.now F.pre F.post }
+        ensures { Gives (in_statement self.now spec.an_item switch tokens.old) result tokens.new }
     {
         if switch {
             self.marked_item(tokens)
@@ -113,9 +117,9 @@ impl<
         &self,
         tokens: &mut Cursor<'_>,
         switch: bool,
-    ) -> Result<Found<List<Stmt>>, Stop>
-        requires { Nests spec.statement self.now.limit (F.pre self.now.inner) (F.post self.now.inner) }
-        ensures { Gives (spec.items self.now.types.now (self.now.limit - 1) (inner_stmt self.now.types.now self.now.limit) switch tokens.old) result tokens.new }
+    ) -> Result<Found<List<Stmt>>, ParseError>
+        requires { ReadsStatements self.now F.pre F.post }
+        ensures { Gives (in_statement self.now spec.items switch tokens.old) result tokens.new }
     {
         let mut all = List::new(self.alloc);
         let mut height = 0;
@@ -128,15 +132,15 @@ impl<
             height = height.max(found.height);
         }
         if !tokens.is_right_brace() {
-            return Err(Stop::Not);
+            return Err(ParseError::NoMatch);
         }
         Ok(Found { it: all, height })
     }
 
     #[tactic(auto, unfolding(crate::specs::Reading::a_block))]
-    pub(crate) fn a_block(&self, tokens: &mut Cursor<'_>) -> Result<Found<Boxed<Stmt>>, Stop>
-        requires { Nests spec.statement self.now.limit (F.pre self.now.inner) (F.post self.now.inner) }
-        ensures { Gives (spec.a_block self.now.types.now (self.now.limit - 1) (inner_stmt self.now.types.now self.now.limit) tokens.old) result tokens.new }
+    pub(crate) fn a_block(&self, tokens: &mut Cursor<'_>) -> Result<Found<Boxed<Stmt>>, ParseError>
+        requires { ReadsStatements self.now F.pre F.post }
+        ensures { Gives (in_statement self.now spec.a_block tokens.old) result tokens.new }
     {
         let opened = tokens.first_pos();
         tokens.advance();

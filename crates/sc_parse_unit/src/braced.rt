@@ -2,7 +2,7 @@
 
 ghost use Rattle.std.specs.Prelude.{◌≡◌};
 ghost use Rattle.sc_tree.specs.Units.{is_braced, turn_of};
-ghost use Rattle.sc_parse_unit.specs.Steps.{is_closing, is_opening};
+ghost use Rattle.sc_parse_unit.specs.Reading.{is_closing, is_opening};
 
 use sc_parse_front::Cursor;
 use sc_tree::{Kind, Punct};

@@ -65,5 +65,6 @@ pub fn one_segment()
 #[tactic(auto, using(crate::proofs::Fitting::some_list, crate::proofs::Fitting::one_list))]
 pub fn one_list_of_segments()
     ensures some { (types : List NameId) (ts : List Token) (from : ℕ) (ends : List ℕ) → (xs : List Segment) × AllFit types ts from ends xs }
-    ensures one { (types : List NameId) (ts : List Token) (from : ℕ) (ends : List ℕ) (xs ys : List Segment) → AllFit types ts from ends xs → AllFit types ts from ends ys → xs ≡ ys }
+    ensures one { (types : List NameId) (ts : List Token) (from : ℕ) (ends : List ℕ) (xs ys : List Segment) → AllFit types ts from ends xs
+        → AllFit types ts from ends ys → xs ≡ ys }
 {}

@@ -4,13 +4,13 @@ ghost use Rattle.std.specs.Prelude.{◌≡◌, IfOk};
 ghost use Rattle.sc_tree.specs.Statements.{declaration};
 ghost use Rattle.sc_parse_expr.specs.Gives.{Gives};
 ghost use Rattle.sc_parse_expr.specs.Read.{read};
-ghost use Rattle.sc_parse_unit.specs.Steps.{some_declarators};
+ghost use Rattle.sc_parse_unit.specs.Reading.{some_declarators};
 ghost use Rattle.sc_parse_unit.specs.Reading as spec;
 
 use crate::initialisers::read_initialiser;
 use sc_base::{Boxed, List, OutOfMemory, Pos};
 use sc_parse_expr::{Declared, Found, read_declarator, read_specs};
-use sc_parse_front::{Cursor, Stop, TypeNames, room_for_one};
+use sc_parse_front::{Cursor, ParseError, TypeNames, room_for_one};
 use sc_tree::decl::{Decl, InitDeclarator};
 use sc_tree::grammar::{BodyForm, Naming, Specified};
 use std::alloc::Global;
@@ -23,7 +23,7 @@ pub(crate) fn with_init(
     tokens: &mut Cursor<'_>,
     limit: usize,
     declared: Found<Declared>,
-) -> Result<Found<InitDeclarator>, Stop>
+) -> Result<Found<InitDeclarator>, ParseError>
     ensures { Gives (spec.with_init types.now limit (read declared.it declared.height tokens.old)) result tokens.new }
 {
     if !tokens.is_equals() {
@@ -52,7 +52,7 @@ fn init_declarator(
     types: &TypeNames,
     tokens: &mut Cursor<'_>,
     limit: usize,
-) -> Result<Found<InitDeclarator>, Stop>
+) -> Result<Found<InitDeclarator>, ParseError>
     ensures { Gives (spec.init_declarator types.now limit tokens.old) result tokens.new }
 {
     let declared = read_declarator(alloc, types, tokens, limit, Naming::Required)?;
@@ -65,7 +65,7 @@ fn some_declarators(
     types: &TypeNames,
     tokens: &mut Cursor<'_>,
     limit: usize,
-) -> Result<Found<List<InitDeclarator>>, Stop>
+) -> Result<Found<List<InitDeclarator>>, ParseError>
     ensures { Gives (some_declarators types.now limit tokens.old) result tokens.new }
 {
     let mut all = room_for_one(alloc)?;
@@ -79,7 +79,7 @@ fn some_declarators(
         }
         tokens.advance();
     }
-    Err(Stop::Not)
+    Err(ParseError::NoMatch)
 }
 
 /// Whether the specifiers are such as may stand in a body: without `typedef`, and without the body
@@ -115,7 +115,7 @@ fn with_declarators(
     limit: usize,
     pos: Pos,
     specified: Found<Specified>,
-) -> Result<Found<Boxed<Decl>>, Stop>
+) -> Result<Found<Boxed<Decl>>, ParseError>
     ensures { Gives (spec.declarators types.now limit pos (read specified.it specified.height tokens.old)) result tokens.new }
 {
     let parts = some_declarators(alloc, types, tokens, limit)?;
@@ -135,7 +135,7 @@ fn declared_plain(
     limit: usize,
     pos: Pos,
     specified: Found<Specified>,
-) -> Result<Found<Boxed<Decl>>, Stop>
+) -> Result<Found<Boxed<Decl>>, ParseError>
     ensures { Gives (spec.declared_plain types.now limit pos (read specified.it specified.height tokens.old)) result tokens.new }
 {
     if !tokens.is_semicolon() {
@@ -156,13 +156,13 @@ pub(crate) fn read_declaration(
     types: &TypeNames,
     tokens: &mut Cursor<'_>,
     limit: usize,
-) -> Result<Found<Boxed<Decl>>, Stop>
+) -> Result<Found<Boxed<Decl>>, ParseError>
     ensures { Gives (spec.body_declaration types.now limit tokens.old) result tokens.new }
 {
     let pos = tokens.first_pos();
     let specified = read_specs(alloc, types, tokens, limit)?;
     if !is_plain(&specified.it) {
-        return Err(Stop::Not);
+        return Err(ParseError::NoMatch);
     }
     declared_plain(alloc, types, tokens, limit, pos, specified)
 }

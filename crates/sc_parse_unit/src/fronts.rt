@@ -2,13 +2,13 @@
 
 ghost use Rattle.std.specs.Prelude.{◌≡◌};
 ghost use Rattle.sc_parse_front.specs.Front.{front, front_reserved, is_equals, is_left_brace, is_left_paren};
-ghost use Rattle.sc_parse_front.specs.Stop.{Passes};
+ghost use Rattle.sc_parse_front.specs.Error.{Passes};
 ghost use Rattle.sc_parse_unit.specs.Reading as spec;
-ghost use Rattle.sc_parse_unit.specs.Steps.{keyword_of};
+ghost use Rattle.sc_parse_unit.specs.Reading.{keyword_of};
 
 use crate::found::Keyword;
 use sc_base::NameId;
-use sc_parse_front::{Cursor, Stop};
+use sc_parse_front::{Cursor, ParseError};
 use sc_tree::{Punct, Reserved};
 
 /// Whether `.` stands at the front.
@@ -57,7 +57,7 @@ pub(crate) fn is_label(tokens: &Cursor<'_>) -> bool
 }
 
 /// Goes behind a `(`, which is to stand at the front.
-pub(crate) fn pass_left_paren(tokens: &mut Cursor<'_>) -> Result<(), Stop>
+pub(crate) fn pass_left_paren(tokens: &mut Cursor<'_>) -> Result<(), ParseError>
     ensures { Passes (is_left_paren (front tokens.old)) result tokens.old tokens.new }
 {
     let found = tokens.is_left_paren();
@@ -65,7 +65,7 @@ pub(crate) fn pass_left_paren(tokens: &mut Cursor<'_>) -> Result<(), Stop>
 }
 
 /// Goes behind a `{`, which is to stand at the front.
-pub(crate) fn pass_left_brace(tokens: &mut Cursor<'_>) -> Result<(), Stop>
+pub(crate) fn pass_left_brace(tokens: &mut Cursor<'_>) -> Result<(), ParseError>
     ensures { Passes (is_left_brace (front tokens.old)) result tokens.old tokens.new }
 {
     let found = tokens.is_left_brace();
@@ -73,7 +73,7 @@ pub(crate) fn pass_left_brace(tokens: &mut Cursor<'_>) -> Result<(), Stop>
 }
 
 /// Goes behind a `=`, which is to stand at the front.
-pub(crate) fn pass_equals(tokens: &mut Cursor<'_>) -> Result<(), Stop>
+pub(crate) fn pass_equals(tokens: &mut Cursor<'_>) -> Result<(), ParseError>
     ensures { Passes (is_equals (front tokens.old)) result tokens.old tokens.new }
 {
     let found = tokens.is_equals();
@@ -81,7 +81,7 @@ pub(crate) fn pass_equals(tokens: &mut Cursor<'_>) -> Result<(), Stop>
 }
 
 /// Goes behind a `while`, which is to stand at the front.
-pub(crate) fn pass_while(tokens: &mut Cursor<'_>) -> Result<(), Stop>
+pub(crate) fn pass_while(tokens: &mut Cursor<'_>) -> Result<(), ParseError>
     ensures { Passes (spec.is_while (front_reserved tokens.old)) result tokens.old tokens.new }
 {
     let found = is_while(tokens);

@@ -3,14 +3,14 @@
 ghost use Rattle.std.specs.Prelude.{◌≡◌, ◌-◌, suc, length, []};
 ghost use Rattle.sc_tree.specs.declared.decl.InitItem.{roll-InitItem};
 ghost use Rattle.sc_parse_expr.specs.Gives.{Gives, Grows};
-ghost use Rattle.sc_parse_unit.specs.Nests.{Nests, inner_init};
-ghost use Rattle.sc_parse_unit.specs.Steps.{some_items};
+ghost use Rattle.sc_parse_unit.specs.Nests.{ReadsInitialisers, in_initialiser, inner_init};
+ghost use Rattle.sc_parse_unit.specs.Reading.{some_items};
 ghost use Rattle.sc_parse_unit.specs.Reading as spec;
 
 use crate::fronts;
 use sc_base::{Boxed, List};
 use sc_parse_expr::{Found, node, read_expr};
-use sc_parse_front::{Cursor, Stop, TypeNames};
+use sc_parse_front::{Cursor, ParseError, TypeNames};
 use sc_tree::decl::{Designator, Init, InitItem};
 use sc_tree::grammar::Level;
 use std::alloc::Global;
@@ -37,18 +37,18 @@ fn item_of(designators: List<Designator>, init: Boxed<Init>) -> InitItem
 
 impl<
     't,
-    F: Fn(Global, &TypeNames, &mut Cursor<'_>, usize) -> Result<Found<Boxed<Init>>, Stop>,
+    F: Fn(Global, &TypeNames, &mut Cursor<'_>, usize) -> Result<Found<Boxed<Init>>, ParseError>,
 > Initialisers<'t, F> {
-    fn inner(&self, tokens: &mut Cursor<'_>) -> Result<Found<Boxed<Init>>, Stop>
-        requires { Nests spec.initialiser self.now.limit (F.pre self.now.inner) (F.post self.now.inner) }
+    fn inner(&self, tokens: &mut Cursor<'_>) -> Result<Found<Boxed<Init>>, ParseError>
+        requires { ReadsInitialisers self.now F.pre F.post }
         ensures { Gives (inner_init self.now.types.now self.now.limit tokens.old) result tokens.new }
     {
         (self.inner)(self.alloc, self.types, tokens, self.limit - 1)
     }
 
     /// An initialiser over parts of that height.
-    fn made(&self, init: Init, below: usize) -> Result<Found<Boxed<Init>>, Stop>
-        requires { Nests spec.initialiser self.now.limit (F.pre self.now.inner) (F.post self.now.inner) }
+    fn made(&self, init: Init, below: usize) -> Result<Found<Boxed<Init>>, ParseError>
+        requires { ReadsInitialisers self.now F.pre F.post }
         ensures { Grows (suc (self.now.limit - 1)) init below result }
     {
         let init = Boxed::new(self.alloc, init)?;
@@ -57,14 +57,14 @@ impl<
 
     /// `. name` or `[ length ]`
     #[tactic(auto, unfolding(crate::specs::Reading::a_designator))]
-    fn designator(&self, tokens: &mut Cursor<'_>) -> Result<Found<Designator>, Stop>
-        requires { Nests spec.initialiser self.now.limit (F.pre self.now.inner) (F.post self.now.inner) }
+    fn designator(&self, tokens: &mut Cursor<'_>) -> Result<Found<Designator>, ParseError>
+        requires { ReadsInitialisers self.now F.pre F.post }
         ensures { Gives (spec.a_designator self.now.types.now (self.now.limit - 1) tokens.old) result tokens.new }
     {
         if fronts::is_dot(tokens) {
             tokens.advance();
             let Some(name) = tokens.word() else {
-                return Err(Stop::Not);
+                return Err(ParseError::NoMatch);
             };
             tokens.advance();
             return Ok(Found {
@@ -88,8 +88,8 @@ impl<
     }
 
     /// All designators at the front.
-    fn designators(&self, tokens: &mut Cursor<'_>) -> Result<Found<List<Designator>>, Stop>
-        requires { Nests spec.initialiser self.now.limit (F.pre self.now.inner) (F.post self.now.inner) }
+    fn designators(&self, tokens: &mut Cursor<'_>) -> Result<Found<List<Designator>>, ParseError>
+        requires { ReadsInitialisers self.now F.pre F.post }
         ensures { Gives (spec.designators self.now.types.now (self.now.limit - 1) (length tokens.old) [] 0 tokens.old) result tokens.new }
     {
         let mut all = List::new(self.alloc);
@@ -103,15 +103,15 @@ impl<
             height = height.max(found.height);
         }
         if !fronts::is_no_designator(tokens) {
-            return Err(Stop::Not);
+            return Err(ParseError::NoMatch);
         }
         Ok(Found { it: all, height })
     }
 
     #[tactic(auto, unfolding(crate::specs::Reading::designated))]
-    fn designated(&self, tokens: &mut Cursor<'_>) -> Result<Found<InitItem>, Stop>
-        requires { Nests spec.initialiser self.now.limit (F.pre self.now.inner) (F.post self.now.inner) }
-        ensures { Gives (spec.designated self.now.types.now (self.now.limit - 1) (inner_init self.now.types.now self.now.limit) tokens.old) result tokens.new }
+    fn designated(&self, tokens: &mut Cursor<'_>) -> Result<Found<InitItem>, ParseError>
+        requires { ReadsInitialisers self.now F.pre F.post }
+        ensures { Gives (in_initialiser self.now spec.designated tokens.old) result tokens.new }
     {
         let designators = self.designators(tokens)?;
         fronts::pass_equals(tokens)?;
@@ -123,9 +123,9 @@ impl<
     }
 
     #[tactic(auto, unfolding(crate::specs::Reading::undesignated))]
-    fn undesignated(&self, tokens: &mut Cursor<'_>) -> Result<Found<InitItem>, Stop>
-        requires { Nests spec.initialiser self.now.limit (F.pre self.now.inner) (F.post self.now.inner) }
-        ensures { Gives (spec.undesignated self.now.types.now (self.now.limit - 1) (inner_init self.now.types.now self.now.limit) tokens.old) result tokens.new }
+    fn undesignated(&self, tokens: &mut Cursor<'_>) -> Result<Found<InitItem>, ParseError>
+        requires { ReadsInitialisers self.now F.pre F.post }
+        ensures { Gives (in_initialiser self.now spec.undesignated tokens.old) result tokens.new }
     {
         let init = self.inner(tokens)?;
         Ok(Found {
@@ -135,9 +135,9 @@ impl<
     }
 
     #[tactic(auto, unfolding(crate::specs::Reading::init_item))]
-    fn item(&self, tokens: &mut Cursor<'_>) -> Result<Found<InitItem>, Stop>
-        requires { Nests spec.initialiser self.now.limit (F.pre self.now.inner) (F.post self.now.inner) }
-        ensures { Gives (spec.init_item self.now.types.now (self.now.limit - 1) (inner_init self.now.types.now self.now.limit) tokens.old) result tokens.new }
+    fn item(&self, tokens: &mut Cursor<'_>) -> Result<Found<InitItem>, ParseError>
+        requires { ReadsInitialisers self.now F.pre F.post }
+        ensures { Gives (in_initialiser self.now spec.init_item tokens.old) result tokens.new }
     {
         if fronts::is_no_designator(tokens) {
             self.undesignated(tokens)
@@ -147,9 +147,9 @@ impl<
     }
 
     /// Initialisers with commas between; a comma may end them.
-    fn items(&self, tokens: &mut Cursor<'_>) -> Result<Found<List<InitItem>>, Stop>
-        requires { Nests spec.initialiser self.now.limit (F.pre self.now.inner) (F.post self.now.inner) }
-        ensures { Gives (some_items self.now.types.now (self.now.limit - 1) (inner_init self.now.types.now self.now.limit) tokens.old) result tokens.new }
+    fn items(&self, tokens: &mut Cursor<'_>) -> Result<Found<List<InitItem>>, ParseError>
+        requires { ReadsInitialisers self.now F.pre F.post }
+        ensures { Gives (in_initialiser self.now some_items tokens.old) result tokens.new }
     {
         let mut all = List::new(self.alloc);
         let mut height = 0;
@@ -165,14 +165,14 @@ impl<
                 return Ok(Found { it: all, height });
             }
         }
-        Err(Stop::Not)
+        Err(ParseError::NoMatch)
     }
 
     /// Behind the opening brace.
     #[tactic(auto, unfolding(crate::specs::Reading::braces))]
-    fn braces(&self, tokens: &mut Cursor<'_>) -> Result<Found<Boxed<Init>>, Stop>
-        requires { Nests spec.initialiser self.now.limit (F.pre self.now.inner) (F.post self.now.inner) }
-        ensures { Gives (spec.braces self.now.types.now (self.now.limit - 1) (inner_init self.now.types.now self.now.limit) tokens.old) result tokens.new }
+    fn braces(&self, tokens: &mut Cursor<'_>) -> Result<Found<Boxed<Init>>, ParseError>
+        requires { ReadsInitialisers self.now F.pre F.post }
+        ensures { Gives (in_initialiser self.now spec.braces tokens.old) result tokens.new }
     {
         if tokens.is_right_brace() {
             tokens.advance();
@@ -185,9 +185,9 @@ impl<
 
     /// A value.
     #[tactic(auto, unfolding(crate::specs::Reading::init_value))]
-    fn value(&self, tokens: &mut Cursor<'_>) -> Result<Found<Boxed<Init>>, Stop>
-        requires { Nests spec.initialiser self.now.limit (F.pre self.now.inner) (F.post self.now.inner) }
-        ensures { Gives (spec.init_value self.now.types.now (self.now.limit - 1) (inner_init self.now.types.now self.now.limit) tokens.old) result tokens.new }
+    fn value(&self, tokens: &mut Cursor<'_>) -> Result<Found<Boxed<Init>>, ParseError>
+        requires { ReadsInitialisers self.now F.pre F.post }
+        ensures { Gives (in_initialiser self.now spec.init_value tokens.old) result tokens.new }
     {
         let found = read_expr(
             self.alloc,
@@ -204,9 +204,9 @@ impl<
     }
 
     #[tactic(auto, unfolding(crate::specs::Reading::initialiser_by))]
-    fn initialiser(&self, tokens: &mut Cursor<'_>) -> Result<Found<Boxed<Init>>, Stop>
-        requires { Nests spec.initialiser self.now.limit (F.pre self.now.inner) (F.post self.now.inner) }
-        ensures { Gives (spec.initialiser_by self.now.types.now (self.now.limit - 1) (inner_init self.now.types.now self.now.limit) tokens.old) result tokens.new }
+    fn initialiser(&self, tokens: &mut Cursor<'_>) -> Result<Found<Boxed<Init>>, ParseError>
+        requires { ReadsInitialisers self.now F.pre F.post }
+        ensures { Gives (in_initialiser self.now spec.initialiser_by tokens.old) result tokens.new }
     {
         if tokens.is_left_brace() {
             tokens.advance();
@@ -224,11 +224,11 @@ pub(crate) fn read_initialiser(
     types: &TypeNames,
     tokens: &mut Cursor<'_>,
     limit: usize,
-) -> Result<Found<Boxed<Init>>, Stop>
+) -> Result<Found<Boxed<Init>>, ParseError>
     ensures { Gives (spec.initialiser types.now limit tokens.old) result tokens.new }
 {
     if limit == 0 {
-        return Err(Stop::Not);
+        return Err(ParseError::NoMatch);
     }
     Initialisers {
         alloc,

@@ -1,10 +1,10 @@
 //! `while`, `do` and `for` (C11 6.8.5).
 
-ghost use Rattle.std.specs.Prelude.{◌≡◌, ◌-◌, [], IfOk};
+ghost use Rattle.std.specs.Prelude.{◌≡◌, [], IfOk};
 ghost use Rattle.sc_tree.specs.Statements.{for_head};
 ghost use Rattle.sc_parse_expr.specs.Gives.{Gives};
 ghost use Rattle.sc_parse_expr.specs.Read.{read};
-ghost use Rattle.sc_parse_unit.specs.Nests.{Nests, inner_stmt};
+ghost use Rattle.sc_parse_unit.specs.Nests.{ReadsStatements, in_statement};
 ghost use Rattle.sc_parse_unit.specs.Reading as spec;
 
 use crate::declarations::read_declaration;
@@ -12,14 +12,14 @@ use crate::fronts;
 use crate::parts::Statements;
 use sc_base::{Boxed, OutOfMemory, Pos};
 use sc_parse_expr::{Found, node};
-use sc_parse_front::{Cursor, Stop, TypeNames};
+use sc_parse_front::{Cursor, ParseError, TypeNames};
 use sc_tree::expr::Expr;
 use sc_tree::stmt::{ForHead, ForStart, Stmt};
 use std::alloc::Global;
 
 impl<
     't,
-    F: Fn(Global, &TypeNames, &mut Cursor<'_>, usize) -> Result<Found<Boxed<Stmt>>, Stop>,
+    F: Fn(Global, &TypeNames, &mut Cursor<'_>, usize) -> Result<Found<Boxed<Stmt>>, ParseError>,
 > Statements<'t, F> {
     /// Behind `while`.
     #[tactic(auto, unfolding(crate::specs::Reading::a_while))]
@@ -27,9 +27,9 @@ impl<
         &self,
         tokens: &mut Cursor<'_>,
         pos: Pos,
-    ) -> Result<Found<Boxed<Stmt>>, Stop>
-        requires { Nests spec.statement self.now.limit (F.pre self.now.inner) (F.post self.now.inner) }
-        ensures { Gives (spec.a_while self.now.types.now (self.now.limit - 1) (inner_stmt self.now.types.now self.now.limit) pos tokens.old) result tokens.new }
+    ) -> Result<Found<Boxed<Stmt>>, ParseError>
+        requires { ReadsStatements self.now F.pre F.post }
+        ensures { Gives (in_statement self.now spec.a_while pos tokens.old) result tokens.new }
     {
         let test = self.condition(tokens)?;
         let body = self.inner(tokens)?;
@@ -39,9 +39,9 @@ impl<
 
     /// `while` and its condition.
     #[tactic(auto, unfolding(crate::specs::Reading::do_test))]
-    fn do_test(&self, tokens: &mut Cursor<'_>) -> Result<Found<Boxed<Expr>>, Stop>
-        requires { Nests spec.statement self.now.limit (F.pre self.now.inner) (F.post self.now.inner) }
-        ensures { Gives (spec.do_test self.now.types.now (self.now.limit - 1) (inner_stmt self.now.types.now self.now.limit) tokens.old) result tokens.new }
+    fn do_test(&self, tokens: &mut Cursor<'_>) -> Result<Found<Boxed<Expr>>, ParseError>
+        requires { ReadsStatements self.now F.pre F.post }
+        ensures { Gives (in_statement self.now spec.do_test tokens.old) result tokens.new }
     {
         fronts::pass_while(tokens)?;
         self.condition(tokens)
@@ -54,9 +54,9 @@ impl<
         tokens: &mut Cursor<'_>,
         pos: Pos,
         body: Found<Boxed<Stmt>>,
-    ) -> Result<Found<Boxed<Stmt>>, Stop>
-        requires { Nests spec.statement self.now.limit (F.pre self.now.inner) (F.post self.now.inner) }
-        ensures { Gives (spec.do_rest self.now.types.now (self.now.limit - 1) (inner_stmt self.now.types.now self.now.limit) pos (read body.it body.height tokens.old)) result tokens.new }
+    ) -> Result<Found<Boxed<Stmt>>, ParseError>
+        requires { ReadsStatements self.now F.pre F.post }
+        ensures { Gives (in_statement self.now spec.do_rest pos (read body.it body.height tokens.old)) result tokens.new }
     {
         let test = self.do_test(tokens)?;
         tokens.pass_semicolon()?;
@@ -66,18 +66,22 @@ impl<
 
     /// Behind `do`.
     #[tactic(auto, unfolding(crate::specs::Reading::a_do))]
-    pub(crate) fn a_do(&self, tokens: &mut Cursor<'_>, pos: Pos) -> Result<Found<Boxed<Stmt>>, Stop>
-        requires { Nests spec.statement self.now.limit (F.pre self.now.inner) (F.post self.now.inner) }
-        ensures { Gives (spec.a_do self.now.types.now (self.now.limit - 1) (inner_stmt self.now.types.now self.now.limit) pos tokens.old) result tokens.new }
+    pub(crate) fn a_do(
+        &self,
+        tokens: &mut Cursor<'_>,
+        pos: Pos,
+    ) -> Result<Found<Boxed<Stmt>>, ParseError>
+        requires { ReadsStatements self.now F.pre F.post }
+        ensures { Gives (in_statement self.now spec.a_do pos tokens.old) result tokens.new }
     {
         let body = self.inner(tokens)?;
         self.do_rest(tokens, pos, body)
     }
 
     #[tactic(auto, unfolding(crate::specs::Reading::for_expr))]
-    fn for_expr(&self, tokens: &mut Cursor<'_>) -> Result<Found<Boxed<ForStart>>, Stop>
-        requires { Nests spec.statement self.now.limit (F.pre self.now.inner) (F.post self.now.inner) }
-        ensures { Gives (spec.for_expr self.now.types.now (self.now.limit - 1) (inner_stmt self.now.types.now self.now.limit) tokens.old) result tokens.new }
+    fn for_expr(&self, tokens: &mut Cursor<'_>) -> Result<Found<Boxed<ForStart>>, ParseError>
+        requires { ReadsStatements self.now F.pre F.post }
+        ensures { Gives (in_statement self.now spec.for_expr tokens.old) result tokens.new }
     {
         let found = self.inner_expr(tokens)?;
         tokens.pass_semicolon()?;
@@ -89,9 +93,9 @@ impl<
     }
 
     #[tactic(auto, unfolding(crate::specs::Reading::for_local))]
-    fn for_local(&self, tokens: &mut Cursor<'_>) -> Result<Found<Boxed<ForStart>>, Stop>
-        requires { Nests spec.statement self.now.limit (F.pre self.now.inner) (F.post self.now.inner) }
-        ensures { Gives (spec.for_local self.now.types.now (self.now.limit - 1) (inner_stmt self.now.types.now self.now.limit) tokens.old) result tokens.new }
+    fn for_local(&self, tokens: &mut Cursor<'_>) -> Result<Found<Boxed<ForStart>>, ParseError>
+        requires { ReadsStatements self.now F.pre F.post }
+        ensures { Gives (in_statement self.now spec.for_local tokens.old) result tokens.new }
     {
         let pos = tokens.first_pos();
         let found = read_declaration(self.alloc, self.types, tokens, self.limit - 1)?;
@@ -101,9 +105,9 @@ impl<
 
     /// What stands in the first place, and its `;`.
     #[tactic(auto, unfolding(crate::specs::Reading::for_start))]
-    fn for_start(&self, tokens: &mut Cursor<'_>) -> Result<Found<Boxed<ForStart>>, Stop>
-        requires { Nests spec.statement self.now.limit (F.pre self.now.inner) (F.post self.now.inner) }
-        ensures { Gives (spec.for_start self.now.types.now (self.now.limit - 1) (inner_stmt self.now.types.now self.now.limit) tokens.old) result tokens.new }
+    fn for_start(&self, tokens: &mut Cursor<'_>) -> Result<Found<Boxed<ForStart>>, ParseError>
+        requires { ReadsStatements self.now F.pre F.post }
+        ensures { Gives (in_statement self.now spec.for_start tokens.old) result tokens.new }
     {
         if tokens.is_semicolon() {
             tokens.advance();
@@ -140,9 +144,9 @@ impl<
         pos: Pos,
         start: Found<Boxed<ForStart>>,
         test: Found<Option<Boxed<Expr>>>,
-    ) -> Result<Found<Boxed<Stmt>>, Stop>
-        requires { Nests spec.statement self.now.limit (F.pre self.now.inner) (F.post self.now.inner) }
-        ensures { Gives (spec.for_last self.now.types.now (self.now.limit - 1) (inner_stmt self.now.types.now self.now.limit) pos (read start.it start.height []) (read test.it test.height []) tokens.old) result tokens.new }
+    ) -> Result<Found<Boxed<Stmt>>, ParseError>
+        requires { ReadsStatements self.now F.pre F.post }
+        ensures { Gives (in_statement self.now spec.for_last pos (read start.it start.height []) (read test.it test.height []) tokens.old) result tokens.new }
     {
         let step = self.before_right_paren(tokens)?;
         tokens.pass_right_paren()?;
@@ -161,9 +165,9 @@ impl<
         tokens: &mut Cursor<'_>,
         pos: Pos,
         start: Found<Boxed<ForStart>>,
-    ) -> Result<Found<Boxed<Stmt>>, Stop>
-        requires { Nests spec.statement self.now.limit (F.pre self.now.inner) (F.post self.now.inner) }
-        ensures { Gives (spec.for_rest self.now.types.now (self.now.limit - 1) (inner_stmt self.now.types.now self.now.limit) pos (read start.it start.height tokens.old)) result tokens.new }
+    ) -> Result<Found<Boxed<Stmt>>, ParseError>
+        requires { ReadsStatements self.now F.pre F.post }
+        ensures { Gives (in_statement self.now spec.for_rest pos (read start.it start.height tokens.old)) result tokens.new }
     {
         let test = self.before_semicolon(tokens)?;
         tokens.pass_semicolon()?;
@@ -172,9 +176,9 @@ impl<
 
     /// The opening bracket, and what stands in the first place.
     #[tactic(auto, unfolding(crate::specs::Reading::for_begin))]
-    fn for_begin(&self, tokens: &mut Cursor<'_>) -> Result<Found<Boxed<ForStart>>, Stop>
-        requires { Nests spec.statement self.now.limit (F.pre self.now.inner) (F.post self.now.inner) }
-        ensures { Gives (spec.for_begin self.now.types.now (self.now.limit - 1) (inner_stmt self.now.types.now self.now.limit) tokens.old) result tokens.new }
+    fn for_begin(&self, tokens: &mut Cursor<'_>) -> Result<Found<Boxed<ForStart>>, ParseError>
+        requires { ReadsStatements self.now F.pre F.post }
+        ensures { Gives (in_statement self.now spec.for_begin tokens.old) result tokens.new }
     {
         fronts::pass_left_paren(tokens)?;
         self.for_start(tokens)
@@ -186,9 +190,9 @@ impl<
         &self,
         tokens: &mut Cursor<'_>,
         pos: Pos,
-    ) -> Result<Found<Boxed<Stmt>>, Stop>
-        requires { Nests spec.statement self.now.limit (F.pre self.now.inner) (F.post self.now.inner) }
-        ensures { Gives (spec.a_for self.now.types.now (self.now.limit - 1) (inner_stmt self.now.types.now self.now.limit) pos tokens.old) result tokens.new }
+    ) -> Result<Found<Boxed<Stmt>>, ParseError>
+        requires { ReadsStatements self.now F.pre F.post }
+        ensures { Gives (in_statement self.now spec.a_for pos tokens.old) result tokens.new }
     {
         let start = self.for_begin(tokens)?;
         self.for_rest(tokens, pos, start)

@@ -10,7 +10,7 @@
 
 mod blocks;
 mod braced;
-pub mod complete;
+mod complete;
 mod declarations;
 mod found;
 mod fronts;
@@ -20,10 +20,15 @@ mod outlines;
 mod parts;
 mod segments;
 mod selection;
-pub mod sound;
+mod sound;
 mod statements;
 
+pub use complete::{
+    one_declaration, one_initialiser, one_list_of_segments, one_segment, one_statement,
+    outline_is_read, reading_is_complete, segment_is_read, segments_are_read,
+};
 pub use segments::unit;
+pub use sound::{outline_is_spelled, reading_is_spelled};
 
 /// The greatest height of a tree.
 const MAX_HEIGHT: usize = 128;

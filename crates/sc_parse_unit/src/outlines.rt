@@ -6,7 +6,7 @@ ghost use Rattle.sc_tree.specs.Trees.{max_height};
 ghost use Rattle.sc_tree.specs.Units.{with_declared};
 ghost use Rattle.sc_parse_expr.specs.Gives.{Gives, GivesAs};
 ghost use Rattle.sc_parse_expr.specs.Read.{read};
-ghost use Rattle.sc_parse_unit.specs.Steps.{GivesOutline, Keeps};
+ghost use Rattle.sc_parse_unit.specs.Reading.{GivesOutline, Keeps};
 ghost use Rattle.sc_parse_unit.specs.Reading as spec;
 
 use crate::MAX_HEIGHT;
@@ -15,7 +15,7 @@ use crate::declarations::{declaration, with_init};
 use crate::found::Outline;
 use sc_base::{Boxed, List, OutOfMemory, Pos};
 use sc_parse_expr::{Declared, Found, read_declarator, read_specs};
-use sc_parse_front::{Cursor, Stop, TypeNames, room_for_one};
+use sc_parse_front::{Cursor, ParseError, TypeNames, room_for_one};
 use sc_tree::decl::InitDeclarator;
 use sc_tree::expr::Head;
 use sc_tree::grammar::{Core, Naming, Specified};
@@ -46,8 +46,9 @@ fn file_declarator(
     tokens: &mut Cursor<'_>,
     typedef: bool,
     declared: Found<Declared>,
-) -> Result<Found<InitDeclarator>, Stop>
-    ensures gives { Gives (spec.with_init (with_declared typedef types.old declared.it.core) max_height (read declared.it declared.height tokens.old)) result tokens.new }
+) -> Result<Found<InitDeclarator>, ParseError>
+    ensures gives { Gives (spec.with_init (with_declared typedef types.old declared.it.core) max_height
+        (read declared.it declared.height tokens.old)) result tokens.new }
     ensures types { OnOk result (types.new ≡ with_declared typedef types.old declared.it.core) }
     ensures kept { Keeps types.old types.new }
 {
@@ -62,8 +63,9 @@ fn more_declarators(
     tokens: &mut Cursor<'_>,
     typedef: bool,
     first: Found<List<InitDeclarator>>,
-) -> Result<Found<List<InitDeclarator>>, Stop>
-    ensures gives { GivesAs (λ xs. spec.file_parts xs types.new) (spec.file_declarators (length tokens.old) typedef first.it types.old first.height tokens.old) result tokens.new }
+) -> Result<Found<List<InitDeclarator>>, ParseError>
+    ensures gives { GivesAs (λ xs. spec.file_parts xs types.new)
+        (spec.file_declarators (length tokens.old) typedef first.it types.old first.height tokens.old) result tokens.new }
     ensures kept { Keeps types.old types.new }
 {
     let Found {
@@ -80,7 +82,7 @@ fn more_declarators(
         }
         tokens.advance();
     }
-    Err(Stop::Not)
+    Err(ParseError::NoMatch)
 }
 
 /// The declarators of a declaration, of which the first was read.
@@ -91,8 +93,10 @@ fn declarators(
     tokens: &mut Cursor<'_>,
     typedef: bool,
     first: Found<Declared>,
-) -> Result<Found<List<InitDeclarator>>, Stop>
-    ensures gives { GivesAs (λ xs. spec.file_parts xs types.new) (spec.file_declarator (λ xs us m rs. spec.file_declarators (length rs) typedef xs us m rs) typedef [] types.old 0 (read first.it first.height tokens.old)) result tokens.new }
+) -> Result<Found<List<InitDeclarator>>, ParseError>
+    ensures gives { GivesAs (λ xs. spec.file_parts xs types.new)
+        (spec.file_declarator (λ xs us m rs. spec.file_declarators (length rs) typedef xs us m rs) typedef [] types.old 0
+        (read first.it first.height tokens.old)) result tokens.new }
     ensures kept { Keeps types.old types.new }
 {
     let found = file_declarator(alloc, types, tokens, typedef, first)?;
@@ -118,12 +122,13 @@ fn ended(
     pos: Pos,
     specified: Found<Specified>,
     parts: Found<List<InitDeclarator>>,
-) -> Result<Outline, Stop>
-    ensures { GivesOutline (spec.ended pos (read specified.it specified.height []) (read (spec.file_parts parts.it types.now) parts.height tokens.old)) result types.now tokens.new }
+) -> Result<Outline, ParseError>
+    ensures { GivesOutline (spec.ended pos (read specified.it specified.height [])
+        (read (spec.file_parts parts.it types.now) parts.height tokens.old)) result types.now tokens.new }
 {
     tokens.pass_semicolon()?;
     if !tokens.is_empty() {
-        return Err(Stop::Not);
+        return Err(ParseError::NoMatch);
     }
     let decl = declaration(alloc, pos, specified.it, parts.it)?;
     Ok(Outline::Decl(FileDecl::Full(decl)))
@@ -161,11 +166,12 @@ fn function_head(
     pos: Pos,
     specified: Found<Specified>,
     declared: Found<Declared>,
-) -> Result<Outline, Stop>
-    ensures { GivesOutline (spec.function_head types.now pos (read specified.it specified.height []) (read declared.it declared.height tokens.now)) result types.now tokens.now }
+) -> Result<Outline, ParseError>
+    ensures { GivesOutline (spec.function_head types.now pos (read specified.it specified.height [])
+        (read declared.it declared.height tokens.now)) result types.now tokens.now }
 {
     if !(is_function(declared.it.core) && is_braced(tokens)) {
-        return Err(Stop::Not);
+        return Err(ParseError::NoMatch);
     }
     Ok(Outline::Function(head_of(alloc, pos, specified.it, declared.it)?))
 }
@@ -179,8 +185,9 @@ fn first_declared(
     pos: Pos,
     specified: Found<Specified>,
     declared: Found<Declared>,
-) -> Result<Outline, Stop>
-    ensures gives { GivesOutline (spec.first_declared types.old pos (read specified.it specified.height []) (read declared.it declared.height tokens.old)) result types.new tokens.new }
+) -> Result<Outline, ParseError>
+    ensures gives { GivesOutline (spec.first_declared types.old pos (read specified.it specified.height [])
+        (read declared.it declared.height tokens.old)) result types.new tokens.new }
     ensures kept { Keeps types.old types.new }
 {
     if tokens.is_left_brace() {
@@ -199,7 +206,7 @@ fn specified(
     tokens: &mut Cursor<'_>,
     pos: Pos,
     specified: Found<Specified>,
-) -> Result<Outline, Stop>
+) -> Result<Outline, ParseError>
     ensures gives { GivesOutline (spec.specified types.old pos (read specified.it specified.height tokens.old)) result types.new tokens.new }
     ensures kept { Keeps types.old types.new }
 {
@@ -222,7 +229,7 @@ pub(crate) fn read_outline(
     alloc: Global,
     types: &mut TypeNames,
     tokens: &mut Cursor<'_>,
-) -> Result<Outline, Stop>
+) -> Result<Outline, ParseError>
     ensures gives { GivesOutline (spec.outline_of types.old tokens.old) result types.new tokens.new }
     ensures kept { Keeps types.old types.new }
 {

@@ -4,13 +4,13 @@
 ghost use Rattle.std.specs.Prelude.{◌≡◌, ◌-◌, suc};
 ghost use Rattle.sc_parse_front.specs.Front.{is_right_paren, is_semicolon};
 ghost use Rattle.sc_parse_expr.specs.Gives.{Gives, Grows};
-ghost use Rattle.sc_parse_unit.specs.Nests.{Nests, inner_stmt, inner_whole};
+ghost use Rattle.sc_parse_unit.specs.Nests.{ReadsStatements, in_statement, inner_stmt, inner_whole};
 ghost use Rattle.sc_parse_unit.specs.Reading as spec;
 
 use crate::fronts;
 use sc_base::Boxed;
 use sc_parse_expr::{Found, node, read_expr};
-use sc_parse_front::{Cursor, Stop, TypeNames};
+use sc_parse_front::{Cursor, ParseError, TypeNames};
 use sc_tree::expr::Expr;
 use sc_tree::grammar::Level;
 use sc_tree::stmt::Stmt;
@@ -30,19 +30,19 @@ pub(crate) struct Statements<'t, F> {
 
 impl<
     't,
-    F: Fn(Global, &TypeNames, &mut Cursor<'_>, usize) -> Result<Found<Boxed<Stmt>>, Stop>,
+    F: Fn(Global, &TypeNames, &mut Cursor<'_>, usize) -> Result<Found<Boxed<Stmt>>, ParseError>,
 > Statements<'t, F> {
     /// A statement under this one.
-    pub(crate) fn inner(&self, tokens: &mut Cursor<'_>) -> Result<Found<Boxed<Stmt>>, Stop>
-        requires { Nests spec.statement self.now.limit (F.pre self.now.inner) (F.post self.now.inner) }
+    pub(crate) fn inner(&self, tokens: &mut Cursor<'_>) -> Result<Found<Boxed<Stmt>>, ParseError>
+        requires { ReadsStatements self.now F.pre F.post }
         ensures { Gives (inner_stmt self.now.types.now self.now.limit tokens.old) result tokens.new }
     {
         (self.inner)(self.alloc, self.types, tokens, self.limit - 1)
     }
 
     /// A statement over parts of that height.
-    pub(crate) fn made(&self, stmt: Stmt, below: usize) -> Result<Found<Boxed<Stmt>>, Stop>
-        requires { Nests spec.statement self.now.limit (F.pre self.now.inner) (F.post self.now.inner) }
+    pub(crate) fn made(&self, stmt: Stmt, below: usize) -> Result<Found<Boxed<Stmt>>, ParseError>
+        requires { ReadsStatements self.now F.pre F.post }
         ensures { Grows (suc (self.now.limit - 1)) stmt below result }
     {
         let stmt = Boxed::new(self.alloc, stmt)?;
@@ -50,8 +50,11 @@ impl<
     }
 
     /// An expression under this statement.
-    pub(crate) fn inner_expr(&self, tokens: &mut Cursor<'_>) -> Result<Found<Boxed<Expr>>, Stop>
-        requires { Nests spec.statement self.now.limit (F.pre self.now.inner) (F.post self.now.inner) }
+    pub(crate) fn inner_expr(
+        &self,
+        tokens: &mut Cursor<'_>,
+    ) -> Result<Found<Boxed<Expr>>, ParseError>
+        requires { ReadsStatements self.now F.pre F.post }
         ensures { Gives (inner_whole self.now.types.now self.now.limit tokens.old) result tokens.new }
     {
         let Found { it, height } = read_expr(
@@ -69,9 +72,12 @@ impl<
 
     /// An expression in round brackets.
     #[tactic(auto, unfolding(crate::specs::Reading::condition))]
-    pub(crate) fn condition(&self, tokens: &mut Cursor<'_>) -> Result<Found<Boxed<Expr>>, Stop>
-        requires { Nests spec.statement self.now.limit (F.pre self.now.inner) (F.post self.now.inner) }
-        ensures { Gives (spec.condition self.now.types.now (self.now.limit - 1) (inner_stmt self.now.types.now self.now.limit) tokens.old) result tokens.new }
+    pub(crate) fn condition(
+        &self,
+        tokens: &mut Cursor<'_>,
+    ) -> Result<Found<Boxed<Expr>>, ParseError>
+        requires { ReadsStatements self.now F.pre F.post }
+        ensures { Gives (in_statement self.now spec.condition tokens.old) result tokens.new }
     {
         fronts::pass_left_paren(tokens)?;
         let found = self.inner_expr(tokens)?;
@@ -84,9 +90,9 @@ impl<
     pub(crate) fn before_semicolon(
         &self,
         tokens: &mut Cursor<'_>,
-    ) -> Result<Found<Option<Boxed<Expr>>>, Stop>
-        requires { Nests spec.statement self.now.limit (F.pre self.now.inner) (F.post self.now.inner) }
-        ensures { Gives (spec.at_most self.now.types.now (self.now.limit - 1) (inner_stmt self.now.types.now self.now.limit) is_semicolon tokens.old) result tokens.new }
+    ) -> Result<Found<Option<Boxed<Expr>>>, ParseError>
+        requires { ReadsStatements self.now F.pre F.post }
+        ensures { Gives (in_statement self.now spec.at_most is_semicolon tokens.old) result tokens.new }
     {
         if tokens.is_semicolon() {
             return Ok(Found {
@@ -106,9 +112,9 @@ impl<
     pub(crate) fn before_right_paren(
         &self,
         tokens: &mut Cursor<'_>,
-    ) -> Result<Found<Option<Boxed<Expr>>>, Stop>
-        requires { Nests spec.statement self.now.limit (F.pre self.now.inner) (F.post self.now.inner) }
-        ensures { Gives (spec.at_most self.now.types.now (self.now.limit - 1) (inner_stmt self.now.types.now self.now.limit) is_right_paren tokens.old) result tokens.new }
+    ) -> Result<Found<Option<Boxed<Expr>>>, ParseError>
+        requires { ReadsStatements self.now F.pre F.post }
+        ensures { Gives (in_statement self.now spec.at_most is_right_paren tokens.old) result tokens.new }
     {
         if tokens.is_right_paren() {
             return Ok(Found {

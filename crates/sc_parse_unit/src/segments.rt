@@ -10,7 +10,7 @@ use crate::found::Outline;
 use crate::outlines::read_outline;
 use crate::statements::read_statement;
 use sc_base::{Boxed, List, OutOfMemory, Pos, Skip};
-use sc_parse_front::{Cursor, Stop, TypeNames};
+use sc_parse_front::{Cursor, ParseError, TypeNames};
 use sc_tree::Tokens;
 use sc_tree::unit::{Body, Segment, Unit};
 use std::alloc::Global;
@@ -29,8 +29,8 @@ fn body_of(alloc: Global, types: &TypeNames, tokens: &mut Cursor<'_>) -> Result<
                 Ok(Body::Skipped(Skip::Grammar { pos }))
             }
         }
-        Err(Stop::Not) => Ok(Body::Skipped(Skip::Grammar { pos })),
-        Err(Stop::Memory) => Err(OutOfMemory),
+        Err(ParseError::NoMatch) => Ok(Body::Skipped(Skip::Grammar { pos })),
+        Err(ParseError::Memory) => Err(OutOfMemory),
     }
 }
 
@@ -51,11 +51,11 @@ fn segment_of(
             let body = Boxed::new(alloc, body_of(alloc, types, tokens)?)?;
             Ok(Segment::Function(head, body))
         }
-        Err(Stop::Not) => {
+        Err(ParseError::NoMatch) => {
             types.forget_beyond(count);
             Ok(Segment::Skipped(Skip::Grammar { pos }))
         }
-        Err(Stop::Memory) => Err(OutOfMemory),
+        Err(ParseError::Memory) => Err(OutOfMemory),
     }
 }
 

@@ -1,23 +1,23 @@
 //! `if` and `switch` (C11 6.8.4).
 
-ghost use Rattle.std.specs.Prelude.{◌≡◌, ◌-◌, []};
+ghost use Rattle.std.specs.Prelude.{◌≡◌, []};
 ghost use Rattle.sc_parse_expr.specs.Gives.{Gives};
 ghost use Rattle.sc_parse_expr.specs.Read.{read};
-ghost use Rattle.sc_parse_unit.specs.Nests.{Nests, inner_stmt};
+ghost use Rattle.sc_parse_unit.specs.Nests.{ReadsStatements, in_statement};
 ghost use Rattle.sc_parse_unit.specs.Reading as spec;
 
 use crate::fronts;
 use crate::parts::Statements;
 use sc_base::{Boxed, Pos};
 use sc_parse_expr::Found;
-use sc_parse_front::{Cursor, Stop, TypeNames};
+use sc_parse_front::{Cursor, ParseError, TypeNames};
 use sc_tree::expr::Expr;
 use sc_tree::stmt::Stmt;
 use std::alloc::Global;
 
 impl<
     't,
-    F: Fn(Global, &TypeNames, &mut Cursor<'_>, usize) -> Result<Found<Boxed<Stmt>>, Stop>,
+    F: Fn(Global, &TypeNames, &mut Cursor<'_>, usize) -> Result<Found<Boxed<Stmt>>, ParseError>,
 > Statements<'t, F> {
     /// Behind the first statement of an `if`, before its `else`.
     #[tactic(auto, unfolding(crate::specs::Reading::if_else))]
@@ -27,9 +27,9 @@ impl<
         pos: Pos,
         test: Found<Boxed<Expr>>,
         then: Found<Boxed<Stmt>>,
-    ) -> Result<Found<Boxed<Stmt>>, Stop>
-        requires { Nests spec.statement self.now.limit (F.pre self.now.inner) (F.post self.now.inner) }
-        ensures { Gives (spec.if_else self.now.types.now (self.now.limit - 1) (inner_stmt self.now.types.now self.now.limit) pos (read test.it test.height []) (read then.it then.height tokens.old)) result tokens.new }
+    ) -> Result<Found<Boxed<Stmt>>, ParseError>
+        requires { ReadsStatements self.now F.pre F.post }
+        ensures { Gives (in_statement self.now spec.if_else pos (read test.it test.height []) (read then.it then.height tokens.old)) result tokens.new }
     {
         tokens.advance();
         let otherwise = self.inner(tokens)?;
@@ -46,9 +46,9 @@ impl<
         pos: Pos,
         test: Found<Boxed<Expr>>,
         then: Found<Boxed<Stmt>>,
-    ) -> Result<Found<Boxed<Stmt>>, Stop>
-        requires { Nests spec.statement self.now.limit (F.pre self.now.inner) (F.post self.now.inner) }
-        ensures { Gives (spec.if_rest self.now.types.now (self.now.limit - 1) (inner_stmt self.now.types.now self.now.limit) pos (read test.it test.height []) (read then.it then.height tokens.old)) result tokens.new }
+    ) -> Result<Found<Boxed<Stmt>>, ParseError>
+        requires { ReadsStatements self.now F.pre F.post }
+        ensures { Gives (in_statement self.now spec.if_rest pos (read test.it test.height []) (read then.it then.height tokens.old)) result tokens.new }
     {
         if fronts::is_else(tokens) {
             return self.with_else(tokens, pos, test, then);
@@ -64,9 +64,9 @@ impl<
         &self,
         tokens: &mut Cursor<'_>,
         pos: Pos,
-    ) -> Result<Found<Boxed<Stmt>>, Stop>
-        requires { Nests spec.statement self.now.limit (F.pre self.now.inner) (F.post self.now.inner) }
-        ensures { Gives (spec.an_if self.now.types.now (self.now.limit - 1) (inner_stmt self.now.types.now self.now.limit) pos tokens.old) result tokens.new }
+    ) -> Result<Found<Boxed<Stmt>>, ParseError>
+        requires { ReadsStatements self.now F.pre F.post }
+        ensures { Gives (in_statement self.now spec.an_if pos tokens.old) result tokens.new }
     {
         let test = self.condition(tokens)?;
         let then = self.inner(tokens)?;
@@ -79,9 +79,9 @@ impl<
         &self,
         tokens: &mut Cursor<'_>,
         pos: Pos,
-    ) -> Result<Found<Boxed<Stmt>>, Stop>
-        requires { Nests spec.statement self.now.limit (F.pre self.now.inner) (F.post self.now.inner) }
-        ensures { Gives (spec.a_switch self.now.types.now (self.now.limit - 1) (inner_stmt self.now.types.now self.now.limit) pos tokens.old) result tokens.new }
+    ) -> Result<Found<Boxed<Stmt>>, ParseError>
+        requires { ReadsStatements self.now F.pre F.post }
+        ensures { Gives (in_statement self.now spec.a_switch pos tokens.old) result tokens.new }
     {
         let test = self.condition(tokens)?;
         fronts::pass_left_brace(tokens)?;

@@ -1,9 +1,9 @@
 //! Statements (C11 6.8): what the first tokens begin, jumps, labels and expressions.
 
-ghost use Rattle.std.specs.Prelude.{◌≡◌, ◌-◌};
+ghost use Rattle.std.specs.Prelude.{◌≡◌};
 ghost use Rattle.sc_parse_expr.specs.Gives.{Gives};
 ghost use Rattle.sc_parse_front.specs.Front.{front_reserved};
-ghost use Rattle.sc_parse_unit.specs.Nests.{Nests, inner_stmt};
+ghost use Rattle.sc_parse_unit.specs.Nests.{ReadsStatements, in_statement};
 ghost use Rattle.sc_parse_unit.specs.Reading as spec;
 
 use crate::found::Keyword;
@@ -11,21 +11,21 @@ use crate::fronts;
 use crate::parts::Statements;
 use sc_base::{Boxed, NameId, Pos};
 use sc_parse_expr::Found;
-use sc_parse_front::{Cursor, Stop, TypeNames};
+use sc_parse_front::{Cursor, ParseError, TypeNames};
 use sc_tree::stmt::Stmt;
 use std::alloc::Global;
 
 impl<
     't,
-    F: Fn(Global, &TypeNames, &mut Cursor<'_>, usize) -> Result<Found<Boxed<Stmt>>, Stop>,
+    F: Fn(Global, &TypeNames, &mut Cursor<'_>, usize) -> Result<Found<Boxed<Stmt>>, ParseError>,
 > Statements<'t, F> {
     #[tactic(auto, unfolding(crate::specs::Reading::a_goto))]
-    fn a_goto(&self, tokens: &mut Cursor<'_>, pos: Pos) -> Result<Found<Boxed<Stmt>>, Stop>
-        requires { Nests spec.statement self.now.limit (F.pre self.now.inner) (F.post self.now.inner) }
-        ensures { Gives (spec.a_goto self.now.types.now (self.now.limit - 1) (inner_stmt self.now.types.now self.now.limit) pos tokens.old) result tokens.new }
+    fn a_goto(&self, tokens: &mut Cursor<'_>, pos: Pos) -> Result<Found<Boxed<Stmt>>, ParseError>
+        requires { ReadsStatements self.now F.pre F.post }
+        ensures { Gives (in_statement self.now spec.a_goto pos tokens.old) result tokens.new }
     {
         let Some(label) = tokens.word() else {
-            return Err(Stop::Not);
+            return Err(ParseError::NoMatch);
         };
         tokens.advance();
         tokens.pass_semicolon()?;
@@ -33,27 +33,31 @@ impl<
     }
 
     #[tactic(auto, unfolding(crate::specs::Reading::a_break))]
-    fn a_break(&self, tokens: &mut Cursor<'_>, pos: Pos) -> Result<Found<Boxed<Stmt>>, Stop>
-        requires { Nests spec.statement self.now.limit (F.pre self.now.inner) (F.post self.now.inner) }
-        ensures { Gives (spec.a_break self.now.types.now (self.now.limit - 1) (inner_stmt self.now.types.now self.now.limit) pos tokens.old) result tokens.new }
+    fn a_break(&self, tokens: &mut Cursor<'_>, pos: Pos) -> Result<Found<Boxed<Stmt>>, ParseError>
+        requires { ReadsStatements self.now F.pre F.post }
+        ensures { Gives (in_statement self.now spec.a_break pos tokens.old) result tokens.new }
     {
         tokens.pass_semicolon()?;
         self.made(Stmt::Break(pos), 0)
     }
 
     #[tactic(auto, unfolding(crate::specs::Reading::a_continue))]
-    fn a_continue(&self, tokens: &mut Cursor<'_>, pos: Pos) -> Result<Found<Boxed<Stmt>>, Stop>
-        requires { Nests spec.statement self.now.limit (F.pre self.now.inner) (F.post self.now.inner) }
-        ensures { Gives (spec.a_continue self.now.types.now (self.now.limit - 1) (inner_stmt self.now.types.now self.now.limit) pos tokens.old) result tokens.new }
+    fn a_continue(
+        &self,
+        tokens: &mut Cursor<'_>,
+        pos: Pos,
+    ) -> Result<Found<Boxed<Stmt>>, ParseError>
+        requires { ReadsStatements self.now F.pre F.post }
+        ensures { Gives (in_statement self.now spec.a_continue pos tokens.old) result tokens.new }
     {
         tokens.pass_semicolon()?;
         self.made(Stmt::Continue(pos), 0)
     }
 
     #[tactic(auto, unfolding(crate::specs::Reading::a_return))]
-    fn a_return(&self, tokens: &mut Cursor<'_>, pos: Pos) -> Result<Found<Boxed<Stmt>>, Stop>
-        requires { Nests spec.statement self.now.limit (F.pre self.now.inner) (F.post self.now.inner) }
-        ensures { Gives (spec.a_return self.now.types.now (self.now.limit - 1) (inner_stmt self.now.types.now self.now.limit) pos tokens.old) result tokens.new }
+    fn a_return(&self, tokens: &mut Cursor<'_>, pos: Pos) -> Result<Found<Boxed<Stmt>>, ParseError>
+        requires { ReadsStatements self.now F.pre F.post }
+        ensures { Gives (in_statement self.now spec.a_return pos tokens.old) result tokens.new }
     {
         let found = self.before_semicolon(tokens)?;
         tokens.pass_semicolon()?;
@@ -61,9 +65,9 @@ impl<
     }
 
     #[tactic(auto, unfolding(crate::specs::Reading::expression))]
-    fn expression(&self, tokens: &mut Cursor<'_>) -> Result<Found<Boxed<Stmt>>, Stop>
-        requires { Nests spec.statement self.now.limit (F.pre self.now.inner) (F.post self.now.inner) }
-        ensures { Gives (spec.expression self.now.types.now (self.now.limit - 1) (inner_stmt self.now.types.now self.now.limit) tokens.old) result tokens.new }
+    fn expression(&self, tokens: &mut Cursor<'_>) -> Result<Found<Boxed<Stmt>>, ParseError>
+        requires { ReadsStatements self.now F.pre F.post }
+        ensures { Gives (in_statement self.now spec.expression tokens.old) result tokens.new }
     {
         let pos = tokens.first_pos();
         let value = self.before_semicolon(tokens)?;
@@ -73,9 +77,13 @@ impl<
 
     /// A label with its colon, and the statement behind it.
     #[tactic(auto, unfolding(crate::specs::Reading::a_label))]
-    fn a_label(&self, tokens: &mut Cursor<'_>, label: NameId) -> Result<Found<Boxed<Stmt>>, Stop>
-        requires { Nests spec.statement self.now.limit (F.pre self.now.inner) (F.post self.now.inner) }
-        ensures { Gives (spec.a_label self.now.types.now (self.now.limit - 1) (inner_stmt self.now.types.now self.now.limit) label tokens.old) result tokens.new }
+    fn a_label(
+        &self,
+        tokens: &mut Cursor<'_>,
+        label: NameId,
+    ) -> Result<Found<Boxed<Stmt>>, ParseError>
+        requires { ReadsStatements self.now F.pre F.post }
+        ensures { Gives (in_statement self.now spec.a_label label tokens.old) result tokens.new }
     {
         let pos = tokens.first_pos();
         tokens.advance();
@@ -86,9 +94,9 @@ impl<
 
     /// By the reserved word at the front.
     #[tactic(auto, unfolding(crate::specs::Reading::by_keyword))]
-    fn by_keyword(&self, tokens: &mut Cursor<'_>) -> Result<Found<Boxed<Stmt>>, Stop>
-        requires { Nests spec.statement self.now.limit (F.pre self.now.inner) (F.post self.now.inner) }
-        ensures { Gives (spec.by_keyword self.now.types.now (self.now.limit - 1) (inner_stmt self.now.types.now self.now.limit) (spec.keyword (front_reserved tokens.old)) tokens.old) result tokens.new }
+    fn by_keyword(&self, tokens: &mut Cursor<'_>) -> Result<Found<Boxed<Stmt>>, ParseError>
+        requires { ReadsStatements self.now F.pre F.post }
+        ensures { Gives (in_statement self.now spec.by_keyword (spec.keyword (front_reserved tokens.old)) tokens.old) result tokens.new }
     {
         let pos = tokens.first_pos();
         match fronts::keyword(tokens) {
@@ -134,9 +142,9 @@ impl<
 
     /// A statement.
     #[tactic(auto, unfolding(crate::specs::Reading::statement_by, crate::specs::Reading::by_label))]
-    fn statement(&self, tokens: &mut Cursor<'_>) -> Result<Found<Boxed<Stmt>>, Stop>
-        requires { Nests spec.statement self.now.limit (F.pre self.now.inner) (F.post self.now.inner) }
-        ensures { Gives (spec.statement_by self.now.types.now (self.now.limit - 1) (inner_stmt self.now.types.now self.now.limit) tokens.old) result tokens.new }
+    fn statement(&self, tokens: &mut Cursor<'_>) -> Result<Found<Boxed<Stmt>>, ParseError>
+        requires { ReadsStatements self.now F.pre F.post }
+        ensures { Gives (in_statement self.now spec.statement_by tokens.old) result tokens.new }
     {
         if let Some(label) = fronts::label_at(tokens) {
             return self.a_label(tokens, label);
@@ -155,11 +163,11 @@ pub(crate) fn read_statement(
     types: &TypeNames,
     tokens: &mut Cursor<'_>,
     limit: usize,
-) -> Result<Found<Boxed<Stmt>>, Stop>
+) -> Result<Found<Boxed<Stmt>>, ParseError>
     ensures { Gives (spec.statement types.now limit tokens.old) result tokens.new }
 {
     if limit == 0 {
-        return Err(Stop::Not);
+        return Err(ParseError::NoMatch);
     }
     Statements {
         alloc,

@@ -11,13 +11,17 @@ returns-then-at-end-clause-count c =
 pub returns-in_err-byte-clause-count : goal.returns-in_err-byte-clause-count
 returns-in_err-byte-clause-count c =
     let text = c.args.text.now in
-    c.from_residual.ensures ∙ spelled_stop (spelled_bytes (length text) text) c.loop.count c.loop.at c.loop.counter text c.split_at.result.1.now c.loop-test.true c.loop.invariant.2 c.if-at-end.false c.split_at.ensures.back (sym c.in_err-byte.ensures.value) c.loop.invariant.0
+    c.from_residual.ensures ∙ spelled_stop (spelled_bytes (length text) text) c.loop.count c.loop.at c.loop.counter text
+    c.split_at.result.1.now c.loop-test.true c.loop.invariant.2 c.if-at-end.false c.split_at.ensures.back
+    (sym c.in_err-byte.ensures.value) c.loop.invariant.0
 
 pub loop-preserved : goal.loop-preserved
 loop-preserved c =
     let text = c.args.text.now in
     let byte = c.in_ok-byte.byte in (
-      spelled_more (spelled_bytes (length text) text) c.loop.count c.loop.at c.loop.counter text c.split_at.result.1.now (byte.len, byte.value) c.loop-test.true c.loop.invariant.2 c.if-at-end.false c.split_at.ensures.back (sym c.in_ok-byte.ensures.value) c.loop.invariant.0,
+      spelled_more (spelled_bytes (length text) text) c.loop.count c.loop.at c.loop.counter text c.split_at.result.1.now
+          (byte.len, byte.value) c.loop-test.true c.loop.invariant.2 c.if-at-end.false c.split_at.ensures.back
+          (sym c.in_ok-byte.ensures.value) c.loop.invariant.0,
       omega arith,
       omega (arith, c.split_at.ensures.back_len, c.in_ok-byte.ensures.within),
     )

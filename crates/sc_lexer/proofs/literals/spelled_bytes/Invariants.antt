@@ -6,4 +6,5 @@ use Rattle.sc_lexer.proofs.literals.spelled_bytes.Given as goal
 
 abbrev pub invariant-loop : goal.invariant-loop
 invariant-loop l =
-    (option_map (λ n. l.count + n) (spelled_bytes (length l.text - l.counter) (drop l.at l.text)) ≡ spelled_bytes (length l.text) l.text) × (l.count ≤ l.counter) × (l.at ≤ length l.text)
+    (option_map (λ n. l.count + n) (spelled_bytes (length l.text - l.counter) (drop l.at l.text)) ≡ spelled_bytes (length l.text) l.text)
+    × (l.count ≤ l.counter) × (l.at ≤ length l.text)

@@ -8,4 +8,5 @@ returns-then-limit-eq0 t c = let none : c.args.limit ≡ 0 = omega arith in pars
 
 pub returns : goal.returns
 returns t c =
-    subst (λ o. Gives o c.wanted.result c.wanted.new.tokens) (sym (parse_by c.args.types.now c.args.limit c.args.wanted c.args.tokens.now (omega arith))) c.wanted.ensures
+    subst (λ o. Gives o c.wanted.result c.wanted.new.tokens) (sym
+    (parse_by c.args.types.now c.args.limit c.args.wanted c.args.tokens.now (omega arith))) c.wanted.ensures

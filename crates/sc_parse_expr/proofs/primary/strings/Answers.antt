@@ -6,7 +6,8 @@ use Rattle.sc_parse_expr.proofs.primary.strings.Goals as goal
 pub loop-string-preserved : goal.loop-string-preserved
 loop-string-preserved c =
     let is : front_string c.loop-string.tokens ≡ Some c.in-Some.string = sym c.string.ensures ∙ c.in-Some.is in (
-      strings_more c.loop-string.all c.push-in-Some.new.self _ c.loop-string.tokens c.advance.new.self c.in-Some.string c.loop-string.invariant.0 is c.in_ok-push-2.ensures.ok c.advance.ensures,
+      strings_more c.loop-string.all c.push-in-Some.new.self _ c.loop-string.tokens c.advance.new.self c.in-Some.string
+          c.loop-string.invariant.0 is c.in_ok-push-2.ensures.ok c.advance.ensures,
       past_strings_more c.loop-string.tokens c.advance.new.self c.in-Some.string _ c.loop-string.invariant.1 is c.advance.ensures,
     )
 

@@ -14,7 +14,8 @@ loop-turn-preserved c =
     let deep : 2 ≤ c.loop-turn.open = omega arith in
     let shorter = behind_length c.loop-turn.left c.in-Some.kind is in
     let same : length (behind c.loop-turn.left) + (c.loop-turn._turn + 1) ≡ c.len-count.result = omega arith in (
-      turn_closes c.loop-turn.open c.loop-turn.left c.advance.new.self c.in-Some.kind is c.loop-turn.invariant.0 c.advance.ensures (sym c.closes.ensures ∙ c.if-not-closes.false) deep,
+      turn_closes c.loop-turn.open c.loop-turn.left c.advance.new.self c.in-Some.kind is c.loop-turn.invariant.0 c.advance.ensures
+          (sym c.closes.ensures ∙ c.if-not-closes.false) deep,
       omega arith,
       omega arith,
       ap (λ (us : List Token). length us + (c.loop-turn._turn + 1)) c.advance.ensures ∙ same,

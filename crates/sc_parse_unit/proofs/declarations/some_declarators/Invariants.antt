@@ -2,7 +2,7 @@ use Rattle.std.proofs.Common.{◌≡◌, ◌-◌}
 use Rattle.sc_parse_expr.specs.Reading.{with_item, never}
 use Rattle.sc_parse_expr.proofs.Steps.{commas_then, items_of}
 use Rattle.sc_parse_unit.specs.Reading.{init_declarator}
-use Rattle.sc_parse_unit.specs.Steps.{some_declarators}
+use Rattle.sc_parse_unit.specs.Reading.{some_declarators}
 use Rattle.sc_parse_unit.proofs.declarations.some_declarators.Given as goal
 
 -- what is still to be read gives what all gives

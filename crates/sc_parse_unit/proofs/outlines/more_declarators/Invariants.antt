@@ -1,6 +1,6 @@
 use Rattle.std.proofs.Common.{◌≡◌, ◌-◌, length}
 use Rattle.sc_parse_unit.specs.Reading.{file_declarators}
-use Rattle.sc_parse_unit.specs.Steps.{Keeps}
+use Rattle.sc_parse_unit.specs.Reading.{Keeps}
 use Rattle.sc_parse_unit.proofs.outlines.more_declarators.Given as goal
 
 -- what is still to be read gives what all gives, and the typedef names that were there stay

@@ -8,4 +8,5 @@ returns-then-limit-eq0 t c = let none : c.args.limit ≡ 0 = omega arith in stat
 
 pub returns : goal.returns
 returns t c =
-    subst (λ o. Gives o c.statement.result c.statement.new.tokens) (sym (statement_by_limit c.args.types.now c.args.limit c.args.tokens.now (omega arith))) c.statement.ensures
+    subst (λ o. Gives o c.statement.result c.statement.new.tokens)
+    (sym (statement_by_limit c.args.types.now c.args.limit c.args.tokens.now (omega arith))) c.statement.ensures

@@ -7,18 +7,27 @@ use Rattle.sc_parse_expr.proofs.grammar.Grammar.some_parts.Goals as goal
 
 pub returns-in_err-found : goal.returns-in_err-found
 returns-in_err-found g c =
-    passed_on c.from_residual-in_err-found.result c.part.new.tokens c.part.new.tokens c.in_err-found.field-0.0 c.in_err-found.ensures c.from_residual-in_err-found.ensures.1
-    (λ none. commas_refused (part c.args.self.now.types.now c.args.self.now.limit (below c.args.self.now.types.now c.args.self.now.limit)) with_item never items_of _ _ c.loop-turn.all c.loop-turn.height c.loop-turn.tokens c.loop-turn-test.true c.loop-turn.invariant none)
+    passed_on c.from_residual-in_err-found.result c.part.new.tokens c.part.new.tokens c.in_err-found.field-0.0 c.in_err-found.ensures
+    c.from_residual-in_err-found.ensures.1
+    (λ none. commas_refused (part c.args.self.now.types.now c.args.self.now.limit (below c.args.self.now.types.now c.args.self.now.limit))
+    with_item never items_of _ _ c.loop-turn.all c.loop-turn.height c.loop-turn.tokens c.loop-turn-test.true c.loop-turn.invariant none)
 
 pub returns-then-not-is_comma : goal.returns-then-not-is_comma
 returns-then-not-is_comma g c =
-    commas_last (part c.args.self.now.types.now c.args.self.now.limit (below c.args.self.now.types.now c.args.self.now.limit)) with_item never items_of _ _ c.loop-turn.all c.loop-turn.height c.loop-turn.tokens (read c.in_ok-found.found.it c.in_ok-found.found.height c.part.new.tokens) c.push.new.self c.max-height.result c.part.new.tokens c.loop-turn-test.true c.loop-turn.invariant c.in_ok-found.ensures (sym c.is_comma.ensures ∙ c.if-not-is_comma.true)
+    commas_last (part c.args.self.now.types.now c.args.self.now.limit (below c.args.self.now.types.now c.args.self.now.limit)) with_item
+    never items_of _ _ c.loop-turn.all c.loop-turn.height c.loop-turn.tokens
+    (read c.in_ok-found.found.it c.in_ok-found.found.height c.part.new.tokens) c.push.new.self c.max-height.result c.part.new.tokens
+    c.loop-turn-test.true c.loop-turn.invariant c.in_ok-found.ensures (sym c.is_comma.ensures ∙ c.if-not-is_comma.true)
     c.in_ok-push.ensures.ok (c.max-height.ensures ∙ ord_max_nat _ _) refl
 
 pub loop-turn-preserved : goal.loop-turn-preserved
 loop-turn-preserved g c =
-    commas_next (part c.args.self.now.types.now c.args.self.now.limit (below c.args.self.now.types.now c.args.self.now.limit)) with_item never items_of _ _ c.loop-turn.all c.loop-turn.height c.loop-turn.tokens (read c.in_ok-found.found.it c.in_ok-found.found.height c.part.new.tokens) c.push.new.self c.max-height.result c.advance.new.self c.loop-turn-test.true c.loop-turn.invariant c.in_ok-found.ensures (sym c.is_comma.ensures ∙ c.if-not-is_comma.false)
+    commas_next (part c.args.self.now.types.now c.args.self.now.limit (below c.args.self.now.types.now c.args.self.now.limit)) with_item
+    never items_of _ _ c.loop-turn.all c.loop-turn.height c.loop-turn.tokens
+    (read c.in_ok-found.found.it c.in_ok-found.found.height c.part.new.tokens) c.push.new.self c.max-height.result c.advance.new.self
+    c.loop-turn-test.true c.loop-turn.invariant c.in_ok-found.ensures (sym c.is_comma.ensures ∙ c.if-not-is_comma.false)
     c.advance.ensures refl c.in_ok-push.ensures.ok (c.max-height.ensures ∙ ord_max_nat _ _)
 
 pub returns : goal.returns
-returns g c = commas_out (part c.args.self.now.types.now c.args.self.now.limit (below c.args.self.now.types.now c.args.self.now.limit)) with_item never items_of _ _ c.loop-turn.all c.loop-turn.height c.loop-turn.tokens c.loop-turn-test.false c.loop-turn.invariant
+returns g c = commas_out (part c.args.self.now.types.now c.args.self.now.limit (below c.args.self.now.types.now c.args.self.now.limit))
+    with_item never items_of _ _ c.loop-turn.all c.loop-turn.height c.loop-turn.tokens c.loop-turn-test.false c.loop-turn.invariant

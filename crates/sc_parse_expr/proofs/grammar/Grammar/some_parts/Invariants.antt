@@ -1,6 +1,6 @@
 use Rattle.std.proofs.Common.{◌≡◌, ◌-◌}
 use Rattle.sc_parse_expr.specs.Reading.{part, with_item, never}
-use Rattle.sc_parse_expr.specs.Steps.{some_parts}
+use Rattle.sc_parse_expr.specs.Reading.{some_parts}
 use Rattle.sc_parse_expr.specs.Nests.{below}
 use Rattle.sc_parse_expr.proofs.Steps.{commas_then, items_of}
 use Rattle.sc_parse_expr.proofs.grammar.Grammar.some_parts.Given as goal
@@ -9,4 +9,5 @@ use Rattle.sc_parse_expr.proofs.grammar.Grammar.some_parts.Given as goal
 abbrev pub invariant-loop-turn : goal.invariant-loop-turn
 invariant-loop-turn g l =
     some_parts l.self.types.now l.self.limit (below l.self.types.now l.self.limit) l.fn.tokens
-    ≡ commas_then (part l.self.types.now l.self.limit (below l.self.types.now l.self.limit)) with_item never items_of (l._turn-end - l._turn) l.all l.height l.tokens
+    ≡ commas_then (part l.self.types.now l.self.limit (below l.self.types.now l.self.limit)) with_item never items_of
+    (l._turn-end - l._turn) l.all l.height l.tokens

@@ -10,4 +10,5 @@ use Rattle.sc_parse_unit.proofs.parts.Statements.items.Given as goal
 abbrev pub invariant-loop-turn : goal.invariant-loop-turn
 invariant-loop-turn g l =
     items l.self.types.now (l.self.limit - 1) (inner_stmt l.self.types.now l.self.limit) l.switch l.fn.tokens
-    ≡ many (an_item l.self.types.now (l.self.limit - 1) (inner_stmt l.self.types.now l.self.limit) l.switch) with_item is_right_brace (l._turn-end - l._turn) l.all l.height l.tokens
+    ≡ many (an_item l.self.types.now (l.self.limit - 1) (inner_stmt l.self.types.now l.self.limit) l.switch) with_item is_right_brace
+    (l._turn-end - l._turn) l.all l.height l.tokens
