@@ -19,7 +19,8 @@ use Rattle.sc_tree.specs.Statements.{AnInitDeclarator, uninitialised, initialise
 use Rattle.sc_tree.specs.Statements.{ADeclaration, without_declarators, with_declarators}
 use Rattle.sc_parse_front.specs.Front.{front, is_equals}
 use Rattle.sc_parse_expr.specs.Read.{read, commas}
-use Rattle.sc_parse_expr.specs.Reading.{declared, with_item, never}
+use Rattle.sc_parse_expr.specs.Reading.Found.{declared}
+use Rattle.sc_parse_expr.specs.Reading.Grammar.{with_item, never}
 use Rattle.sc_parse_expr.specs.Laws.{ends_expr, ends_specs, ends_declarator, BeginsSpecs, BeginsDeclarator}
 use Rattle.sc_parse_expr.specs.Laws as below
 use Rattle.sc_parse_expr.proofs.Begins.{begins_specs, begins_declarator}

@@ -17,7 +17,8 @@ use Rattle.sc_tree.specs.Statements.{empty_braces, in_braces, InitItems, last_it
 use Rattle.sc_tree.specs.Statements.{a_designated}
 use Rattle.sc_parse_front.specs.Front.{punct_of, front, is_right_brace}
 use Rattle.sc_parse_expr.specs.Read.{read, Parse, commas}
-use Rattle.sc_parse_expr.specs.Reading.{with_item, parse}
+use Rattle.sc_parse_expr.specs.Reading.Grammar.{with_item}
+use Rattle.sc_parse_expr.specs.Reading.Parse.{parse}
 use Rattle.sc_parse_expr.specs.Laws.{ends_expr}
 use Rattle.sc_parse_expr.specs.Laws as below
 use Rattle.sc_parse_expr.proofs.Begins.{begins_expr}

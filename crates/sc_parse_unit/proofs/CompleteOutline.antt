@@ -20,7 +20,8 @@ use Rattle.sc_tree.specs.Units.{is_braced, is_empty, closes, IsDeclaration, IsFu
 use Rattle.sc_parse_expr.specs.declared.found.Declared.{Declared}
 use Rattle.sc_parse_front.specs.Front.{front, behind, is_left_brace, is_comma}
 use Rattle.sc_parse_expr.specs.Read.{Read, read, Parse}
-use Rattle.sc_parse_expr.specs.Reading.{declarator_at, declared}
+use Rattle.sc_parse_expr.specs.Reading.Parse.{declarator_at}
+use Rattle.sc_parse_expr.specs.Reading.Found.{declared}
 use Rattle.sc_parse_expr.specs.Laws.{ends_declarator, BeginsDeclarator}
 use Rattle.sc_parse_expr.specs.Laws as below
 use Rattle.sc_parse_expr.proofs.Begins.{begins_specs}

@@ -25,7 +25,7 @@ use Rattle.sc_tree.specs.Statements.{ADeclaration, for_head, AtMost, left_out, t
 use Rattle.sc_parse_front.specs.Front.{punct_of, word_of, reserved_of, front, front_reserved, is_right_brace, is_right_paren, is_semicolon}
 use Rattle.sc_parse_front.specs.Front.{begins_piece, is_type_word, begins_type}
 use Rattle.sc_parse_expr.specs.Read.{Read, read, Parse, node, many}
-use Rattle.sc_parse_expr.specs.Reading.{with_item}
+use Rattle.sc_parse_expr.specs.Reading.Grammar.{with_item}
 use Rattle.sc_parse_expr.specs.Laws.{opens_expr, ends_expr, BeginsExpr, BeginsSpecs}
 use Rattle.sc_parse_expr.specs.Laws as below
 use Rattle.sc_parse_expr.proofs.Begins.{begins_expr}

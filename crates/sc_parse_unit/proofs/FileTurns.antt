@@ -16,7 +16,7 @@ use Rattle.sc_tree.specs.Units.{with_declared, is_empty}
 use Rattle.sc_parse_expr.specs.declared.found.Declared.{Declared}
 use Rattle.sc_parse_front.specs.Front.{front, behind, is_comma}
 use Rattle.sc_parse_expr.specs.Read.{Read, read}
-use Rattle.sc_parse_expr.specs.Reading.{declarator_at}
+use Rattle.sc_parse_expr.specs.Reading.Parse.{declarator_at}
 use Rattle.sc_parse_unit.specs.Reading.{with_init, FileParts, file_parts, file_rest, file_declarator, file_declarators}
 use Rattle.sc_parse_unit.specs.Reading.{Keeps}
 

@@ -5,7 +5,7 @@ use Rattle.sc_tree.specs.declared.token.Token.{Token}
 use Rattle.sc_tree.specs.declared.token.Punct.{Punct}
 use Rattle.sc_parse_front.specs.Front.{front}
 use Rattle.sc_parse_expr.specs.Read.{Read, Parse, Listed, commas, many}
-use Rattle.sc_parse_expr.specs.Reading.{with_item, never}
+use Rattle.sc_parse_expr.specs.Reading.Grammar.{with_item, never}
 use Rattle.sc_parse_expr.proofs.Tools.{Splits}
 use Rattle.sc_parse_expr.proofs.SoundLists.{Item, Chained, last, more, Ending, plain, with_comma, Row, empty, next, all_items, commas_took, many_took}
 

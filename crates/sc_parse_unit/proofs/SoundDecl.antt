@@ -20,7 +20,8 @@ use Rattle.sc_tree.specs.Statements.{more_declared, IsPlain, declaration, ADecla
 use Rattle.sc_parse_expr.specs.declared.found.Declared.{Declared}
 use Rattle.sc_parse_front.specs.Front.{front, behind, is_equals, is_semicolon}
 use Rattle.sc_parse_expr.specs.Read.{Read, read, taking, commas}
-use Rattle.sc_parse_expr.specs.Reading.{specs_at, declarator_at, with_item, never}
+use Rattle.sc_parse_expr.specs.Reading.Parse.{specs_at, declarator_at}
+use Rattle.sc_parse_expr.specs.Reading.Grammar.{with_item, never}
 use Rattle.sc_parse_expr.specs.Laws as lower
 use Rattle.sc_parse_expr.proofs.Tools.{bind_some, if_is, test_is, given, Splits, glue, front_is, equals, semicolon, taken}
 use Rattle.sc_parse_expr.proofs.SoundLists.{Item, Chained, last, more}

@@ -19,7 +19,8 @@ use Rattle.sc_tree.specs.Statements.{ADesignator, of_field, of_index, Designates
 use Rattle.sc_tree.specs.Statements.{in_braces, InitItems, last_item, last_item_with_comma, more_items, AnInitItem, an_item, a_designated}
 use Rattle.sc_parse_front.specs.Front.{front, front_word, behind, is_left_brace, is_right_brace, is_right_bracket, is_equals}
 use Rattle.sc_parse_expr.specs.Read.{Read, read, Parse, node, taking, commas, many}
-use Rattle.sc_parse_expr.specs.Reading.{expr_at, with_item}
+use Rattle.sc_parse_expr.specs.Reading.Parse.{expr_at}
+use Rattle.sc_parse_expr.specs.Reading.Grammar.{with_item}
 use Rattle.sc_parse_expr.specs.Laws as lower
 use Rattle.sc_parse_expr.proofs.Tools.{bind_some, if_is, given, node_is, Splits, glue, One, front_is, front_word_is, right_bracket}
 use Rattle.sc_parse_expr.proofs.Tools.{left_brace, right_brace, equals, taken}

@@ -24,7 +24,8 @@ use Rattle.sc_tree.specs.Units.{with_declared, AFileDeclarator, FileDeclarators,
 use Rattle.sc_parse_expr.specs.declared.found.Declared.{Declared}
 use Rattle.sc_parse_front.specs.Front.{front, behind, is_comma, is_semicolon, is_left_brace}
 use Rattle.sc_parse_expr.specs.Read.{Read, read, Parse, taking}
-use Rattle.sc_parse_expr.specs.Reading.{specs_at, declarator_at, with_item}
+use Rattle.sc_parse_expr.specs.Reading.Parse.{specs_at, declarator_at}
+use Rattle.sc_parse_expr.specs.Reading.Grammar.{with_item}
 use Rattle.sc_parse_expr.specs.Laws as lower
 use Rattle.sc_parse_expr.proofs.Tools.{bind_some, if_is, test_is, given, Splits, glue, front_is, comma, semicolon, taken}
 use Rattle.sc_parse_expr.proofs.SoundLists.{Item}

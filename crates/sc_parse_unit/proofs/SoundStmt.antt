@@ -25,7 +25,7 @@ use Rattle.sc_tree.specs.Statements.{States, AnItem, a_statement, a_declared, a_
 use Rattle.sc_parse_front.specs.Front.{front, front_word, front_reserved, behind, is_left_paren, is_right_paren, is_left_brace}
 use Rattle.sc_parse_front.specs.Front.{is_right_brace, is_colon, is_semicolon, begins_type}
 use Rattle.sc_parse_expr.specs.Read.{Read, read, Parse, node, taking}
-use Rattle.sc_parse_expr.specs.Reading.{expr_at}
+use Rattle.sc_parse_expr.specs.Reading.Parse.{expr_at}
 use Rattle.sc_parse_expr.specs.Laws as lower
 use Rattle.sc_parse_expr.proofs.Tools.{bind_some, if_is, test_is, given, node_is, Splits, none, glue, One, front_is, front_word_is}
 use Rattle.sc_parse_expr.proofs.Tools.{front_reserved_is, left_paren, right_paren, left_brace, right_brace, colon, semicolon, taken}

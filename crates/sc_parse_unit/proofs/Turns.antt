@@ -8,7 +8,7 @@ use Rattle.sc_tree.specs.declared.stmt.Stmt.{Stmt}
 use Rattle.sc_tree.specs.Tables.{◌>>=◌}
 use Rattle.sc_parse_front.specs.Front.{is_right_brace}
 use Rattle.sc_parse_expr.specs.Read.{read, Parse, many}
-use Rattle.sc_parse_expr.specs.Reading.{with_item}
+use Rattle.sc_parse_expr.specs.Reading.Grammar.{with_item}
 use Rattle.sc_parse_unit.specs.Nests.{inner_init, inner_stmt}
 use Rattle.sc_parse_unit.specs.Reading.{begins_designator, is_no_designator, a_designator, designators, initialiser, initialiser_by}
 use Rattle.sc_parse_unit.specs.Reading.{statement, statement_by, items, an_item}

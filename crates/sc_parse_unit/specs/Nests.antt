@@ -12,7 +12,7 @@ use Rattle.sc_tree.specs.Tables.{◌>>=◌}
 use Rattle.sc_parse_expr.specs.declared.found.Found.{Found}
 use Rattle.sc_parse_front.specs.declared.error.ParseError.{ParseError}
 use Rattle.sc_parse_expr.specs.Read.{Parse, read}
-use Rattle.sc_parse_expr.specs.Reading.{expr_at}
+use Rattle.sc_parse_expr.specs.Reading.Parse.{expr_at}
 use Rattle.sc_parse_expr.specs.Gives.{Gives}
 use Rattle.sc_parse_unit.specs.declared.initialisers.Initialisers.{Initialisers}
 use Rattle.sc_parse_unit.specs.declared.parts.Statements.{Statements}

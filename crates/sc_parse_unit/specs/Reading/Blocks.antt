@@ -10,7 +10,8 @@ use Rattle.sc_tree.specs.Tables.{◌>>=◌}
 use Rattle.sc_tree.specs.Tokens.{first_pos}
 use Rattle.sc_parse_front.specs.Front.{front_reserved, behind, is_right_brace, is_colon, begins_type}
 use Rattle.sc_parse_expr.specs.Read.{read, Parse, node, taking, many}
-use Rattle.sc_parse_expr.specs.Reading.{expr_at, with_item}
+use Rattle.sc_parse_expr.specs.Reading.Parse.{expr_at}
+use Rattle.sc_parse_expr.specs.Reading.Grammar.{with_item}
 use Rattle.sc_parse_unit.specs.Reading.Fronts.{label_at, is_label}
 use Rattle.sc_parse_unit.specs.Reading.Declarations.{body_declaration}
 use Rattle.sc_parse_unit.specs.Reading.Parts.{made}

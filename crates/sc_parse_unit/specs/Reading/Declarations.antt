@@ -16,7 +16,8 @@ use Rattle.sc_tree.specs.Statements.{declaration}
 use Rattle.sc_parse_expr.specs.declared.found.Declared.{Declared}
 use Rattle.sc_parse_front.specs.Front.{front, behind, is_semicolon, is_equals}
 use Rattle.sc_parse_expr.specs.Read.{Read, read, Parse, taking, commas}
-use Rattle.sc_parse_expr.specs.Reading.{specs_at, declarator_at, with_item, never}
+use Rattle.sc_parse_expr.specs.Reading.Parse.{specs_at, declarator_at}
+use Rattle.sc_parse_expr.specs.Reading.Grammar.{with_item, never}
 use Rattle.sc_parse_unit.specs.Reading.Initialisers.{initialiser}
 
 abbrev pub declared_as : Declarator → Option Init → InitDeclarator

@@ -10,7 +10,8 @@ use Rattle.sc_tree.specs.declared.grammar.Level.TheVariants.{Choice, Assignment}
 use Rattle.sc_tree.specs.Tables.{◌>>=◌}
 use Rattle.sc_parse_front.specs.Front.{front, front_word, behind, is_right_bracket, is_left_brace, is_right_brace, is_equals}
 use Rattle.sc_parse_expr.specs.Read.{read, Parse, node, taking, commas}
-use Rattle.sc_parse_expr.specs.Reading.{expr_at, with_item}
+use Rattle.sc_parse_expr.specs.Reading.Parse.{expr_at}
+use Rattle.sc_parse_expr.specs.Reading.Grammar.{with_item}
 use Rattle.sc_parse_unit.specs.Reading.Fronts.{is_dot, is_no_designator}
 
 -- One or more designators, one behind the other, at most so many more.
@@ -46,7 +47,7 @@ module _ (types : List NameId) (below : ℕ) (inner : Parse Init) where
   -- behind the opening brace
   unfoldable pub braces : Parse Init
   braces ts = if is_right_brace (front ts) then node (suc below) (init.List []) 0 (behind ts)
-      else (commas init_item with_item is_right_brace (length ts) [] 0 ts >>= λ xs. taking is_right_brace xs.rest >>= λ rest.
+      else (commas (init_item types below inner) with_item is_right_brace (length ts) [] 0 ts >>= λ xs. taking is_right_brace xs.rest >>= λ rest.
       node (suc below) (init.List xs.it.items) xs.height rest)
 
   unfoldable pub init_value : Parse Init

@@ -13,7 +13,7 @@ use Rattle.sc_tree.specs.Tokens.{first_pos}
 use Rattle.sc_tree.specs.Statements.{for_head}
 use Rattle.sc_parse_front.specs.Front.{front, behind, is_left_paren, is_right_paren, is_semicolon, begins_type}
 use Rattle.sc_parse_expr.specs.Read.{Read, read, Parse, node, taking}
-use Rattle.sc_parse_expr.specs.Reading.{expr_at}
+use Rattle.sc_parse_expr.specs.Reading.Parse.{expr_at}
 use Rattle.sc_parse_unit.specs.Reading.Fronts.{is_while, taking_word}
 use Rattle.sc_parse_unit.specs.Reading.Declarations.{body_declaration}
 use Rattle.sc_parse_unit.specs.Reading.Parts.{made, condition, at_most}

@@ -19,7 +19,8 @@ use Rattle.sc_tree.specs.Units.{with_declared, is_braced, is_empty}
 use Rattle.sc_parse_expr.specs.declared.found.Declared.{Declared}
 use Rattle.sc_parse_front.specs.Front.{front, behind, is_left_brace, is_comma, is_semicolon}
 use Rattle.sc_parse_expr.specs.Read.{Read, read, Parse, taking}
-use Rattle.sc_parse_expr.specs.Reading.{specs_at, declarator_at, with_item}
+use Rattle.sc_parse_expr.specs.Reading.Parse.{specs_at, declarator_at}
+use Rattle.sc_parse_expr.specs.Reading.Grammar.{with_item}
 use Rattle.sc_parse_unit.specs.declared.found.Outline.{Outline}
 use Rattle.sc_parse_unit.specs.declared.found.Outline.TheVariants as outline
 use Rattle.sc_parse_front.specs.declared.error.ParseError.{ParseError}

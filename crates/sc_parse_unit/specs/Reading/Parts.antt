@@ -9,7 +9,7 @@ use Rattle.sc_tree.specs.declared.grammar.Level.TheVariants.{Whole}
 use Rattle.sc_tree.specs.Tables.{◌>>=◌}
 use Rattle.sc_parse_front.specs.Front.{front, is_left_paren, is_right_paren}
 use Rattle.sc_parse_expr.specs.Read.{Read, read, Parse, node, taking}
-use Rattle.sc_parse_expr.specs.Reading.{expr_at}
+use Rattle.sc_parse_expr.specs.Reading.Parse.{expr_at}
 
 module _ (types : List NameId) (below : ℕ) (inner : Parse Stmt) where
   abbrev pub made : Stmt → ℕ → List Token → Option (Read Stmt)

@@ -1,5 +1,5 @@
 use Rattle.std.proofs.Common.{refl, sym, ◌∙◌}
-use Rattle.sc_parse_expr.specs.Reading.{with_item, never}
+use Rattle.sc_parse_expr.specs.Reading.Grammar.{with_item, never}
 use Rattle.sc_parse_unit.specs.Reading.{init_declarator}
 use Rattle.sc_parse_expr.specs.Read.{read}
 use Rattle.sc_parse_expr.proofs.Steps.{commas_refused, commas_last, commas_next, commas_out, items_of, passed_on, ord_max_nat}

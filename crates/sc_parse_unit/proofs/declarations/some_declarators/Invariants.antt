@@ -1,5 +1,5 @@
 use Rattle.std.proofs.Common.{◌≡◌, ◌-◌}
-use Rattle.sc_parse_expr.specs.Reading.{with_item, never}
+use Rattle.sc_parse_expr.specs.Reading.Grammar.{with_item, never}
 use Rattle.sc_parse_expr.proofs.Steps.{commas_then, items_of}
 use Rattle.sc_parse_unit.specs.Reading.{init_declarator}
 use Rattle.sc_parse_unit.specs.Reading.{some_declarators}

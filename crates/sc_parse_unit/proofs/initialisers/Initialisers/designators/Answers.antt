@@ -1,5 +1,5 @@
 use Rattle.std.proofs.Common.{◌-◌, sym, ◌∙◌}
-use Rattle.sc_parse_expr.specs.Reading.{with_item}
+use Rattle.sc_parse_expr.specs.Reading.Grammar.{with_item}
 use Rattle.sc_parse_unit.specs.Reading.{a_designator}
 use Rattle.sc_parse_unit.proofs.Turns.{ends_designators, designators_begin}
 use Rattle.sc_parse_expr.specs.Read.{read}

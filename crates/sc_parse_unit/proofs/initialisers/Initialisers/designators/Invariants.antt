@@ -1,6 +1,6 @@
 use Rattle.std.proofs.Common.{◌≡◌, ◌-◌, length, []}
 use Rattle.sc_parse_expr.specs.Read.{many}
-use Rattle.sc_parse_expr.specs.Reading.{with_item}
+use Rattle.sc_parse_expr.specs.Reading.Grammar.{with_item}
 use Rattle.sc_parse_unit.specs.Reading.{a_designator, designators}
 use Rattle.sc_parse_unit.proofs.Turns.{ends_designators}
 use Rattle.sc_parse_unit.proofs.initialisers.Initialisers.designators.Given as goal

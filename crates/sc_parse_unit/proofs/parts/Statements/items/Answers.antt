@@ -1,6 +1,6 @@
 use Rattle.std.proofs.Common.{◌-◌, ◌++◌, ◌∷◌, [], ap, sym, ◌∙◌}
 use Rattle.sc_parse_front.specs.Front.{is_right_brace}
-use Rattle.sc_parse_expr.specs.Reading.{with_item}
+use Rattle.sc_parse_expr.specs.Reading.Grammar.{with_item}
 use Rattle.sc_parse_unit.specs.Nests.{inner_stmt}
 use Rattle.sc_parse_unit.specs.Reading.{an_item}
 use Rattle.sc_parse_expr.specs.Read.{read}

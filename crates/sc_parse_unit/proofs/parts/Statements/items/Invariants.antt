@@ -1,7 +1,7 @@
 use Rattle.std.proofs.Common.{◌≡◌, ◌-◌}
 use Rattle.sc_parse_front.specs.Front.{is_right_brace}
 use Rattle.sc_parse_expr.specs.Read.{many}
-use Rattle.sc_parse_expr.specs.Reading.{with_item}
+use Rattle.sc_parse_expr.specs.Reading.Grammar.{with_item}
 use Rattle.sc_parse_unit.specs.Nests.{inner_stmt}
 use Rattle.sc_parse_unit.specs.Reading.{items, an_item}
 use Rattle.sc_parse_unit.proofs.parts.Statements.items.Given as goal
