@@ -42,7 +42,7 @@ use Rattle.sc_check.specs.Shapes.{Own, Shape, Heading}
 use Rattle.sc_check.specs.Typing.{heading}
 use Rattle.sc_check.specs.Declarations.{name_of, declaration}
 use Rattle.sc_check.specs.Bodies.{Inside, stating}
-use Rattle.sc_check.specs.Jumps.{jumps, jumps_of}
+use Rattle.sc_jumps.specs.Jumps.{jumps, jumps_of}
 
 -- Functions.
 

@@ -5,6 +5,5 @@ pub mod Initialisers
 pub mod Lengths
 pub mod Declarations
 pub mod Bodies
-pub mod Jumps
 pub mod Files
 pub mod Typed
