@@ -1,6 +1,6 @@
 -- Outputs that were made, and the marks of the functions.
 
-use Rattle.std.proofs.Common.{◌≡◌, ℕ, zero, suc, ◌+◌, ◌<◌, ◌≤◌, Bool, true, false, cond, List, [], ◌∷◌, ◌++◌, length, map, take, set, get_or, replicate, eqb, refl, sym, subst, ap, ◌∙◌, ⊎_elim, get_or-set_same, get_or-set_other, arith, Option, Some, None, eq-eqb}
+use Rattle.std.proofs.Common.{◌≡◌, ℕ, zero, suc, ◌+◌, ◌<◌, Bool, true, false, cond, List, [], ◌∷◌, ◌++◌, length, map, take, set, get_or, replicate, refl, sym, subst, ap, ◌∙◌, ⊎_elim, get_or-set_same, get_or-set_other, arith, Option, Some, None, eq-eqb}
 use Rattle.std.proofs.lemmas.Bool.{cases_eq, cases_lt, and_parts, cond-true, true≢false, false≢true, true_from_ne_false}
 use Rattle.std.proofs.lemmas.List.{get_or_past, length-map, length-set, set-set, map_more, take_more, get_or-replicate, length-replicate}
 use Rattle.std.proofs.lemmas.List.Sums.{sum_by-set}

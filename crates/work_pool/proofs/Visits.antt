@@ -1,6 +1,6 @@
 -- What the steps of a pass do to what it has seen.
 
-use Rattle.std.proofs.Common.{◌≡◌, ℕ, ◌+◌, ◌<◌, ◌≤◌, ◌||◌, Bool, true, false, cond, eqb, List, [], ◌∷◌, ◌++◌, refl, sym, subst, ap, ◌∙◌, ⊎_elim, eq-eqb, arith, Option, Some}
+use Rattle.std.proofs.Common.{◌≡◌, ℕ, ◌+◌, true, eqb, List, [], ◌∷◌, ◌++◌, refl, sym, subst, ap, ◌∙◌, ⊎_elim, eq-eqb, arith, Option, Some}
 use Rattle.std.proofs.lemmas.Bool.{or_left, or_right, or_cases, cases_lt, cond_both, cond-true, false≢true}
 use Rattle.summary_db.specs.declared.knows.Knows.{Knows}
 use Rattle.std.proofs.lemmas.List.Elements.{All-pop}

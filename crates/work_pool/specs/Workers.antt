@@ -1,5 +1,5 @@
 -- What the ends of a worker rest on.
-use Rattle.std.specs.Prelude.{◌≡◌, ℕ, ◌<◌, true, List, [], length, Option}
+use Rattle.std.specs.Prelude.{◌≡◌, ℕ, ◌<◌, true, List, []}
 use Rattle.plan_core.specs.declared.plan.Plan.{Plan}
 use Rattle.summary_db.specs.declared.knows.Knows.{Knows}
 use Rattle.summary_db.specs.declared.db.Db.{Db}

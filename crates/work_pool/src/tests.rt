@@ -1,8 +1,8 @@
-//! Runs of workers. What the outputs are is proved.
-//! The tests show that the calls run, that memory suffices, and what no contract says: that two
-//! workers run side by side, and that the gate is told of each function once.
+//! Runs of workers, and in `database` the calls of a database one after another. What the outputs
+//! are is proved. The tests show that the calls run, that memory suffices, and what no contract
+//! says: that two workers run side by side, and that the gate is told of each function once.
 
-ghost use Rattle.std.specs.Prelude.{◌≡◌, ◌<◌, ◌*◌, ◌+◌, IfOk};
+ghost use Rattle.std.specs.Prelude.{◌≡◌, ◌<◌, ◌≤◌, ◌*◌, ◌+◌, IfOk};
 ghost use Rattle.plan_core.specs.Graph.{IsPlan};
 
 use crate::{FreeGate, Gate, run_all, run_alone};
@@ -11,10 +11,14 @@ use sc_base::{List, OutOfMemory, RowList};
 use std::alloc::Global;
 use std::process::Abort;
 use std::snapshot::Snapshot;
+use std::sync::Wait;
 use std::sync::atomic::{AtomicU64, Ordering};
 use std::test::Fail;
 use std::thread;
+use std::thread::Threads;
 use summary_db::Work;
+
+mod database;
 
 /// How often each run is made.
 const RUNS: u32 = 100;
@@ -146,27 +150,36 @@ fn expect_once<R: Abort>(rt: &R, gate: &Noting) {
     }
 }
 
+/// So many workers make the outputs that one thread makes.
+fn expect_the_same<R: Abort + Threads + Wait + Sync>(
+    rt: &R,
+    alloc: Global,
+    work: &Odd,
+    plan: &Plan,
+    jobs: u32,
+) -> Result<(), OutOfMemory>
+    requires plan { IsPlan plan.now.callees × (work.now.plan.value ≡ plan.now) }
+    requires jobs { (0 < jobs) × (jobs ≤ 64) }
+{
+    let alone = run_alone(alloc, work, plan)?;
+    let together = run_all(rt, alloc, work, plan, jobs, &FreeGate)?.rows;
+    assert_eq!(rt; together.list.len(), alone.list.len());
+    for (one, other) in together.list.iter().zip(&alone.list) {
+        assert_eq!(rt; **one, **other);
+    }
+    Ok(())
+}
+
 #[test]
 fn outputs_are_the_same_for_every_number_of_jobs(rt: HostRuntime) -> Result<(), Fail> {
     let plan = plan(&rt, rt.alloc(), 2, true, false)?;
     let work = work_of(&plan);
     for _run in 0..RUNS {
         expect_odd(&rt, &run_alone(rt.alloc(), &work, &plan)?, 2);
-        expect_odd(
-            &rt,
-            &run_all(&rt, rt.alloc(), &work, &plan, 1, &FreeGate)?.rows,
-            2,
-        );
-        expect_odd(
-            &rt,
-            &run_all(&rt, rt.alloc(), &work, &plan, 2, &FreeGate)?.rows,
-            2,
-        );
-        expect_odd(
-            &rt,
-            &run_all(&rt, rt.alloc(), &work, &plan, 64, &FreeGate)?.rows,
-            2,
-        );
+        expect_the_same(&rt, rt.alloc(), &work, &plan, 1)?;
+        expect_the_same(&rt, rt.alloc(), &work, &plan, 2)?;
+        expect_the_same(&rt, rt.alloc(), &work, &plan, 4)?;
+        expect_the_same(&rt, rt.alloc(), &work, &plan, 64)?;
     }
     Ok(())
 }

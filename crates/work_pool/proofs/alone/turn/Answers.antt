@@ -1,5 +1,5 @@
 -- The callees of a function that may be claimed are published, so their outputs were made.
-use Rattle.std.proofs.Common.{◌≡◌, ℕ, ◌<◌, List, length, map, slice_set, refl, sym, subst, ap, ◌∙◌, Some, arith}
+use Rattle.std.proofs.Common.{◌<◌, length, map, slice_set, refl, sym, subst, ap, ◌∙◌, Some, arith}
 use Rattle.std.specs.List.{All}
 use Rattle.std.specs.Option.{IsSome}
 use Rattle.plan_core.specs.Graph.{callees}

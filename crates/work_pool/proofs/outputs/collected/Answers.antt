@@ -1,7 +1,6 @@
 -- Each output moves from its place to the end of the list.
-use Rattle.std.proofs.Common.{◌≡◌, ◌+◌, ◌<◌, length, get_or, set, map, take, Some, None, get_or-set_other, sym, subst, ◌∙◌, arith, vec_len}
+use Rattle.std.proofs.Common.{◌≡◌, ◌+◌, ◌<◌, length, get_or, map, take, Some, None, get_or-set_other, sym, subst, ◌∙◌, arith, vec_len}
 use Rattle.std.proofs.lemmas.List.{length-set, take_all}
-use Rattle.work_pool.specs.Outputs.{made_at}
 use Rattle.work_pool.proofs.Made.{moved_push, outputs_moved, get_any}
 use Rattle.work_pool.proofs.outputs.collected.Goals as goal
 

@@ -1,5 +1,5 @@
 -- The output of one more function.
-use Rattle.std.proofs.Common.{◌≡◌, ◌+◌, map, take, get_or, sym, subst, ap, ◌∙◌, arith}
+use Rattle.std.proofs.Common.{◌≡◌, ◌+◌, map, take, get_or, sym, subst, ap, ◌∙◌}
 use Rattle.std.proofs.lemmas.List.{take_all}
 use Rattle.std.specs.Arc.{arc_value}
 use Rattle.work_pool.specs.Outputs.{made_at}

@@ -1,7 +1,7 @@
 -- The outputs of all functions were moved to the list, in order.
-use Rattle.std.proofs.Common.{◌≡◌, sym, ◌∙◌, arith}
+use Rattle.std.proofs.Common.{sym, ◌∙◌, arith}
 use Rattle.std.proofs.lemmas.List.{take_all}
-use Rattle.summary_db.specs.Ends.{outputs, output_at}
+use Rattle.summary_db.specs.Ends.{outputs}
 use Rattle.work_pool.proofs.Made.{outputs_moved}
 use Rattle.work_pool.proofs.parallel.taken.Goals as goal
 

@@ -1,5 +1,5 @@
 -- The job is the only one of the pass, and ends.
-use Rattle.std.proofs.Common.{◌≡◌, ℕ, ◌+◌, sym, ap, ◌∙◌}
+use Rattle.std.proofs.Common.{ℕ, ◌+◌, sym, ap, ◌∙◌}
 use Rattle.summary_db.specs.Places.{callers}
 use Rattle.summary_db.specs.Passes.{rows_of, view, job_view, job_function}
 use Rattle.work_pool.proofs.Visits.{ended_put, ended_left}
