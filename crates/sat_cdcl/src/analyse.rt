@@ -42,7 +42,6 @@ fn take_one(
 }
 
 /// Puts the literals of a clause into the resolvent, all but this one.
-#[tactic(auto, using(crate::proofs::ResolventLemmas::all_taken, crate::proofs::ResolventLemmas::all_but))]
 fn take_all(
     trail: &Trail,
     activity: &mut Activity,
