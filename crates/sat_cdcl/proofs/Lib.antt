@@ -5,4 +5,5 @@ pub mod WeightLemmas
 pub mod HeldLemmas
 pub mod LearntLemmas
 pub mod SearchLemmas
+pub mod CertifiedLemmas
 pub mod ResolventLemmas

@@ -8,4 +8,5 @@ pub mod Decided
 pub mod Answered
 pub mod Progressed
 pub mod Resolvents
+pub mod Certified
 pub mod CdclState

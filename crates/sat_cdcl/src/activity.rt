@@ -185,6 +185,11 @@ impl Activity {
         self.limit = self.limit.saturating_add(LIMIT_STEP);
     }
 
+    /// All learnt clauses were deleted.
+    pub fn drop_learnt(&mut self) {
+        self.live = 0;
+    }
+
     /// The score of the learnt clause of a number.
     pub fn use_of(&self, number: usize) -> u64 {
         self.uses.get(number).copied().unwrap_or(0)

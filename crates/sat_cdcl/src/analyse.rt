@@ -1,10 +1,12 @@
 // Analysis of a conflict. The clause of the conflict is resolved, from the end of the trail back,
 // with the clauses that implied its literals, until one literal of it is left that became false
-// after the last decision. Each clause on the way holds wherever the given clauses do, whatever is
-// resolved with what, so no answer rests on the reasons or on the order.
+// after the last decision. Each clause on the way holds wherever the given clauses do, and follows from
+// the clauses that are held by unit propagation, whatever is resolved with what, so no answer rests on
+// the reasons or on the order.
 
 ghost use Rattle.std.specs.Prelude.{◌≡◌, ◌≤◌, [], true, length, IfOk};
 ghost use Rattle.sat_cdcl.specs.Steps.{Entails};
+ghost use Rattle.sat_cdcl.specs.Certified.{IsInferred};
 ghost use Rattle.sat_cdcl.specs.Resolvents.{Takes, TakesAll};
 
 use crate::activity::Activity;
@@ -68,7 +70,8 @@ fn resolve_step(
     step: Step,
     start: usize,
 ) -> Result<(), OutOfMemory>
-    ensures { IfOk result (λ _. Entails clauses.now resolvent.old → Entails clauses.now resolvent.new) }
+    ensures entailed { IfOk result (λ _. Entails clauses.now.given resolvent.old → Entails clauses.now.given resolvent.new) }
+    ensures inferred { IfOk result (λ _. IsInferred clauses.now resolvent.old → IsInferred clauses.now resolvent.new) }
 {
     let gone = step.lit.negated();
     let place = match resolvent.place(gone) {
@@ -114,7 +117,8 @@ fn shrink(
     resolvent: &mut Resolvent,
     start: usize,
 ) -> Result<(), OutOfMemory>
-    ensures { IfOk result (λ _. Entails clauses.now resolvent.old → Entails clauses.now resolvent.new) }
+    ensures entailed { IfOk result (λ _. Entails clauses.now.given resolvent.old → Entails clauses.now.given resolvent.new) }
+    ensures inferred { IfOk result (λ _. IsInferred clauses.now resolvent.old → IsInferred clauses.now resolvent.new) }
 {
     for k in (0..resolvent.lits().len()).rev() {
         let lit = resolvent.lits().get(k).copied();
@@ -124,6 +128,37 @@ fn shrink(
         }
     }
     Ok(())
+}
+
+/// Makes the resolvent the clause of a conflict, resolved with the clauses that implied its literals
+/// until so many are left that became false at this place of the trail or behind it. False where there
+/// is no such conflict.
+pub fn unwind(
+    trail: &Trail,
+    clauses: &Clauses,
+    activity: &mut Activity,
+    resolvent: &mut Resolvent,
+    conflict: ClauseId,
+    start: usize,
+    left: usize,
+) -> Result<bool, OutOfMemory>
+    ensures entailed { IfOk result (λ done. done ≡ true → Entails clauses.now.given resolvent.new) }
+    ensures inferred { IfOk result (λ done. done ≡ true → IsInferred clauses.now resolvent.new) }
+{
+    let clause = match clauses.get(conflict) {
+        None => return Ok(false),
+        Some(clause) => clause,
+    };
+    activity.bump_clause(conflict);
+    resolvent.clear();
+    take_all(trail, activity, resolvent, clause, None, start)?;
+    let mut behind = trail.len();
+    while behind > start && resolvent.recent() > left {
+        behind -= 1;
+        let step = trail.at(behind);
+        resolve_step(trail, clauses, activity, resolvent, step, start)?;
+    }
+    Ok(true)
 }
 
 /// Makes the resolvent a clause that the given ones entail, of which one literal alone became false
@@ -137,20 +172,12 @@ pub fn analyse(
     conflict: ClauseId,
     start: usize,
 ) -> Result<bool, OutOfMemory>
-    ensures { IfOk result (λ done. done ≡ true → Entails clauses.now resolvent.new) }
+    ensures entailed { IfOk result (λ done. done ≡ true → Entails clauses.now.given resolvent.new) }
+    ensures inferred { IfOk result (λ done. done ≡ true → IsInferred clauses.now resolvent.new) }
 {
-    let clause = match clauses.get(conflict) {
-        None => return Ok(false),
-        Some(clause) => clause,
-    };
-    activity.bump_clause(conflict);
-    resolvent.clear();
-    take_all(trail, activity, resolvent, clause, None, start)?;
-    let mut behind = trail.len();
-    while behind > start && resolvent.recent() > 1 {
-        behind -= 1;
-        let step = trail.at(behind);
-        resolve_step(trail, clauses, activity, resolvent, step, start)?;
+    let done = unwind(trail, clauses, activity, resolvent, conflict, start, 1)?;
+    if !done {
+        return Ok(false);
     }
     shrink(trail, clauses, activity, resolvent, start)?;
     Ok(true)

@@ -3,6 +3,7 @@
 ghost use Rattle.std.specs.Prelude.{◌≡◌, List, IfOk, MatchBool};
 ghost use Rattle.sat_base.specs.declared.literal.Lit.{Lit};
 ghost use Rattle.sat_cdcl.specs.Steps.{Entails};
+ghost use Rattle.sat_cdcl.specs.Certified.{IsInferred};
 ghost use Rattle.sat_cdcl.specs.Answered.{Clashes, Rises};
 ghost use Rattle.sat_cdcl.specs.Progressed.{IsProgress};
 
@@ -50,10 +51,11 @@ fn learn_and_jump(
     activity: &mut Activity,
     learnt: &[Lit],
 ) -> Result<bool, OutOfMemory>
-    requires { Entails clauses.old learnt.now }
-    ensures given { clauses.new ≡ clauses.old }
+    requires entailed { Entails clauses.old.given learnt.now }
+    requires inferred { IsInferred clauses.old learnt.now }
+    ensures given { clauses.new.given ≡ clauses.old.given }
     ensures jumped { IfOk result (λ jumped. MatchBool jumped
-        ((assumed : List Lit) → Rises clauses.old assumed trail.old trail.new) (trail.new ≡ trail.old)) }
+        ((assumed : List Lit) → Rises clauses.old.given assumed trail.old trail.new) (trail.new ≡ trail.old)) }
 {
     let target = match find_target(trail, learnt) {
         None => return Ok(false),
@@ -75,9 +77,9 @@ fn learn_from(
     conflict: Option<ClauseId>,
     last: usize,
 ) -> Result<bool, OutOfMemory>
-    ensures given { search.new.clauses ≡ search.old.clauses }
+    ensures given { search.new.clauses.given ≡ search.old.clauses.given }
     ensures jumped { IfOk result (λ jumped. MatchBool jumped
-        ((assumed : List Lit) → Rises search.old.clauses assumed search.old.trail search.new.trail) (search.new.trail ≡ search.old.trail)) }
+        ((assumed : List Lit) → Rises search.old.clauses.given assumed search.old.trail search.new.trail) (search.new.trail ≡ search.old.trail)) }
 {
     let id = match conflict {
         None => return Ok(false),
@@ -105,11 +107,12 @@ fn learn_from(
 
 /// Goes back after a conflict, if there is a decision to go back to.
 pub fn resolve(search: &mut Search, conflict: Option<ClauseId>) -> Result<Progress, OutOfMemory>
-    ensures given { search.new.clauses ≡ search.old.clauses }
+    ensures given { search.new.clauses.given ≡ search.old.clauses.given }
     ensures progress { IfOk result (λ progress. (assumed : List Lit)
-        → Clashes search.old.clauses assumed search.old.trail.steps
-        → IsProgress search.old.clauses assumed search.old.trail search.new.trail progress) }
+        → Clashes search.old.clauses.given assumed search.old.trail.steps
+        → IsProgress search.old.clauses.given assumed search.old.trail search.new.trail progress) }
 {
+    search.conflict = conflict;
     let last = match search.trail.last_decision() {
         None => return Ok(Progress::Exhausted),
         Some(last) => last,

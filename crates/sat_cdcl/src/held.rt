@@ -1,12 +1,15 @@
 // The clauses: those given, in the order in which they came, and those learnt. Each clause that was
-// learnt follows from those given.
+// learnt follows from those given. A log of the learnt clauses can be kept, for a certificate: then each
+// of them follows from those before it by unit propagation.
 
-ghost use Rattle.std.specs.Prelude.{◌≡◌, ◌≤◌, ◌<◌, ◌++◌, ◌∷◌, [], ℕ, Some, length, slice_get, IfOk, IfSome, OnErr, MatchOption};
+ghost use Rattle.std.specs.Prelude.{◌≡◌, ◌≤◌, ◌<◌, ◌++◌, ◌∷◌, [], ℕ, Some, None, length, slice_get, IfOk, IfSome, OnOk, OnErr, MatchOption};
+ghost use Rattle.sat_base.specs.Certificates.{IsCertificate};
 ghost use Rattle.sat_cdcl.specs.Steps.{Entails};
 ghost use Rattle.sat_cdcl.specs.Held.{clauses_of, AllLive};
+ghost use Rattle.sat_cdcl.specs.Certified.{noted, units, IsKnown, IsInferred, IsRefuted};
 
 use crate::learnt::Learnt;
-use sat_base::{Lit, OutOfMemory};
+use sat_base::{Clause, Lit, Log, OutOfMemory, Step};
 use sat_pool::{Pool, Ref};
 use std::alloc::Global;
 use std::marker::Model;
@@ -28,24 +31,27 @@ impl ClauseId {
     }
 }
 
-/// All clauses. Contracts see those given.
+/// All clauses. Contracts see those given, and the log.
 #[derive(Debug, Drop)]
 pub struct Clauses {
+    alloc: Global,
     pool: Pool,
     given: Vec<Ref>,
     learnt: Learnt,
+    /// A step for each clause that was learnt since the log was begun, if one is kept.
+    log: Option<Log>,
 }
 
 impl Model for Clauses {
-    ghost use Rattle.std.specs.Prelude.{List};
-    ghost use Rattle.sat_base.specs.declared.literal.Lit.{Lit};
     ghost use Rattle.sat_cdcl.specs.Held.{clauses_of, IsHeld};
+    ghost use Rattle.sat_cdcl.specs.Certified.{HeldState, IsRecorded};
 
-    ghost Value = { List (List Lit) };
+    ghost Value = { HeldState };
 
-    ghost view = { λ c. clauses_of c.pool c.given.items };
+    ghost view = { λ c. record { given = clauses_of c.pool c.given.items; log = c.log } };
 
-    ghost invariant = { λ c. IsHeld c.pool c.given.items c.learnt };
+    ghost invariant = { λ c. IsHeld c.pool c.given.items c.learnt
+        × IsRecorded (clauses_of c.pool c.given.items) c.learnt c.log };
 }
 
 /// The clause of one of these references.
@@ -66,35 +72,52 @@ fn ref_at(refs: &[Ref], i: usize) -> Option<Ref>
     refs.get(i).copied()
 }
 
+/// Adds a step for a clause to the log, if one is kept.
+fn note_step(alloc: Global, log: &mut Option<Log>, clause: &[Lit]) -> Result<(), OutOfMemory>
+    ensures ok { OnOk result (log.new ≡ noted log.old clause.now) }
+    ensures err { OnErr result (log.new ≡ log.old) }
+{
+    match log {
+        None => Ok(()),
+        Some(log) => {
+            let clause = Clause::of(alloc, clause)?;
+            log.push(Step::Add(clause))
+        }
+    }
+}
+
 impl Clauses {
-    /// No clause. It takes no memory.
+    /// No clause, and no log. It takes no memory.
     pub fn new(alloc: Global) -> Clauses
-        ensures { result ≡ [] }
+        ensures { result.given ≡ [] }
     {
         Clauses {
+            alloc,
             pool: Pool::new(alloc),
             given: Vec::new(alloc),
             learnt: Learnt::new(alloc),
+            log: None,
         }
     }
 
     /// The number of given clauses.
     pub fn count(&self) -> usize
-        ensures { result ≡ length self.now }
+        ensures { result ≡ length self.now.given }
     {
         self.given.len()
     }
 
     /// The given clause of this number.
     pub fn given(&self, i: usize) -> Option<&[Lit]>
-        ensures { MatchOption result (length self.now ≤ i) (λ c. slice_get self.now i ≡ Some c.now) }
+        ensures { MatchOption result (length self.now.given ≤ i) (λ c. slice_get self.now.given i ≡ Some c.now) }
     {
         clause_at(&self.pool, self.given.as_slice(), i)
     }
 
     /// The clause of this name.
     pub fn get(&self, id: ClauseId) -> Option<&[Lit]>
-        ensures { IfSome result (λ c. Entails self.now c.now) }
+        ensures entailed { IfSome result (λ c. Entails self.now.given c.now) }
+        ensures known { IfSome result (λ c. IsKnown self.now c.now) }
     {
         match id {
             ClauseId::Given(i) => clause_at(&self.pool, self.given.as_slice(), i as usize),
@@ -109,8 +132,8 @@ impl Clauses {
 
     /// Adds a given clause.
     pub fn add(&mut self, clause: &[Lit]) -> Result<(), OutOfMemory>
-        ensures ok { IfOk result (λ _. self.new ≡ self.old ++ clause.now ∷ []) }
-        ensures err { OnErr result (self.new ≡ self.old) }
+        ensures ok { IfOk result (λ _. self.new.given ≡ self.old.given ++ clause.now ∷ []) }
+        ensures err { OnErr result (self.new.given ≡ self.old.given) }
     {
         let r = self.pool.put(clause)?;
         self.given.push(r)?;
@@ -122,11 +145,14 @@ impl Clauses {
         self.learnt.count()
     }
 
-    /// Adds a clause that follows from those given.
+    /// Adds a clause that follows from those given, and by unit propagation from them and those that
+    /// are in the log, if one is kept.
     pub fn learn(&mut self, clause: &[Lit]) -> Result<ClauseId, OutOfMemory>
-        requires { Entails self.old clause.now }
-        ensures { self.new ≡ self.old }
+        requires entailed { Entails self.old.given clause.now }
+        requires inferred { IsInferred self.old clause.now }
+        ensures { self.new.given ≡ self.old.given }
     {
+        note_step(self.alloc, &mut self.log, clause)?;
         let number = self.learnt.push(clause)?;
         Ok(ClauseId::Learnt(number))
     }
@@ -136,5 +162,35 @@ impl Clauses {
         ensures { self.new ≡ self.old }
     {
         self.learnt.forget(marked);
+    }
+
+    /// Begins a log, and deletes all learnt clauses, which it does not derive.
+    pub fn begin_log(&mut self)
+        ensures { self.new.given ≡ self.old.given }
+    {
+        self.learnt = Learnt::new(self.alloc);
+        self.log = Some(Log::new(self.alloc));
+    }
+
+    /// Ends the log, if one is kept.
+    pub fn drop_log(&mut self)
+        ensures { self.new.given ≡ self.old.given }
+    {
+        self.log = None;
+    }
+
+    /// Ends the log with the empty clause, and hands it out.
+    pub fn finish_log(&mut self, assumed: &[Lit]) -> Result<Log, OutOfMemory>
+        requires { IsRefuted self.old assumed.now }
+        ensures given { self.new.given ≡ self.old.given }
+        ensures certificate { IfOk result (λ log. IsCertificate (self.old.given ++ units assumed.now) log) }
+    {
+        let mut log = match self.log.take() {
+            None => return Err(OutOfMemory),
+            Some(log) => log,
+        };
+        let empty = Clause::of(self.alloc, &[])?;
+        log.push(Step::Add(empty))?;
+        Ok(log)
     }
 }

@@ -9,6 +9,7 @@
 mod activity;
 mod analyse;
 mod backjump;
+mod certify;
 mod code;
 mod conflict;
 mod decide;

@@ -81,7 +81,7 @@ fn examine(trail: &Trail, clause: &[Lit], other: Lit) -> Look
 
 /// What the clause of this name says, where this is the literal that may be its last.
 fn look_at(trail: &Trail, clauses: &Clauses, id: ClauseId, other: Lit) -> Look
-    ensures { IsLook clauses.now trail.now.steps result }
+    ensures { IsLook clauses.now.given trail.now.steps result }
 {
     match clauses.get(id) {
         None => Look::Gone,
@@ -102,7 +102,7 @@ fn find_open(trail: &Trail, clause: &[Lit], other: Code) -> Option<Code> {
 
 /// Looks at a clause of which a watched literal became false.
 fn visit(trail: &Trail, clauses: &Clauses, watches: &mut Watches, gone: Code, watch: Watch) -> Look
-    ensures { IsLook clauses.now trail.now.steps result }
+    ensures { IsLook clauses.now.given trail.now.steps result }
 {
     if trail.is_true(watch.blocker) {
         return Look::Keep;
@@ -148,8 +148,8 @@ fn visit_entry(
     i: &mut usize,
     gone: Code,
 ) -> Result<Option<ClauseId>, OutOfMemory>
-    ensures { IfOk result (λ conflict. Extends clauses.now trail.old trail.new
-        × IfSome conflict (λ _. Refutes clauses.now trail.new.steps)) }
+    ensures { IfOk result (λ conflict. Extends clauses.now.given trail.old trail.new
+        × IfSome conflict (λ _. Refutes clauses.now.given trail.new.steps)) }
 {
     let watch = match list.get(*i).copied() {
         None => return Ok(None),
@@ -186,8 +186,8 @@ fn visit_list(
     list: &mut Vec<Watch>,
     gone: Code,
 ) -> Result<Option<ClauseId>, OutOfMemory>
-    ensures { IfOk result (λ conflict. Extends clauses.now trail.old trail.new
-        × IfSome conflict (λ _. Refutes clauses.now trail.new.steps)) }
+    ensures { IfOk result (λ conflict. Extends clauses.now.given trail.old trail.new
+        × IfSome conflict (λ _. Refutes clauses.now.given trail.new.steps)) }
 {
     let mut i = 0;
     for _entry in 0..list.len() {
@@ -212,8 +212,8 @@ fn leave(list: &mut Vec<Watch>, i: usize) {
 
 /// Puts this literal of a clause, if all others of it are false.
 fn begin_with(trail: &mut Trail, clauses: &Clauses, id: ClauseId, lit: Lit) -> Option<ClauseId>
-    ensures { Extends clauses.now trail.old trail.new
-        × IfSome result (λ _. Refutes clauses.now trail.new.steps) }
+    ensures { Extends clauses.now.given trail.old trail.new
+        × IfSome result (λ _. Refutes clauses.now.given trail.new.steps) }
 {
     match look_at(trail, clauses, id, lit) {
         Look::Keep => None,
@@ -231,8 +231,8 @@ fn begin_with(trail: &mut Trail, clauses: &Clauses, id: ClauseId, lit: Lit) -> O
 /// implied, or the clause is a conflict.
 #[tactic(auto, using(crate::proofs::FollowLemmas::extends_refl))]
 fn visit_binary(trail: &mut Trail, clauses: &Clauses, watch: Watch) -> Option<ClauseId>
-    ensures { Extends clauses.now trail.old trail.new
-        × IfSome result (λ _. Refutes clauses.now trail.new.steps) }
+    ensures { Extends clauses.now.given trail.old trail.new
+        × IfSome result (λ _. Refutes clauses.now.given trail.new.steps) }
 {
     if trail.is_true(watch.blocker) {
         return None;
@@ -242,8 +242,8 @@ fn visit_binary(trail: &mut Trail, clauses: &Clauses, watch: Watch) -> Option<Cl
 
 /// Goes over the clauses of two literals of which one became false.
 fn revise_binary(trail: &mut Trail, clauses: &Clauses, list: &[Watch]) -> Option<ClauseId>
-    ensures { Extends clauses.now trail.old trail.new
-        × IfSome result (λ _. Refutes clauses.now trail.new.steps) }
+    ensures { Extends clauses.now.given trail.old trail.new
+        × IfSome result (λ _. Refutes clauses.now.given trail.new.steps) }
 {
     for watch in list {
         let found = visit_binary(trail, clauses, *watch);
@@ -261,8 +261,8 @@ fn revise_long(
     watches: &mut Watches,
     gone: Code,
 ) -> Result<Option<ClauseId>, OutOfMemory>
-    ensures { IfOk result (λ conflict. Extends clauses.now trail.old trail.new
-        × IfSome conflict (λ _. Refutes clauses.now trail.new.steps)) }
+    ensures { IfOk result (λ conflict. Extends clauses.now.given trail.old trail.new
+        × IfSome conflict (λ _. Refutes clauses.now.given trail.new.steps)) }
 {
     let mut list = watches.take(gone);
     let outcome = visit_list(trail, clauses, watches, &mut list, gone);
@@ -277,8 +277,8 @@ fn revise(
     watches: &mut Watches,
     gone: Code,
 ) -> Result<Option<ClauseId>, OutOfMemory>
-    ensures { IfOk result (λ conflict. Extends clauses.now trail.old trail.new
-        × IfSome conflict (λ _. Refutes clauses.now trail.new.steps)) }
+    ensures { IfOk result (λ conflict. Extends clauses.now.given trail.old trail.new
+        × IfSome conflict (λ _. Refutes clauses.now.given trail.new.steps)) }
 {
     let begun = revise_binary(trail, clauses, watches.binary(gone));
     if begun.is_some() {
@@ -296,8 +296,8 @@ fn propagate(
     watches: &mut Watches,
     from: usize,
 ) -> Result<Option<ClauseId>, OutOfMemory>
-    ensures { IfOk result (λ conflict. Extends clauses.now trail.old trail.new
-        × IfSome conflict (λ _. Refutes clauses.now trail.new.steps)) }
+    ensures { IfOk result (λ conflict. Extends clauses.now.given trail.old trail.new
+        × IfSome conflict (λ _. Refutes clauses.now.given trail.new.steps)) }
 {
     let mut place = from;
     loop {
@@ -316,7 +316,7 @@ fn propagate(
 
 /// A conflict, if the clause of this name has no literal.
 fn conflict_if_empty(clauses: &Clauses, id: ClauseId) -> Option<ClauseId>
-    ensures { IfSome result (λ _. (steps : List Step) → Refutes clauses.now steps) }
+    ensures { IfSome result (λ _. (steps : List Step) → Refutes clauses.now.given steps) }
 {
     match clauses.get(id) {
         Some(clause) if clause.is_empty() => Some(id),
@@ -326,8 +326,8 @@ fn conflict_if_empty(clauses: &Clauses, id: ClauseId) -> Option<ClauseId>
 
 /// Puts the literal of a clause of one literal; one without a literal is a conflict.
 fn begin_short(trail: &mut Trail, clauses: &Clauses, short: Short) -> Option<ClauseId>
-    ensures { Extends clauses.now trail.old trail.new
-        × IfSome result (λ _. Refutes clauses.now trail.new.steps) }
+    ensures { Extends clauses.now.given trail.old trail.new
+        × IfSome result (λ _. Refutes clauses.now.given trail.new.steps) }
 {
     match short.lit {
         None => conflict_if_empty(clauses, short.clause),
@@ -337,8 +337,8 @@ fn begin_short(trail: &mut Trail, clauses: &Clauses, short: Short) -> Option<Cla
 
 /// Puts the literals of the clauses of one literal; a clause without a literal is a conflict.
 fn begin(trail: &mut Trail, clauses: &Clauses, watches: &Watches) -> Option<ClauseId>
-    ensures { Extends clauses.now trail.old trail.new
-        × IfSome result (λ _. Refutes clauses.now trail.new.steps) }
+    ensures { Extends clauses.now.given trail.old trail.new
+        × IfSome result (λ _. Refutes clauses.now.given trail.new.steps) }
 {
     for i in 0..watches.short_count() {
         let short = match watches.short(i) {
@@ -361,8 +361,8 @@ pub fn settle(
     watches: &mut Watches,
     from: usize,
 ) -> Result<Option<ClauseId>, OutOfMemory>
-    ensures { IfOk result (λ conflict. Extends clauses.now trail.old trail.new
-        × IfSome conflict (λ _. Refutes clauses.now trail.new.steps)) }
+    ensures { IfOk result (λ conflict. Extends clauses.now.given trail.old trail.new
+        × IfSome conflict (λ _. Refutes clauses.now.given trail.new.steps)) }
 {
     if from > 0 {
         return propagate(trail, clauses, watches, from);

@@ -1,10 +1,8 @@
 // The clause that a conflict is turned into, literal by literal. Which literals it has is looked up
 // in a table by variables, whose entries are tested where they are read: an old one says nothing.
 
-ghost use Rattle.std.specs.Prelude.{◌≡◌, ◌<◌, [], ℕ, Bool, Some, true, false, length, slice_get, IfOk, IfSome};
-ghost use Rattle.sat_base.specs.declared.literal.Lit.{Lit};
-ghost use Rattle.sat_base.specs.Logic.{lit_true, some_true};
-ghost use Rattle.sat_cdcl.specs.Resolvents.{Takes};
+ghost use Rattle.std.specs.Prelude.{◌≡◌, ◌<◌, [], Some, length, slice_get, IfOk, IfSome};
+ghost use Rattle.sat_cdcl.specs.Resolvents.{Takes, Leaves};
 
 use sat_base::{Lit, OutOfMemory};
 use std::alloc::Global;
@@ -50,8 +48,7 @@ fn note_place(places: &mut Vec<usize>, var: usize, place: usize) {
 /// Takes out the literal at a place; the last one takes that place.
 fn take_out(lits: &mut Vec<Lit>, places: &mut Vec<usize>, place: usize)
     requires { place < length lits.old.items }
-    ensures { (l : Lit) (f : ℕ → Bool) → slice_get lits.old.items place ≡ Some l → lit_true f l ≡ false
-        → some_true f lits.old.items ≡ true → some_true f lits.new.items ≡ true }
+    ensures { Leaves lits.old.items lits.new.items place }
 {
     let _out = lits.swap_remove(place);
     if let Some(moved) = lits.get(place).copied() {
@@ -125,8 +122,7 @@ impl Resolvent {
     /// Takes out the literal at a place; `recent` as it was said of it.
     pub fn remove(&mut self, place: usize, recent: bool)
         requires { place < length self.old }
-        ensures { (l : Lit) (f : ℕ → Bool) → slice_get self.old place ≡ Some l → lit_true f l ≡ false
-            → some_true f self.old ≡ true → some_true f self.new ≡ true }
+        ensures { Leaves self.old self.new place }
     {
         take_out(&mut self.lits, &mut self.places, place);
         if recent {

@@ -54,12 +54,12 @@ fn assume(trail: &mut Trail, assumed: &[Lit]) -> bool
 /// Goes on from a trail of what follows until the answer: values that satisfy all, or `None` where
 /// there are none.
 fn run(search: &mut Search, assumed: &[Lit]) -> Result<Option<Vec<bool>>, OutOfMemory>
-    requires clauses { ClausesBelow search.old.trail.vars search.old.clauses }
+    requires clauses { ClausesBelow search.old.trail.vars search.old.clauses.given }
     requires assumed { LitsBelow search.old.trail.vars assumed.now }
-    requires follow { AllFollow search.old.clauses assumed.now search.old.trail.steps }
-    ensures given { search.new.clauses ≡ search.old.clauses }
-    ensures found { IfOk result (λ found. MatchOption found (HasNone search.old.clauses assumed.now)
-        (λ values. IsModel search.old.trail.vars search.old.clauses assumed.now values.items)) }
+    requires follow { AllFollow search.old.clauses.given assumed.now search.old.trail.steps }
+    ensures given { search.new.clauses.given ≡ search.old.clauses.given }
+    ensures found { IfOk result (λ found. MatchOption found (HasNone search.old.clauses.given assumed.now)
+        (λ values. IsModel search.old.trail.vars search.old.clauses.given assumed.now values.items)) }
 {
     let mut from = 0;
     loop {
@@ -77,11 +77,11 @@ fn run(search: &mut Search, assumed: &[Lit]) -> Result<Option<Vec<bool>>, OutOfM
 /// none. The trail is empty.
 pub fn find_model(search: &mut Search, assumed: &[Lit]) -> Result<Option<Vec<bool>>, OutOfMemory>
     requires empty { search.old.trail.steps ≡ [] }
-    requires clauses { ClausesBelow search.old.trail.vars search.old.clauses }
+    requires clauses { ClausesBelow search.old.trail.vars search.old.clauses.given }
     requires assumed { LitsBelow search.old.trail.vars assumed.now }
-    ensures given { search.new.clauses ≡ search.old.clauses }
-    ensures found { IfOk result (λ found. MatchOption found (HasNone search.old.clauses assumed.now)
-        (λ values. IsModel search.old.trail.vars search.old.clauses assumed.now values.items)) }
+    ensures given { search.new.clauses.given ≡ search.old.clauses.given }
+    ensures found { IfOk result (λ found. MatchOption found (HasNone search.old.clauses.given assumed.now)
+        (λ values. IsModel search.old.trail.vars search.old.clauses.given assumed.now values.items)) }
 {
     if !assume(&mut search.trail, assumed) {
         return Ok(None);

@@ -2,10 +2,13 @@
 // order of the variables and their signs. The assumptions of a question are on the trail alone, which
 // is empty when a question begins.
 
-ghost use Rattle.std.specs.Prelude.{◌≡◌, ◌≤◌, [], OnOk};
+ghost use Rattle.std.specs.Prelude.{◌≡◌, ◌≤◌, [], IfOk, OnOk};
+ghost use Rattle.sat_base.specs.Logic.{LitsBelow, Answers};
+ghost use Rattle.sat_cdcl.specs.Certified.{Certifies};
 
 use crate::activity::Activity;
 use crate::backjump::reopen;
+use crate::certify::conclude;
 use crate::code::LAST_VARIABLE;
 use crate::held::{ClauseId, Clauses};
 use crate::resolvent::Resolvent;
@@ -13,7 +16,7 @@ use crate::search::find_model;
 use crate::state::Search;
 use crate::trail::Trail;
 use crate::watch::Watches;
-use sat_base::{Answer, Lit, OutOfMemory, Solver};
+use sat_base::{Answer, Lit, Log, OutOfMemory, Solver};
 use std::alloc::Global;
 use std::marker::Model;
 
@@ -32,9 +35,9 @@ impl Model for Cdcl {
 
     ghost Value = { CdclState };
 
-    ghost view = { λ s. record { vars = s.vars; clauses = s.search.clauses; found = s.found.items } };
+    ghost view = { λ s. record { vars = s.vars; clauses = s.search.clauses.given; found = s.found.items } };
 
-    ghost invariant = { λ s. ClausesBelow s.vars s.search.clauses };
+    ghost invariant = { λ s. ClausesBelow s.vars s.search.clauses.given };
 }
 
 impl Cdcl {
@@ -50,6 +53,7 @@ impl Cdcl {
             watches: Watches::new(alloc),
             activity: Activity::new(alloc),
             resolvent: Resolvent::new(alloc),
+            conflict: None,
         };
         Cdcl {
             vars: 0,
@@ -57,6 +61,52 @@ impl Cdcl {
             found: Vec::new(alloc),
         }
     }
+
+    /// Answers as `solve` does. After `NoModel` the log is a certificate of the clauses with one clause of
+    /// one literal for each assumed literal: its steps add the clauses that were learnt, each of which
+    /// follows by unit propagation from those before it, and the empty clause last. What the log had
+    /// before is dropped, and so are the learnt clauses of earlier questions. After `OutOfMemory` the log
+    /// is of no use.
+    pub fn solve_logged(&mut self, assumed: &[Lit], log: &mut Log) -> Result<Answer, OutOfMemory>
+        requires { LitsBelow self.old.vars assumed.now }
+        ensures vars { self.new.vars ≡ self.old.vars }
+        ensures clauses { self.new.clauses ≡ self.old.clauses }
+        ensures answer { IfOk result (λ answer. Answers answer self.old.vars self.old.clauses assumed.now self.new.found) }
+        ensures certificate { IfOk result (λ answer. Certifies answer self.old.clauses assumed.now log.new) }
+    {
+        begin_log(&mut self.search);
+        let outcome = self.answer_logged(assumed, log);
+        self.search.clauses.drop_log();
+        outcome
+    }
+
+    /// The answer, and after `NoModel` the log that was kept.
+    fn answer_logged(&mut self, assumed: &[Lit], log: &mut Log) -> Result<Answer, OutOfMemory>
+        requires { LitsBelow self.old.vars assumed.now }
+        ensures vars { self.new.vars ≡ self.old.vars }
+        ensures clauses { self.new.clauses ≡ self.old.clauses }
+        ensures answer { IfOk result (λ answer. Answers answer self.old.vars self.old.clauses assumed.now self.new.found) }
+        ensures certificate { IfOk result (λ answer. Certifies answer self.old.clauses assumed.now log.new) }
+    {
+        let answer = self.solve(assumed)?;
+        match answer {
+            Answer::Model => Ok(Answer::Model),
+            Answer::NoModel => {
+                *log = conclude(&mut self.search, assumed)?;
+                Ok(Answer::NoModel)
+            }
+        }
+    }
+}
+
+/// Deletes all learnt clauses, and begins a log.
+fn begin_log(search: &mut Search)
+    ensures { search.new.clauses.given ≡ search.old.clauses.given }
+{
+    search.conflict = None;
+    search.watches.drop_learnt();
+    search.activity.drop_learnt();
+    search.clauses.begin_log();
 }
 
 /// Takes all steps back, and also all variables where there are more than so many.

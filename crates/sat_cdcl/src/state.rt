@@ -2,7 +2,7 @@
 // speak, and beside them what steers the search.
 
 use crate::activity::Activity;
-use crate::held::Clauses;
+use crate::held::{ClauseId, Clauses};
 use crate::resolvent::Resolvent;
 use crate::trail::Trail;
 use crate::watch::Watches;
@@ -17,4 +17,6 @@ pub struct Search {
     pub watches: Watches,
     pub activity: Activity,
     pub resolvent: Resolvent,
+    /// The clause of the last conflict, where it had one.
+    pub conflict: Option<ClauseId>,
 }

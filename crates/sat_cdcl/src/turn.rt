@@ -29,10 +29,10 @@ pub enum Advance {
 
 /// Whether the values of a full trail satisfy all; else what they contradict.
 fn judge(trail: &Trail, clauses: &Clauses, assumed: &[Lit], values: Vec<bool>) -> Advance
-    requires clauses { ClausesBelow trail.now.vars clauses.now }
+    requires clauses { ClausesBelow trail.now.vars clauses.now.given }
     requires assumed { LitsBelow trail.now.vars assumed.now }
     requires values { Agrees trail.now values.items }
-    ensures { IsAdvance clauses.now assumed.now trail.now trail.now result }
+    ensures { IsAdvance clauses.now.given assumed.now trail.now trail.now result }
 {
     if let Some(i) = unmet(values.as_slice(), clauses) {
         return Advance::Clash(ClauseId::given(i));
@@ -45,10 +45,10 @@ fn judge(trail: &Trail, clauses: &Clauses, assumed: &[Lit], values: Vec<bool>) -
 
 /// One turn: propagation from this place on, and then a decision or the answer.
 fn take_turn(search: &mut Search, assumed: &[Lit], from: usize) -> Result<Advance, OutOfMemory>
-    requires clauses { ClausesBelow search.old.trail.vars search.old.clauses }
+    requires clauses { ClausesBelow search.old.trail.vars search.old.clauses.given }
     requires assumed { LitsBelow search.old.trail.vars assumed.now }
-    ensures given { search.new.clauses ≡ search.old.clauses }
-    ensures turn { IfOk result (λ turn. IsAdvance search.old.clauses assumed.now search.old.trail search.new.trail turn) }
+    ensures given { search.new.clauses.given ≡ search.old.clauses.given }
+    ensures turn { IfOk result (λ turn. IsAdvance search.old.clauses.given assumed.now search.old.trail search.new.trail turn) }
 {
     let conflict = settle(
         &mut search.trail,
@@ -68,10 +68,10 @@ fn take_turn(search: &mut Search, assumed: &[Lit], from: usize) -> Result<Advanc
 
 /// One turn, and where it ends in a conflict the way back.
 pub fn proceed(search: &mut Search, assumed: &[Lit], from: usize) -> Result<Progress, OutOfMemory>
-    requires clauses { ClausesBelow search.old.trail.vars search.old.clauses }
+    requires clauses { ClausesBelow search.old.trail.vars search.old.clauses.given }
     requires assumed { LitsBelow search.old.trail.vars assumed.now }
-    ensures given { search.new.clauses ≡ search.old.clauses }
-    ensures progress { IfOk result (λ progress. IsProgress search.old.clauses assumed.now search.old.trail search.new.trail progress) }
+    ensures given { search.new.clauses.given ≡ search.old.clauses.given }
+    ensures progress { IfOk result (λ progress. IsProgress search.old.clauses.given assumed.now search.old.trail search.new.trail progress) }
 {
     let turn = take_turn(search, assumed, from)?;
     match turn {

@@ -32,8 +32,8 @@ pub fn meets_each(values: &[bool], lits: &[Lit]) -> bool
 
 /// The number of a given clause that they do not satisfy, if there is one.
 pub fn unmet(values: &[bool], clauses: &Clauses) -> Option<usize>
-    ensures { MatchOption result (all_true (at values.now) clauses.now ≡ true)
-        (λ _. all_true (at values.now) clauses.now ≡ false) }
+    ensures { MatchOption result (all_true (at values.now) clauses.now.given ≡ true)
+        (λ _. all_true (at values.now) clauses.now.given ≡ false) }
 {
     for i in 0..clauses.count() {
         let clause = match clauses.given(i) {

@@ -184,6 +184,15 @@ impl Watches {
         }
     }
 
+    /// Takes the entries of all learnt clauses out of the lists.
+    pub fn drop_learnt(&mut self) {
+        for lists in self.lists.iter_mut() {
+            lists.binary.retain(|watch| is_given(watch.clause));
+            lists.long.retain(|watch| is_given(watch.clause));
+        }
+        self.short.retain(|short| is_given(short.clause));
+    }
+
     fn note_pair(&mut self, clause: ClauseId, pair: Pair) -> Result<(), OutOfMemory> {
         match clause {
             ClauseId::Given(i) => note_at(&mut self.given, i as usize, pair),
@@ -197,6 +206,10 @@ fn clean(list: &mut Vec<Watch>, clauses: &Clauses) {
         ClauseId::Given(_) => true,
         ClauseId::Learnt(_) => clauses.get(watch.clause).is_some(),
     });
+}
+
+fn is_given(clause: ClauseId) -> bool {
+    matches!(clause, ClauseId::Given(_))
 }
 
 fn set_pair(pairs: &mut Vec<Pair>, i: usize, pair: Pair) {

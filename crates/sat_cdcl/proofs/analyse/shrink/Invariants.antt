@@ -1,5 +1,9 @@
 use Rattle.sat_cdcl.specs.Steps.{Entails}
+use Rattle.sat_cdcl.specs.Certified.{IsInferred}
 use Rattle.sat_cdcl.proofs.analyse.shrink.Given as goal
 
 abbrev pub invariant-loop-k : goal.invariant-loop-k
-invariant-loop-k l = Entails l.clauses l.fn.resolvent → Entails l.clauses l.resolvent
+invariant-loop-k l = record {
+  entailed : Entails l.clauses.given l.fn.resolvent → Entails l.clauses.given l.resolvent;
+  inferred : IsInferred l.clauses l.fn.resolvent → IsInferred l.clauses l.resolvent;
+}

@@ -8,7 +8,7 @@ use Rattle.sat_cdcl.proofs.ResolventLemmas.{when_true, when_false}
 use Rattle.sat_cdcl.proofs.conflict.resolve.Goals as goal
 
 pub returns-in-None-clause-progress : goal.returns-in-None-clause-progress
-returns-in-None-clause-progress c assumed clashes follow = none_of c.args.search.now.clauses assumed c.args.search.now.trail.steps c.in-None.ensures clashes follow
+returns-in-None-clause-progress c assumed clashes follow = none_of c.args.search.now.clauses.given assumed c.args.search.now.trail.steps c.in-None.ensures clashes follow
 
 pub returns-then-jumped-clause-progress : goal.returns-then-jumped-clause-progress
 returns-then-jumped-clause-progress c assumed clashes = when_true c.in_ok-jumped.jumped _ _ c.if-jumped.true c.in_ok-jumped.ensures.jumped assumed
@@ -26,5 +26,5 @@ flip_last-requires c =
 pub returns-clause-progress : goal.returns-clause-progress
 returns-clause-progress c assumed clashes =
     let same = when_false c.in_ok-jumped.jumped _ _ c.if-jumped.false c.in_ok-jumped.ensures.jumped in
-    subst (λ t. Rises c.args.search.now.clauses assumed t c.flip_last.new.trail) same
-    (c.flip_last.ensures c.args.search.now.clauses assumed (subst (λ t. Clashes c.args.search.now.clauses assumed t.steps) (sym same) clashes))
+    subst (λ t. Rises c.args.search.now.clauses.given assumed t c.flip_last.new.trail) same
+    (c.flip_last.ensures c.args.search.now.clauses.given assumed (subst (λ t. Clashes c.args.search.now.clauses.given assumed t.steps) (sym same) clashes))

@@ -3,7 +3,7 @@ use Rattle.sat_cdcl.proofs.FollowLemmas.{extends_refl, extends_trans}
 use Rattle.sat_cdcl.proofs.propagate.begin.Goals as goal
 
 pub loop-i-init : goal.loop-i-init
-loop-i-init c = extends_refl c.args.clauses.now c.args.trail.now
+loop-i-init c = extends_refl c.args.clauses.now.given c.args.trail.now
 
 pub returns-then-is_some : goal.returns-then-is_some
 returns-then-is_some c = (extends_trans _ _ _ _ c.loop-i.invariant c.begin_short-found.ensures.0, c.begin_short-found.ensures.1)

@@ -3,4 +3,4 @@ use Rattle.sat_cdcl.proofs.FollowLemmas.{look_of}
 use Rattle.sat_cdcl.proofs.propagate.look_at.Goals as goal
 
 pub returns-in-Some : goal.returns-in-Some
-returns-in-Some c = look_of c.args.trail.now.steps c.args.clauses.now _ c.examine.result c.in-Some.ensures c.examine.ensures
+returns-in-Some c = look_of c.args.trail.now.steps c.args.clauses.now.given _ c.examine.result c.in-Some.ensures.entailed c.examine.ensures

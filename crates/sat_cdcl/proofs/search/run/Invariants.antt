@@ -6,8 +6,8 @@ use Rattle.sat_cdcl.proofs.search.run.Given as goal
 abbrev pub invariant-loop-progress : goal.invariant-loop-progress
 invariant-loop-progress l = record {
   vars : l.search.trail.vars ≡ l.fn.search.trail.vars;
-  given : l.search.clauses ≡ l.fn.search.clauses;
-  follow : AllFollow l.search.clauses l.assumed l.search.trail.steps;
+  given : l.search.clauses.given ≡ l.fn.search.clauses.given;
+  follow : AllFollow l.search.clauses.given l.assumed l.search.trail.steps;
 }
 
 abbrev pub decreases-loop-progress : goal.decreases-loop-progress

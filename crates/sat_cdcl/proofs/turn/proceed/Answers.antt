@@ -11,5 +11,5 @@ returns-in-Found-clause-progress c = rw c.in-Found.is at c.in_ok-turn.ensures.tu
 pub returns-in-Clash-clause-progress : goal.returns-in-Clash-clause-progress
 returns-in-Clash-clause-progress c =
     let given = c.in_ok-turn.ensures.given in
-    progress_after c.args.search.now.clauses c.args.assumed.now _ _ _ c.resolve.result (rw c.in-Clash.is at c.in_ok-turn.ensures.turn)
+    progress_after c.args.search.now.clauses.given c.args.assumed.now _ _ _ c.resolve.result (rw c.in-Clash.is at c.in_ok-turn.ensures.turn)
     (rw given at c.resolve.ensures.progress)

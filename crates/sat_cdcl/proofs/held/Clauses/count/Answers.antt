@@ -5,7 +5,7 @@ use Rattle.sat_cdcl.proofs.held.Clauses.count.Goals as goal
 
 pub returns : goal.returns
 returns c =
-    let size = ap length c.self.view_is in
+    let size = ap (λ s. length s.given) c.self.view_is in
     let same = length-clauses_of c.self.inside.pool c.self.inside.given.items in
     let len = c.len.ensures in
     omega (arith, size, same, len, c.self.inside.given.ok.0)

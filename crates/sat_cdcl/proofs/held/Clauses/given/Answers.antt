@@ -6,7 +6,7 @@ use Rattle.sat_cdcl.proofs.held.Clauses.given.Goals as goal
 
 pub returns : goal.returns
 returns c =
-    let is = ap (clauses_of c.self.inside.pool) c.as_slice.ensures.value ∙ c.self.view_is in
+    let is = ap (clauses_of c.self.inside.pool) c.as_slice.ensures.value ∙ ap (λ s. s.given) c.self.view_is in
     let size = ap length is in
     let same = length-clauses_of c.self.inside.pool c.as_slice.result.now in
     match_by c.clause_at.result _ _ _ _ (λ past. omega (arith, past, size, same)) (λ b found. ap (λ cs. slice_get cs c.args.i) (sym is) ∙ found) c.clause_at.ensures

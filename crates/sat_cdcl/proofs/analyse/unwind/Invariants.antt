@@ -1,0 +1,14 @@
+use Rattle.std.proofs.Common.{◌≤◌, length}
+use Rattle.sat_cdcl.specs.Steps.{Entails}
+use Rattle.sat_cdcl.specs.Certified.{IsInferred}
+use Rattle.sat_cdcl.proofs.analyse.unwind.Given as goal
+
+abbrev pub invariant-loop-behind : goal.invariant-loop-behind
+invariant-loop-behind l = record {
+  inside : l.behind ≤ length l.trail.steps;
+  entailed : Entails l.clauses.given l.resolvent;
+  inferred : IsInferred l.clauses l.resolvent;
+}
+
+abbrev pub decreases-loop-behind : goal.decreases-loop-behind
+decreases-loop-behind l = l.behind
