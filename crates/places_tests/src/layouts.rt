@@ -1,27 +1,28 @@
 // How many locations and bits small functions have.
 
-use crate::trees::{call, one, param, pointer, pos, program};
+use crate::trees::{
+    arrow, call, function, leaf, member, one, param, pointer, pos, program, program_of,
+};
 use places::places;
-use sc_base::{Boxed, List, Names};
+use sc_base::{Boxed, List, NameId, Names, OutOfMemory};
 use sc_tree::ctype::{CType, IntKind};
-use sc_typed::TStmt;
+use sc_tree::op::UnaryOp;
+use sc_typed::{Function, StructDef, TExpr, TStmt, What};
+use std::alloc::Global;
 use std::test::Fail;
+use sum_rows::{Item, ItemRows, Path, Root, Step, Summary, Verdict, Write};
 
 #[test]
 fn what_pointers_point_to_at_entry(rt: HostRuntime) -> Result<(), Fail> {
     // `void m(char **o, _Bool c) {}`: both, what `o` points to with its state, and behind it a `char` with its state.
     let alloc = rt.alloc();
-    let mut params = List::new(alloc);
     let inner = pointer(alloc, CType::Int(IntKind::Char))?;
-    params.push(param(pointer(alloc, inner)?))?;
-    params.push(param(CType::Bool))?;
+    let params = vec![in alloc; param(pointer(alloc, inner)?), param(CType::Bool)]?;
     let body = TStmt::Block(List::new(alloc), pos(1), pos(2));
-    let program = program(alloc, Names::new(alloc), params, List::new(alloc), body)?;
+    let m = function(List::from_vec(params), List::new(alloc), body);
+    let program = program_of(alloc, Names::new(alloc), m)?;
     match places(alloc, &program, 0, &[], &[], 2, 2) {
-        Ok(laid) => {
-            assert_eq!(rt; laid.count(), 4);
-            assert_eq!(rt; laid.choice_len(), 13);
-        }
+        Ok(laid) => assert_eq!(rt; (laid.count(), laid.choice_len()), (4, 13)),
         Err(_) => assert!(rt; false, "memory suffices"),
     }
     Ok(())
@@ -33,15 +34,125 @@ fn a_call_in_each_turn(rt: HostRuntime) -> Result<(), Fail> {
     let alloc = rt.alloc();
     let mut names = Names::new(alloc);
     let malloc = names.intern("malloc")?;
-    let body = TStmt::Expr(Some(call(alloc, malloc, 9)?), pos(9));
-    let body = TStmt::While(one(5), Boxed::new(alloc, body)?, pos(3));
-    let program = program(alloc, names, List::new(alloc), List::new(alloc), body)?;
+    let given = pointer(alloc, CType::Void)?;
+    let called = call(alloc, malloc, None, List::new(alloc), given, 9)?;
+    let body = Boxed::new(alloc, TStmt::Expr(Some(called), pos(9)))?;
+    let turns = TStmt::While(one(5), body, pos(3));
+    let f = function(List::new(alloc), List::new(alloc), turns);
+    let program = program_of(alloc, names, f)?;
     match places(alloc, &program, 0, &[], &[], 2, 2) {
         Ok(laid) => {
-            assert_eq!(rt; laid.sites.len(), 1);
-            assert_eq!(rt; laid.occurrences.len(), 2);
-            assert_eq!(rt; laid.count(), 2);
-            assert_eq!(rt; laid.choice_len(), 2);
+            assert_eq!(rt; (laid.sites.len(), laid.occurrences.len()), (1, 2));
+            assert_eq!(rt; (laid.count(), laid.choice_len()), (2, 2));
+        }
+        Err(_) => assert!(rt; false, "memory suffices"),
+    }
+    Ok(())
+}
+
+// `struct s *`, where that is the first struct.
+fn link(alloc: Global) -> Result<CType, OutOfMemory> {
+    pointer(alloc, CType::Struct(0))
+}
+
+// `void f(struct s *p) { p->n->n->v; }`
+fn follower(alloc: Global) -> Result<Function, OutOfMemory> {
+    let p = leaf(What::Param(0), link(alloc)?, 20);
+    let next = arrow(alloc, p, 0, link(alloc)?)?;
+    let last = arrow(alloc, next, 0, link(alloc)?)?;
+    let v = arrow(alloc, last, 1, CType::Int(IntKind::Int))?;
+    let mut params = List::new(alloc);
+    params.push(param(link(alloc)?))?;
+    let body = TStmt::Expr(Some(v), pos(20));
+    Ok(function(params, List::new(alloc), body))
+}
+
+#[test]
+fn a_list_to_the_reach(rt: HostRuntime) -> Result<(), Fail> {
+    // `struct s { struct s *n; int v; };`: three of them behind the parameter, and then a stub.
+    let alloc = rt.alloc();
+    let mut names = Names::new(alloc);
+    names.intern("n")?;
+    names.intern("v")?;
+    let fields = vec![in alloc; member(0, link(alloc)?), member(1, CType::Int(IntKind::Int))]?;
+    let mut structs = List::new(alloc);
+    structs.push(StructDef {
+        union: false,
+        fields: Some(List::from_vec(fields)),
+        extent: None,
+    })?;
+    let mut functions = List::new(alloc);
+    functions.push(follower(alloc)?)?;
+    let program = program(alloc, names, structs, functions);
+    match places(alloc, &program, 0, &[], &[], 2, 3) {
+        Ok(laid) => assert_eq!(rt; (laid.count(), laid.choice_len()), (11, 109)),
+        Err(_) => assert!(rt; false, "memory suffices"),
+    }
+    Ok(())
+}
+
+// The summary of a function that writes the pointer behind its parameter.
+fn writes_behind(alloc: Global) -> Result<Verdict, OutOfMemory> {
+    let mut items = List::new(alloc);
+    items.push(ItemRows {
+        item: Item::Out(0),
+        rows: List::new(alloc),
+    })?;
+    let mut steps = List::new(alloc);
+    steps.push(Step::Deref)?;
+    let mut writes = List::new(alloc);
+    writes.push(Write {
+        path: Path {
+            root: Root::Param(0),
+            steps,
+        },
+        width: 0,
+    })?;
+    let summary = Summary {
+        bits: 1,
+        items,
+        writes,
+    };
+    Ok(Verdict::Done(summary, List::new(alloc)))
+}
+
+// `& p`, where `p` is the first local, a `_Bool *`.
+fn address(alloc: Global) -> Result<TExpr, OutOfMemory> {
+    let p = leaf(What::Local(0), pointer(alloc, CType::Bool)?, 31);
+    let inner = pointer(alloc, CType::Bool)?;
+    let what = What::Unary(UnaryOp::Address, Boxed::new(alloc, p)?);
+    Ok(leaf(what, pointer(alloc, inner)?, 30))
+}
+
+// `void mk(_Bool **o) {}` and `void use(_Bool c) { _Bool *p; mk(&p); }`
+fn maker_and_user(alloc: Global) -> Result<List<Function>, OutOfMemory> {
+    let inner = pointer(alloc, CType::Bool)?;
+    let mut params = List::new(alloc);
+    params.push(param(pointer(alloc, inner)?))?;
+    let mk = function(params, List::new(alloc), TStmt::Expr(None, pos(2)));
+    let mut args = List::new(alloc);
+    args.push(address(alloc)?)?;
+    let called = call(alloc, NameId { at: 0 }, Some(0), args, CType::Void, 27)?;
+    let given = vec![in alloc; param(CType::Bool)]?;
+    let locals = vec![in alloc; param(pointer(alloc, CType::Bool)?)]?;
+    let body = TStmt::Expr(Some(called), pos(27));
+    let user = function(List::from_vec(given), List::from_vec(locals), body);
+    Ok(List::from_vec(vec![in alloc; mk, user]?))
+}
+
+#[test]
+fn a_known_call_that_gives_through_a_parameter(rt: HostRuntime) -> Result<(), Fail> {
+    // The parameter, the local, and the object that `p` may then point to; one bit of `c`, two of what becomes of
+    // `p`, and one of the object.
+    let alloc = rt.alloc();
+    let mut names = Names::new(alloc);
+    names.intern("mk")?;
+    let program = program(alloc, names, List::new(alloc), maker_and_user(alloc)?);
+    let verdicts = vec![in alloc; writes_behind(alloc)?]?;
+    match places(alloc, &program, 1, &[0], &verdicts, 2, 2) {
+        Ok(laid) => {
+            assert_eq!(rt; (laid.count(), laid.choice_len()), (3, 4));
+            assert_eq!(rt; laid.spots.len(), 1);
         }
         Err(_) => assert!(rt; false, "memory suffices"),
     }
