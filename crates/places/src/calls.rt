@@ -7,8 +7,8 @@ ghost use Rattle.sc_gather.specs.Seen as gathered;
 ghost use Rattle.layout_base.specs.Seen as seen;
 
 use crate::entry::following;
-use layout_base::{Chosen, Ground, Occurrence, Places};
 use crate::objects::{Behind, follow_range, whole_or_void};
+use layout_base::{Chosen, Ground, Occurrence, Places};
 use sc_gather::{Effect, Refused, Site, is_pointer};
 use sc_world::Origin;
 
@@ -89,14 +89,12 @@ fn occur_once<'p>(
 {
     let n = laid.occurrences_now()?;
     let object = object_if(laid, ground, is_pointer(site.result), n, site)?;
-    laid.push_occurrence(
-        Occurrence {
-            site: k,
-            object,
-            bit: 0,
-            spot: 0,
-        },
-    )
+    laid.push_occurrence(Occurrence {
+        site: k,
+        object,
+        bit: 0,
+        spot: 0,
+    })
 }
 
 // One call in all its turns.

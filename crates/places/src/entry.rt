@@ -8,8 +8,8 @@ ghost use Rattle.sc_world.specs.View.{type};
 ghost use Rattle.sc_gather.specs.Made.{Makes, IsMemory};
 ghost use Rattle.layout_base.specs.Seen as seen;
 
-use layout_base::{Chosen, Ground, Places};
 use crate::objects::{Behind, follow_range, whole};
+use layout_base::{Chosen, Ground, Places};
 use sc_gather::Refused;
 use sc_tree::ctype::CType;
 use sc_typed::{Global, Param};

@@ -74,7 +74,10 @@ fn a_list_to_the_reach(rt: HostRuntime) -> Result<(), Fail> {
     let mut names = Names::new(alloc);
     names.intern("n")?;
     names.intern("v")?;
-    let fields = vec![in alloc; member(0, link(alloc)?), member(1, CType::Int(IntKind::Int))]?;
+    let fields = vec![in alloc;
+        member(0, link(alloc)?),
+        member(1, CType::Int(IntKind::Int)),
+    ]?;
     let mut structs = List::new(alloc);
     structs.push(StructDef {
         union: false,

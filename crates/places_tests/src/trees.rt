@@ -59,12 +59,7 @@ pub fn call(
 }
 
 /// `a -> m`, the member with that number of the first struct.
-pub fn arrow(
-    alloc: Global,
-    a: TExpr,
-    member: u32,
-    ctype: CType,
-) -> Result<TExpr, OutOfMemory> {
+pub fn arrow(alloc: Global, a: TExpr, member: u32, ctype: CType) -> Result<TExpr, OutOfMemory> {
     let place = a.place;
     Ok(TExpr {
         what: What::Field(Boxed::new(alloc, a)?, 0, member, true),
@@ -121,11 +116,7 @@ pub fn program(
 }
 
 /// A program with that function alone, and no struct.
-pub fn program_of(
-    alloc: Global,
-    names: Names,
-    function: Function,
-) -> Result<Program, OutOfMemory> {
+pub fn program_of(alloc: Global, names: Names, function: Function) -> Result<Program, OutOfMemory> {
     let mut functions = List::new(alloc);
     functions.push(function)?;
     Ok(program(alloc, names, List::new(alloc), functions))
