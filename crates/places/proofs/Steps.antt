@@ -1,6 +1,6 @@
 -- Recursions by a number of steps that are left, as a loop sees them: one step more, and the end.
-use Rattle.std.proofs.Common.{◌≡◌, ℕ, zero, suc, ◌+◌, ◌-◌, ◌<◌, ◌≤◌, arith, refl, ap, ◌∙◌}
-use Rattle.std.specs.Prelude.{Option, Some, None, Err}
+use Rattle.std.proofs.Common.{◌≡◌, ℕ, zero, suc, ◌+◌, ◌-◌, ◌<◌, ◌≤◌, arith, refl, sym, ap, ◌∙◌}
+use Rattle.std.specs.Prelude.{Option, Some, None, Ok, Err}
 use Rattle.sc_base.specs.declared.skip.LimitKind.TheVariants as limit
 use Rattle.sum_rows.specs.declared.path.Step.TheVariants as step
 use Rattle.sc_world.specs.declared.run.Origin.{Origin}
@@ -10,7 +10,7 @@ use Rattle.sc_world.specs.Build.{goes_on, done}
 use Rattle.sc_world.specs.Source.{Source}
 use Rattle.sc_world.specs.Gather.{Site}
 use Rattle.sc_world.specs.Layout.{Layout, location}
-use Rattle.sc_world.specs.Objects.{Ground, Chosen, CellsAndStates, Layer, Behind, Object, Stub, add, object, parts, elements, follow_at, follow_all, follow_range, levels, root_or, count}
+use Rattle.sc_world.specs.Objects.{Ground, Chosen, CellsAndStates, Layer, Behind, Object, Stub, add, object, parts, parts_of, lay_parts, Elements, elements, follow_at, follow_all, follow_range, levels, root_or, count}
 use Rattle.sc_world.specs.Occurrences.{occur_once, occur, cell_if, cells_from, number_site, number_turns}
 
 pub object_none : (deep : ℕ) (g : Ground) (c : Chosen) (root : Option ℕ) (t : Ty) (o : Origin) (p : Layout)
@@ -78,5 +78,18 @@ number_more n t k g s p h = let e : n - t ≡ suc (n - (t + 1)) = omega arith in
 
 pub number_last : (n t k : ℕ) (g : Ground) (s : Site) (p : Layout) → n ≤ t → number_turns (n - t) g k s p ≡ done tt p
 number_last n t k g s p h = let e : n - t ≡ zero = omega arith in ap (λ m. number_turns m g k s p) e
+
+-- an object with elements, once its own location is added
+pub object_elements : (deep n at r : ℕ) (g : Ground) (c : Chosen) (root : Option ℕ) (t u : Ty) (o : Origin) (p q : Layout)
+    → 0 < deep → add g.source c root t o p ≡ Ok (at, q) → r ≡ root_or root at → Elements n u ≡ parts_of g.source t
+    → goes_on (elements (object (deep - 1) g c (Some r)) (n - 0) 0 at u q) (λ _. done at) ≡ object deep g c root t o p
+object_elements deep n at r g c root t u o p q h e s k =
+    let below = λ (x : ℕ). object (deep - 1) g c (Some x) in
+    let all : n - 0 ≡ n = omega arith in
+    ap (λ m. goes_on (elements (below r) m 0 at u q) (λ _. done at)) all
+    ∙ (ap (λ x. goes_on (elements (below x) n 0 at u q) (λ _. done at)) s
+    ∙ (ap (λ ps. goes_on (lay_parts g.found (below (root_or root at)) at ps q) (λ _. done at)) k
+    ∙ (sym (ap (λ b. goes_on b (λ at. λ q. goes_on (parts g (below (root_or root at)) at t q) (λ _. done at))) e)
+    ∙ sym (object_step deep g c root t o p h))))
 
 pub ruleset object_steps = (object_none, object_step, elements_more, elements_last)
