@@ -194,13 +194,13 @@ impl<'p> Places<'p> {
             result (seen.layout_of self.new) }
     {
         let at = self.next()?;
-        let state = self.bits_if(gives_states(chosen), ground.state_bits())?;
+        let first = self.bits_if(gives_states(chosen), ground.state_bits())?;
         self.push(Location {
             kind: Kind::Void,
             origin,
             root: at,
             bit: None,
-            state,
+            state: first,
             target: None,
         })?;
         Ok(at)
