@@ -1,5 +1,5 @@
 -- When an answer without places comes.
-use Rattle.std.specs.Prelude.{◌≡◌, ℕ, Result, Ok, Err}
+use Rattle.std.specs.Prelude.{◌≡◌, ℕ, Result, Err}
 use Rattle.sc_base.specs.declared.skip.LimitKind.{LimitKind}
 use Rattle.sc_base.specs.declared.skip.LimitKind.TheVariants as limit
 use Rattle.sc_gather.specs.declared.refused.Refused.{Refused}

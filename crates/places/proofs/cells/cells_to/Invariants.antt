@@ -1,4 +1,4 @@
-use Rattle.std.proofs.Common.{◌≡◌, drop, map, ◌-◌, ◌+◌}
+use Rattle.std.proofs.Common.{◌≡◌, ◌-◌}
 use Rattle.sc_world.specs.Occurrences.{cells_from}
 use Rattle.layout_base.specs.Seen.{ground_of, layout_of}
 use Rattle.places.proofs.cells.cells_to.Given as goal

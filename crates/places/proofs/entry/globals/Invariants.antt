@@ -1,4 +1,4 @@
-use Rattle.std.proofs.Common.{◌≡◌, drop, map, ◌-◌, ◌+◌}
+use Rattle.std.proofs.Common.{◌≡◌, drop, map}
 use Rattle.sc_world.specs.Objects.{lay_globals}
 use Rattle.sc_world.specs.View.{type}
 use Rattle.layout_base.specs.Seen.{ground_of, layout_of}

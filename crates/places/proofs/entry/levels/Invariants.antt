@@ -1,4 +1,4 @@
-use Rattle.std.proofs.Common.{◌≡◌, drop, map, ◌-◌, ◌+◌}
+use Rattle.std.proofs.Common.{◌≡◌, ◌-◌}
 use Rattle.sc_world.specs.Objects.{levels}
 use Rattle.layout_base.specs.Seen.{ground_of, layout_of}
 use Rattle.places.proofs.entry.levels.Given as goal

@@ -1,4 +1,4 @@
-use Rattle.std.proofs.Common.{◌≡◌, drop, map, ◌-◌, ◌+◌}
+use Rattle.std.proofs.Common.{◌≡◌, drop}
 use Rattle.sc_world.specs.Objects.{lay_locals}
 use Rattle.sc_world.specs.Programs.{types_of}
 use Rattle.layout_base.specs.Seen.{ground_of, layout_of}

@@ -1,4 +1,4 @@
-use Rattle.std.proofs.Common.{◌≡◌, drop, map, ◌-◌, ◌+◌}
+use Rattle.std.proofs.Common.{◌≡◌, drop}
 use Rattle.sc_world.specs.Occurrences.{out_spots, known_callee}
 use Rattle.layout_base.specs.Seen.{ground_of, layout_of}
 use Rattle.places.proofs.known.out_spots.Given as goal

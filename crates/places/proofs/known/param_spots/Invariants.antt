@@ -1,6 +1,6 @@
-use Rattle.std.proofs.Common.{◌≡◌, drop, map, ◌-◌, ◌+◌}
+use Rattle.std.proofs.Common.{◌≡◌, drop}
 use Rattle.sc_world.specs.Occurrences.{param_spots}
-use Rattle.layout_base.specs.Seen.{ground_of, layout_of}
+use Rattle.layout_base.specs.Seen.{layout_of}
 use Rattle.places.proofs.known.param_spots.Given as goal
 
 abbrev pub invariant-loop-x : goal.invariant-loop-x

@@ -1,4 +1,4 @@
-use Rattle.std.proofs.Common.{◌≡◌, drop, map, ◌-◌, ◌+◌}
+use Rattle.std.proofs.Common.{◌≡◌, drop, map}
 use Rattle.sc_world.specs.Occurrences.{number_all}
 use Rattle.sc_gather.specs.Seen.{call}
 use Rattle.layout_base.specs.Seen.{ground_of, layout_of}
