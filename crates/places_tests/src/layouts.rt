@@ -55,38 +55,52 @@ fn link(alloc: Global) -> Result<CType, OutOfMemory> {
     pointer(alloc, CType::Struct(0))
 }
 
-// `void f(struct s *p) { p->n->n->v; }`
-fn follower(alloc: Global) -> Result<Function, OutOfMemory> {
+// `p->n->n->v`, where `p` is the first parameter.
+fn value_behind(alloc: Global) -> Result<TExpr, OutOfMemory> {
+    let to_next = link(alloc)?;
+    let to_last = link(alloc)?;
     let p = leaf(What::Param(0), link(alloc)?, 20);
-    let next = arrow(alloc, p, 0, link(alloc)?)?;
-    let last = arrow(alloc, next, 0, link(alloc)?)?;
-    let v = arrow(alloc, last, 1, CType::Int(IntKind::Int))?;
-    let mut params = List::new(alloc);
-    params.push(param(link(alloc)?))?;
-    let body = TStmt::Expr(Some(v), pos(20));
-    Ok(function(params, List::new(alloc), body))
+    let next = arrow(alloc, p, 0, to_next)?;
+    let last = arrow(alloc, next, 0, to_last)?;
+    arrow(alloc, last, 1, CType::Int(IntKind::Int))
 }
 
-#[test]
-fn a_list_to_the_reach(rt: HostRuntime) -> Result<(), Fail> {
-    // `struct s { struct s *n; int v; };`: three of them behind the parameter, and then a stub.
-    let alloc = rt.alloc();
-    let mut names = Names::new(alloc);
-    names.intern("n")?;
-    names.intern("v")?;
+// `void f(struct s *p) { p->n->n->v; }`
+fn follower(alloc: Global) -> Result<Function, OutOfMemory> {
+    let params = vec![in alloc; param(link(alloc)?)]?;
+    let value = value_behind(alloc)?;
+    let body = TStmt::Expr(Some(value), pos(20));
+    Ok(function(List::from_vec(params), List::new(alloc), body))
+}
+
+// `struct s { struct s *n; int v; };`
+fn struct_s(alloc: Global) -> Result<StructDef, OutOfMemory> {
     let fields = vec![in alloc;
         member(0, link(alloc)?),
         member(1, CType::Int(IntKind::Int)),
     ]?;
-    let mut structs = List::new(alloc);
-    structs.push(StructDef {
+    Ok(StructDef {
         union: false,
         fields: Some(List::from_vec(fields)),
         extent: None,
-    })?;
-    let mut functions = List::new(alloc);
-    functions.push(follower(alloc)?)?;
-    let program = program(alloc, names, structs, functions);
+    })
+}
+
+#[test]
+fn a_list_to_the_reach(rt: HostRuntime) -> Result<(), Fail> {
+    // Three structs behind the parameter, each with its two members, and then a stub.
+    let alloc = rt.alloc();
+    let mut names = Names::new(alloc);
+    names.intern("n")?;
+    names.intern("v")?;
+    let structs = vec![in alloc; struct_s(alloc)?]?;
+    let functions = vec![in alloc; follower(alloc)?]?;
+    let program = program(
+        alloc,
+        names,
+        List::from_vec(structs),
+        List::from_vec(functions),
+    );
     match places(alloc, &program, 0, &[], &[], 2, 3) {
         Ok(laid) => assert_eq!(rt; (laid.count(), laid.choice_len()), (11, 109)),
         Err(_) => assert!(rt; false, "memory suffices"),
@@ -96,51 +110,51 @@ fn a_list_to_the_reach(rt: HostRuntime) -> Result<(), Fail> {
 
 // The summary of a function that writes the pointer behind its parameter.
 fn writes_behind(alloc: Global) -> Result<Verdict, OutOfMemory> {
-    let mut items = List::new(alloc);
-    items.push(ItemRows {
+    let item = ItemRows {
         item: Item::Out(0),
         rows: List::new(alloc),
-    })?;
-    let mut steps = List::new(alloc);
-    steps.push(Step::Deref)?;
-    let mut writes = List::new(alloc);
-    writes.push(Write {
-        path: Path {
-            root: Root::Param(0),
-            steps,
-        },
-        width: 0,
-    })?;
+    };
+    let items = vec![in alloc; item]?;
+    let steps = vec![in alloc; Step::Deref]?;
+    let path = Path {
+        root: Root::Param(0),
+        steps: List::from_vec(steps),
+    };
+    let writes = vec![in alloc; Write { path, width: 0 }]?;
     let summary = Summary {
         bits: 1,
-        items,
-        writes,
+        items: List::from_vec(items),
+        writes: List::from_vec(writes),
     };
     Ok(Verdict::Done(summary, List::new(alloc)))
 }
 
 // `& p`, where `p` is the first local, a `_Bool *`.
 fn address(alloc: Global) -> Result<TExpr, OutOfMemory> {
-    let p = leaf(What::Local(0), pointer(alloc, CType::Bool)?, 31);
     let inner = pointer(alloc, CType::Bool)?;
+    let outer = pointer(alloc, inner)?;
+    let p = leaf(What::Local(0), pointer(alloc, CType::Bool)?, 31);
     let what = What::Unary(UnaryOp::Address, Boxed::new(alloc, p)?);
-    Ok(leaf(what, pointer(alloc, inner)?, 30))
+    Ok(leaf(what, outer, 30))
 }
 
-// `void mk(_Bool **o) {}` and `void use(_Bool c) { _Bool *p; mk(&p); }`
-fn maker_and_user(alloc: Global) -> Result<List<Function>, OutOfMemory> {
+// `void mk(_Bool **o) {}`
+fn maker(alloc: Global) -> Result<Function, OutOfMemory> {
     let inner = pointer(alloc, CType::Bool)?;
-    let mut params = List::new(alloc);
-    params.push(param(pointer(alloc, inner)?))?;
-    let mk = function(params, List::new(alloc), TStmt::Expr(None, pos(2)));
-    let mut args = List::new(alloc);
-    args.push(address(alloc)?)?;
-    let called = call(alloc, NameId { at: 0 }, Some(0), args, CType::Void, 27)?;
-    let given = vec![in alloc; param(CType::Bool)]?;
+    let params = vec![in alloc; param(pointer(alloc, inner)?)]?;
+    let body = TStmt::Expr(None, pos(2));
+    Ok(function(List::from_vec(params), List::new(alloc), body))
+}
+
+// `void user(_Bool c) { _Bool *p; mk(&p); }`
+fn user(alloc: Global) -> Result<Function, OutOfMemory> {
+    let params = vec![in alloc; param(CType::Bool)]?;
     let locals = vec![in alloc; param(pointer(alloc, CType::Bool)?)]?;
+    let args = vec![in alloc; address(alloc)?]?;
+    let name = NameId { at: 0 };
+    let called = call(alloc, name, Some(0), List::from_vec(args), CType::Void, 27)?;
     let body = TStmt::Expr(Some(called), pos(27));
-    let user = function(List::from_vec(given), List::from_vec(locals), body);
-    Ok(List::from_vec(vec![in alloc; mk, user]?))
+    Ok(function(List::from_vec(params), List::from_vec(locals), body))
 }
 
 #[test]
@@ -150,7 +164,8 @@ fn a_known_call_that_gives_through_a_parameter(rt: HostRuntime) -> Result<(), Fa
     let alloc = rt.alloc();
     let mut names = Names::new(alloc);
     names.intern("mk")?;
-    let program = program(alloc, names, List::new(alloc), maker_and_user(alloc)?);
+    let functions = vec![in alloc; maker(alloc)?, user(alloc)?]?;
+    let program = program(alloc, names, List::new(alloc), List::from_vec(functions));
     let verdicts = vec![in alloc; writes_behind(alloc)?]?;
     match places(alloc, &program, 1, &[0], &verdicts, 2, 2) {
         Ok(laid) => {
