@@ -1,6 +1,6 @@
 -- Unit propagation from more clauses, clauses that are inferred, and the steps of a log.
 
-use Rattle.std.proofs.Common.{◌≡◌, ◌⊎◌, inl, inr, ℕ, zero, suc, ◌<◌, Bool, true, false, not, List, [], ◌∷◌, ◌++◌, map, length, get_or, slice_get, Option, None, Some, IfSome, MatchOption, refl, sym, subst, ap, ◌∙◌, append_assoc, arith}
+use Rattle.std.proofs.Common.{◌≡◌, ◌⊎◌, inl, inr, ℕ, zero, suc, Bool, true, false, not, List, [], ◌∷◌, ◌++◌, map, slice_get, Option, None, Some, IfSome, MatchOption, refl, sym, subst, ap, ◌∙◌, append_assoc, arith}
 use Rattle.std.specs.List.{Contains}
 use Rattle.std.proofs.lemmas.List.{append-nil}
 use Rattle.std.proofs.lemmas.List.Elements.{Contains-append_left, Contains-append_right, Contains-append_cases, Contains-push, Contains-push_cases}
@@ -8,7 +8,7 @@ use Rattle.sat_base.specs.declared.literal.Lit.{Lit}
 use Rattle.sat_base.specs.declared.certificate.Step.{Step}
 use Rattle.sat_base.specs.declared.certificate.Step.TheVariants.{Add, Drop}
 use Rattle.sat_base.specs.Logic.{negation}
-use Rattle.sat_base.specs.Certificates.{Forced, by_assumption, by_clause, Falsifies, IsRup, IsStep, IsCertificate}
+use Rattle.sat_base.specs.Certificates.{Forced, by_assumption, by_clause, IsRup, IsStep, IsCertificate}
 use Rattle.sat_cdcl.specs.Learnt.{Thins, Adds}
 use Rattle.sat_cdcl.specs.Resolvents.{TakesAll, Leaves}
 use Rattle.sat_cdcl.specs.Certified.{units, HeldState, added, Derives, IsKnown, Infers, IsInferred, IsRefuted, AreAssumedFalse, IsOpposed, noted, Records, IsRecorded}

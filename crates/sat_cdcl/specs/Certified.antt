@@ -15,11 +15,11 @@ use Rattle.sat_base.specs.Certificates.{Forced, Falsifies, IsRup, IsCertificate}
 abbrev pub units : List Lit → List (List Lit)
 units lits = map (λ l. l ∷ []) lits
 
--- what the steps show of an answer: after NoModel they are a certificate of the clauses with one clause
--- of one literal for each assumed literal
-abbrev pub Certifies : Answer → List (List Lit) → List Lit → List Step → Type 0
-Certifies Model clauses assumed steps = Unit {0}
-Certifies NoModel clauses assumed steps = IsCertificate (clauses ++ units assumed) steps
+-- the log after an answer: after NoModel its steps are a certificate of the clauses with one clause of
+-- one literal for each assumed literal, and after Model it is the old one
+abbrev pub Certifies : Answer → List (List Lit) → List Lit → List Step → List Step → Type 0
+Certifies Model clauses assumed old new = new ≡ old
+Certifies NoModel clauses assumed old new = IsCertificate (clauses ++ units assumed) new
 
 -- what contracts see of the clauses that a solver holds: those given, and the log, if one is kept
 pub record HeldState : Type 0 where

@@ -2,7 +2,7 @@
 // order of the variables and their signs. The assumptions of a question are on the trail alone, which
 // is empty when a question begins.
 
-ghost use Rattle.std.specs.Prelude.{◌≡◌, ◌≤◌, [], IfOk, OnOk};
+ghost use Rattle.std.specs.Prelude.{◌≡◌, ◌≤◌, [], IfOk, OnOk, OnErr};
 ghost use Rattle.sat_base.specs.Logic.{LitsBelow, Answers};
 ghost use Rattle.sat_cdcl.specs.Certified.{Certifies};
 
@@ -64,15 +64,16 @@ impl Cdcl {
 
     /// Answers as `solve` does. After `NoModel` the log is a certificate of the clauses with one clause of
     /// one literal for each assumed literal: its steps add the clauses that were learnt, each of which
-    /// follows by unit propagation from those before it, and the empty clause last. What the log had
-    /// before is dropped, and so are the learnt clauses of earlier questions. After `OutOfMemory` the log
-    /// is of no use.
+    /// follows by unit propagation from those before it, and the empty clause last; what it had before is
+    /// dropped. After `Model` and after `OutOfMemory` the log is as before. The learnt clauses of earlier
+    /// questions are deleted.
     pub fn solve_logged(&mut self, assumed: &[Lit], log: &mut Log) -> Result<Answer, OutOfMemory>
         requires { LitsBelow self.old.vars assumed.now }
         ensures vars { self.new.vars ≡ self.old.vars }
         ensures clauses { self.new.clauses ≡ self.old.clauses }
         ensures answer { IfOk result (λ answer. Answers answer self.old.vars self.old.clauses assumed.now self.new.found) }
-        ensures certificate { IfOk result (λ answer. Certifies answer self.old.clauses assumed.now log.new) }
+        ensures certificate { IfOk result (λ answer. Certifies answer self.old.clauses assumed.now log.old log.new) }
+        ensures err { OnErr result (log.new ≡ log.old) }
     {
         begin_log(&mut self.search);
         let outcome = self.answer_logged(assumed, log);
@@ -86,7 +87,8 @@ impl Cdcl {
         ensures vars { self.new.vars ≡ self.old.vars }
         ensures clauses { self.new.clauses ≡ self.old.clauses }
         ensures answer { IfOk result (λ answer. Answers answer self.old.vars self.old.clauses assumed.now self.new.found) }
-        ensures certificate { IfOk result (λ answer. Certifies answer self.old.clauses assumed.now log.new) }
+        ensures certificate { IfOk result (λ answer. Certifies answer self.old.clauses assumed.now log.old log.new) }
+        ensures err { OnErr result (log.new ≡ log.old) }
     {
         let answer = self.solve(assumed)?;
         match answer {

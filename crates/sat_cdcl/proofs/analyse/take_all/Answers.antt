@@ -1,5 +1,5 @@
 -- One literal more, or the one that is left out.
-use Rattle.std.proofs.Common.{◌≡◌, ◌+◌, rules, false, Some, get_or, take, sym, subst, ◌∙◌}
+use Rattle.std.proofs.Common.{◌≡◌, ◌+◌, rules, false, Some, get_or, take, sym, subst}
 use Rattle.sat_base.specs.declared.literal.Lit.{Lit}
 use Rattle.sat_cdcl.specs.Resolvents.{TakesAll}
 use Rattle.sat_cdcl.proofs.ResolventLemmas.{all_taken, all_but}
