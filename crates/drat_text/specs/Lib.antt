@@ -1,0 +1,5 @@
+pub mod Parts
+pub mod Numbers
+pub mod Certificate
+pub mod Expecting
+pub mod Reading

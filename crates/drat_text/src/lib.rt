@@ -1,0 +1,17 @@
+//! The text of a certificate: a formula in DIMACS CNF, the line `c drat`, and the steps of a DRAT proof. `read`
+//! gives the certificate that the bytes of a file spell, or the line that breaks the form.
+#![tactic(auto)]
+
+mod certificate;
+mod expecting;
+mod fault;
+mod numbers;
+mod parts;
+mod reading;
+
+pub use certificate::Certificate;
+pub use fault::ReadError;
+pub use reading::read;
+
+#[cfg(test)]
+mod tests;
