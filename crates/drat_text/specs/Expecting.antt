@@ -7,7 +7,8 @@
 --
 -- Words may stand in one line or in several. Each other line that begins with `c` is a comment.
 
-use Rattle.std.specs.Prelude.{ℕ, ◌-◌, ◌==◌, ◌&&◌, Bool, true, false, List, [], ◌∷◌, ◌++◌, Option, None, Some, option_map, option_and_then, if◌then◌else◌, bytes_eq, codes, Result, Ok, Err, ◌≡◌, ⊤}
+use Rattle.std.specs.Prelude.{ℕ, ◌-◌, ◌==◌, ◌&&◌, Bool, true, false, List, [], ◌∷◌, ◌++◌, Option, None, Some, option_map, option_and_then}
+use Rattle.std.specs.Prelude.{if◌then◌else◌, bytes_eq, codes, Result, Ok, Err, ◌≡◌, ⊤}
 use Rattle.sat_base.specs.declared.literal.Lit.{Lit}
 use Rattle.sat_base.specs.declared.certificate.Step.{Step}
 use Rattle.sat_base.specs.declared.certificate.Step.TheVariants.{Add, Drop}

@@ -187,6 +187,7 @@ impl Reader {
     }
 
     /// Takes a word of the formula.
+    #[tactic(auto, unfolding(crate::specs::Expecting::formula_word))]
     fn take_formula(&mut self, word: &[u8]) -> Result<(), Stop>
         ensures { Takes result self.new (formula_word self.old word.now) }
     {
@@ -201,6 +202,7 @@ impl Reader {
     }
 
     /// Takes a word of a clause to add.
+    #[tactic(auto, unfolding(crate::specs::Expecting::added_word))]
     fn take_added(&mut self, word: &[u8]) -> Result<(), Stop>
         ensures { Takes result self.new (added_word self.old word.now) }
     {
@@ -212,6 +214,7 @@ impl Reader {
     }
 
     /// Takes a word of a clause to take out.
+    #[tactic(auto, unfolding(crate::specs::Expecting::removed_word))]
     fn take_removed(&mut self, word: &[u8]) -> Result<(), Stop>
         ensures { Takes result self.new (removed_word self.old word.now) }
     {
@@ -223,6 +226,7 @@ impl Reader {
     }
 
     /// Takes the first word of a step.
+    #[tactic(auto, unfolding(crate::specs::Expecting::start_word))]
     fn take_start(&mut self, word: &[u8]) -> Result<(), Stop>
         ensures { Takes result self.new (start_word self.old word.now) }
     {

@@ -1,0 +1,4 @@
+mod NumberLemmas
+mod PartLemmas
+mod LineLemmas
+mod BelowLemmas
