@@ -4,7 +4,7 @@
 -- one, even nothing, is a line. The words of a line are what stands between its white space: spaces, tabs,
 -- form feeds and carriage returns.
 
-use Rattle.std.specs.Prelude.{ℕ, ◌==◌, Bool, true, false, not, List, [], ◌∷◌, Option, None, Some}
+use Rattle.std.specs.Prelude.{ℕ, ◌==◌, Bool, true, false, List, [], ◌∷◌, Option, None, Some}
 use Rattle.std.specs.Char.{is_ascii_whitespace}
 use Rattle.std.specs.List.{slice_split, filter}
 use Rattle.drat_text.specs.declared.parts.Separator.{Separator}

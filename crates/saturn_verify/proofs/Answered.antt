@@ -35,6 +35,15 @@ to_output words source due answer text bytes out err is same went kept =
     let P : List ℕ → Type 0 = λ b. Went due WriteFault answer out b in
     inr (ToOutput due text, is, (subst P same went, kept))
 
+-- what is due for a text of another form
+pub malformed_given : (name text : List ℕ) (finding : Finding) (line : ℕ) (answer : Verified) (out err : SinkChange) → finding ≡ found.Malformed line
+    → text ≡ line_of name finding → Went Refused WriteFault answer err text → Keeps out.before out.after
+    → IsAnswered (due_for name finding) answer out err
+malformed_given name text finding line answer out err is same went kept =
+    let P : Finding → Type 0 = λ f. text ≡ line_of name f → IsAnswered (due_for name f) answer out err in
+    let Q : List ℕ → Type 0 = λ b. Went Refused WriteFault answer err b in
+    subst P (sym is) (λ (e : text ≡ line_of name (found.Malformed line)). (subst Q e went, kept)) same
+
 -- ---- the cause of each answer
 
 -- what is known of a run by its answer

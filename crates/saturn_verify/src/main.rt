@@ -21,7 +21,7 @@ fn command_line(rt: &HostRuntime) -> io::Result<Vec<String>> {
     Ok(env::args(rt)?.collect(rt.alloc())?)
 }
 
-fn verify(rt: &HostRuntime) -> Verified {
+fn run(rt: &HostRuntime) -> Verified {
     let words = match command_line(rt) {
         Ok(words) => words,
         Err(e) => {
@@ -39,7 +39,7 @@ fn verify(rt: &HostRuntime) -> Verified {
 }
 
 fn main(rt: HostRuntime) -> ExitCode {
-    ExitCode::from(verify(&rt).number())
+    ExitCode::from(run(&rt).number())
 }
 
 #[cfg(test)]

@@ -44,7 +44,8 @@ fn say_finding<O: Sink, E: Sink>(
         (record { faults_before = E.faults err.old; faults_after = E.faults err.new; before = E.taken err.old; after = E.taken err.new }) }
 {
     match finding {
-        Finding::TooLong | Finding::Malformed { line: _ } => say(err, Verified::Refused, line),
+        Finding::TooLong => say(err, Verified::Refused, line),
+        Finding::Malformed { line: _ } => say(err, Verified::Refused, line),
         Finding::Accepted { clauses: _, steps: _ } => say(out, Verified::Accepted, line),
         Finding::Rejected { step: _ } => say(out, Verified::Rejected, line),
     }

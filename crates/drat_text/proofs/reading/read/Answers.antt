@@ -1,6 +1,4 @@
-use Rattle.std.proofs.Common.{◌≡◌, ◌∙◌, ◌+◌, ◌≤◌, List, ◌∷◌, length, refl, arith}
-use Rattle.drat_text.specs.Parts.{lines}
-use Rattle.drat_text.specs.Reading.{with_lines}
+use Rattle.std.proofs.Common.{◌≡◌, ◌∙◌, ◌∷◌, refl, arith}
 use Rattle.drat_text.proofs.BelowLemmas.{begun_within, taken_within}
 use Rattle.drat_text.proofs.LineLemmas.{lines_counted, lines_more}
 use Rattle.drat_text.proofs.reading.read.Goals as goal
