@@ -2,3 +2,5 @@ mod NumberLemmas
 mod PartLemmas
 mod LineLemmas
 mod BelowLemmas
+mod WordLemmas
+mod ReadBack

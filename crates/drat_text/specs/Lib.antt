@@ -3,3 +3,4 @@ pub mod Numbers
 pub mod Certificate
 pub mod Expecting
 pub mod Reading
+pub mod Writing

@@ -5,12 +5,14 @@
 mod certificate;
 mod expecting;
 mod fault;
+mod laws;
 mod numbers;
 mod parts;
 mod reading;
 
 pub use certificate::Certificate;
 pub use fault::ReadError;
+pub use laws::written_is_read_back;
 pub use reading::read;
 
 #[cfg(test)]
