@@ -184,9 +184,9 @@ clauses_read vars [] done rest result small below more passed =
 clauses_read vars (c ∷ cs) done rest result small below more passed =
     let here : LitsBelow vars c = All-head (LitsBelow vars) c cs below in
     let bytes : clauses_text (c ∷ cs) ++ rest ≡ lits_line c ++ 10 ∷ (clauses_text cs ++ rest) =
-        append_assoc (lits_text c) (clauses_text cs) rest ∙ lits_fed c (clauses_text cs ++ rest) in
+    append_assoc (lits_text c) (clauses_text cs) rest ∙ lits_fed c (clauses_text cs ++ rest) in
     let taken = words_line (in_formula vars (suc (length cs)) done []) (in_formula vars (length cs) (done ++ c ∷ []) []) (lits_line c) (lits_words c)
-        (no_comment vars c small here) (words_of_lits vars c small here) (formula_lits vars (length cs) done [] c small here) in
+    (no_comment vars c small here) (words_of_lits vars c small here) (formula_lits vars (length cs) done [] c small here) in
     ap (λ bs. with_lines passed (in_formula vars (suc (length cs)) done []) (lines bs)) bytes
     ∙ line_taken passed _ _ (lits_line c) (clauses_text cs ++ rest) result (lits_in_line vars c small here) taken
     (clauses_read vars cs (done ++ c ∷ []) rest result small (All-tail (LitsBelow vars) c cs below)
@@ -290,8 +290,8 @@ header_in_line : (vars count : ℕ) → vars ≤ greatest → count ≤ greatest
 header_in_line vars count small few =
     let counts : List ℕ = decimal vars ++ 32 ∷ decimal count in
     let inside : IsInLine counts =
-        All-append (λ b. is_line_feed b ≡ false) (decimal vars) (32 ∷ decimal count) (in_line (decimal vars) (plain_decimal vars (omega arith)))
-        (feed_cons 32 (decimal count) refl (in_line (decimal count) (plain_decimal count (omega arith)))) in
+    All-append (λ b. is_line_feed b ≡ false) (decimal vars) (32 ∷ decimal count) (in_line (decimal vars) (plain_decimal vars (omega arith)))
+    (feed_cons 32 (decimal count) refl (in_line (decimal count) (plain_decimal count (omega arith)))) in
     feed_cons 112 (codes " cnf " ++ counts) refl (feed_cons 32 (codes "cnf " ++ counts) refl (feed_cons 99 (codes "nf " ++ counts) refl
     (feed_cons 110 (codes "f " ++ counts) refl (feed_cons 102 (codes " " ++ counts) refl (feed_cons 32 counts refl inside)))))
 

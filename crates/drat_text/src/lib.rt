@@ -9,11 +9,13 @@ mod laws;
 mod numbers;
 mod parts;
 mod reading;
+mod writing;
 
 pub use certificate::Certificate;
 pub use fault::ReadError;
 pub use laws::written_is_read_back;
 pub use reading::read;
+pub use writing::write;
 
 #[cfg(test)]
 mod tests;

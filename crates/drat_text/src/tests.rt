@@ -1,6 +1,6 @@
 //! Texts and what they spell, worked out by hand from the definition.
 
-use crate::{Certificate, ReadError, read};
+use crate::{ReadError, read, write};
 use sat_base::{Lit, Step};
 use std::alloc::Global;
 use std::test::Fail;
@@ -43,6 +43,17 @@ fn a_certificate_is_read(rt: HostRuntime) -> Result<(), Fail> {
     assert_eq!(rt; first.as_slice(), [1, -2].as_slice());
     assert_eq!(rt; certificate.steps().len(), 3);
     assert!(rt; matches!(&certificate.steps()[1], Step::Drop(_)));
+    Ok(())
+}
+
+#[test]
+fn what_is_written_was_read(rt: HostRuntime) -> Result<(), Fail> {
+    let text = "p cnf 2 2\n1 -2 0\n0\nc drat\n-2 0\nd 1 -2 0\n0\n";
+    let Ok(certificate) = read(rt.alloc(), text.as_bytes()) else {
+        return Err(Fail::from("no certificate"));
+    };
+    let written = write(rt.alloc(), &certificate).map_err(|_| Fail::from("no memory"))?;
+    assert_eq!(rt; written.as_slice(), text.as_bytes());
     Ok(())
 }
 

@@ -26,7 +26,10 @@ struct Ran {
 fn run(rt: &HostRuntime, words: &[&str], text: &str, room: usize) -> Result<Ran, Fail> {
     let alloc = rt.alloc();
     let mut held = Vec::new(alloc);
-    held.push((String::from_str(alloc, "a.cnf")?, text.as_bytes().to_vec(alloc)?))?;
+    held.push((
+        String::from_str(alloc, "a.cnf")?,
+        text.as_bytes().to_vec(alloc)?,
+    ))?;
     let mut owned = Vec::new(alloc);
     for word in words {
         owned.push(String::from_str(alloc, word)?)?;
@@ -47,7 +50,12 @@ fn certificates_are_judged(rt: HostRuntime) -> Result<(), Fail> {
     let cases = [
         (REFUTED, Verified::Accepted, "verified 2 1\n", ""),
         (NOT_REFUTED, Verified::Rejected, "rejected 2\n", ""),
-        (NOT_DIVIDED, Verified::Refused, "", "saturn_verify: a.cnf:4: malformed\n"),
+        (
+            NOT_DIVIDED,
+            Verified::Refused,
+            "",
+            "saturn_verify: a.cnf:4: malformed\n",
+        ),
     ];
     for (text, verified, out, err) in cases {
         let ran = run(&rt, &["saturn_verify", "a.cnf"], text, 100)?;
@@ -80,7 +88,10 @@ fn the_words_name_one_file(rt: HostRuntime) -> Result<(), Fail> {
 fn a_fault_has_its_answer(rt: HostRuntime) -> Result<(), Fail> {
     let missing = run(&rt, &["saturn_verify", "b.cnf"], REFUTED, 100)?;
     assert_eq!(rt; missing.verified, Verified::ReadFault);
-    assert_eq!(rt; missing.err.as_slice(), b"saturn_verify: cannot read b.cnf\n".as_slice());
+    assert_eq!(rt;
+        missing.err.as_slice(),
+        b"saturn_verify: cannot read b.cnf\n".as_slice()
+    );
     let full = run(&rt, &["saturn_verify", "a.cnf"], REFUTED, 5)?;
     assert_eq!(rt; full.verified, Verified::WriteFault);
     assert_eq!(rt; full.out.as_slice(), b"verif".as_slice());

@@ -46,7 +46,10 @@ fn say_finding<O: Sink, E: Sink>(
     match finding {
         Finding::TooLong => say(err, Verified::Refused, line),
         Finding::Malformed { line: _ } => say(err, Verified::Refused, line),
-        Finding::Accepted { clauses: _, steps: _ } => say(out, Verified::Accepted, line),
+        Finding::Accepted {
+            clauses: _,
+            steps: _,
+        } => say(out, Verified::Accepted, line),
         Finding::Rejected { step: _ } => say(out, Verified::Rejected, line),
     }
 }

@@ -4,8 +4,8 @@ ghost use Rattle.std.specs.Prelude.{ℕ, List, IfOk, IfErr, map, string_bytes};
 ghost use Rattle.clap.specs.Words.{HasKind};
 ghost use Rattle.saturn_verify.specs.Words.{faults, Name, HaveNoFile};
 
-use clap::{Arg, ArgAction, Command, Error};
 use clap::error::ErrorKind;
+use clap::{Arg, ArgAction, Command, Error};
 use std::alloc::Global;
 
 /// Why the words name no file.

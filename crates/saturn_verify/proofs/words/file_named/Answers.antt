@@ -30,13 +30,13 @@ returns-in-Ok-try_get_matches_from-clause-named c =
     let app_is : app_of c.in-Ok.command ≡ command = c.in-Ok.ensures.shape (search rules) ∙ ap₂ with_rule c.new-2.ensures.app rule_is in
     let matches = c.in-Ok-try_get_matches_from.matches in
     let good : fault_of (app_of c.in-Ok.command) words ≡ [] =
-        c.in-Ok-try_get_matches_from.ensures.kinds (ap is_simple_and_free app_is ∙ is_free) in
+    c.in-Ok-try_get_matches_from.ensures.kinds (ap is_simple_and_free app_is ∙ is_free) in
     let rows : rows_of (found_of matches) ≡ matches_of (app_of c.in-Ok.command) words =
-        (c.in-Ok-try_get_matches_from.ensures.matches (ap is_simple app_is ∙ is_plain)).0 in
+    (c.in-Ok-try_get_matches_from.ensures.matches (ap is_simple app_is ∙ is_plain)).0 in
     let first : first_value (found_of matches) (codes "FILE") ≡ first_of (codes "FILE") (matches_of command words) =
-        first_value-rows (found_of matches) (codes "FILE") ∙ ap (first_of (codes "FILE")) (rows ∙ ap (λ (a : App). matches_of a words) app_is) in
+    first_value-rows (found_of matches) (codes "FILE") ∙ ap (first_of (codes "FILE")) (rows ∙ ap (λ (a : App). matches_of a words) app_is) in
     let read : Some c.unwrap.result.now ≡ first_value (found_of matches) (codes "FILE") =
-        sym (ap (option_map (λ s. s.now)) c.unwrap.ensures) ∙ c.get_str.ensures in
+    sym (ap (option_map (λ s. s.now)) c.unwrap.ensures) ∙ c.get_str.ensures in
     (ap (λ (a : App). fault_of a words) (sym app_is) ∙ good, sym (read ∙ first))
 
 pub returns-in-Err-try_get_matches_from-clause-none : goal.returns-in-Err-try_get_matches_from-clause-none
