@@ -1,0 +1,6 @@
+mod NumberLemmas
+mod PartLemmas
+mod LineLemmas
+mod BelowLemmas
+mod WordLemmas
+mod ReadBack

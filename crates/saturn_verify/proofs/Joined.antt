@@ -1,0 +1,7 @@
+-- Bytes that were put behind each other, one part at a time.
+use Rattle.std.proofs.Common.{◌≡◌, ◌∙◌, ℕ, List, ◌++◌, ap, append_assoc}
+
+pub joined : (a b c d e t u v w x : List ℕ) → t ≡ a → u ≡ t ++ b → v ≡ u ++ c → w ≡ v ++ d → x ≡ w ++ e → x ≡ a ++ (b ++ (c ++ (d ++ e)))
+joined a b c d e t u v w x at bt ct dt et =
+    let whole : x ≡ (((a ++ b) ++ c) ++ d) ++ e = et ∙ ap (λ z. z ++ e) (dt ∙ ap (λ z. z ++ d) (ct ∙ ap (λ z. z ++ c) (bt ∙ ap (λ z. z ++ b) at))) in
+    whole ∙ simp append_assoc

@@ -1,0 +1,18 @@
+use Rattle.std.proofs.Common.{rules, ◌≡◌, ℕ, List, refl, subst, map, string_bytes}
+use Rattle.saturn_verify.specs.declared.words.NoFile.{NoFile}
+use Rattle.saturn_verify.specs.Words.{HaveNoFile}
+use Rattle.saturn_verify.specs.Answer.{helped, bad_words}
+use Rattle.saturn_verify.proofs.Answered.{to_errors, to_output, Keeps-itself, causes}
+use Rattle.saturn_verify.proofs.verify.verify_main.Goals as goal
+
+pub returns-in-Err-Help-clause-answers : goal.returns-in-Err-Help-clause-answers
+returns-in-Err-Help-clause-answers g c =
+    let same : c.as_slice.result.now ≡ c.args.words.now.items = search rules in
+    let P : NoFile → Type 0 = λ e. HaveNoFile (map string_bytes c.as_slice.result.now) e in
+    to_output _ _ _ _ _ _ _ _ (helped _ (rw same at (subst P c.in-Err-Help.field-0-is c.in-Err-Help.ensures.none))) refl c.say.ensures (Keeps-itself _)
+
+pub returns-in-Err-Bad-clause-answers : goal.returns-in-Err-Bad-clause-answers
+returns-in-Err-Bad-clause-answers g c =
+    let same : c.as_slice.result.now ≡ c.args.words.now.items = search rules in
+    let P : NoFile → Type 0 = λ e. HaveNoFile (map string_bytes c.as_slice.result.now) e in
+    to_errors _ _ _ _ _ _ _ _ (bad_words _ (rw same at (subst P c.in-Err-Bad.field-0-is c.in-Err-Bad.ensures.none))) refl c.say-in-Err-Bad.ensures (Keeps-itself _)

@@ -1,0 +1,39 @@
+-- The words of the command line: the program's name, and one file. What the words give is what `clap` defines for
+-- this command.
+
+use Rattle.std.specs.Prelude.{◌≡◌, ◌≢◌, ⊤, List, [], ℕ, Option, Some, codes, true}
+use Rattle.clap.specs.Words.{App, Kinds, IsAmong, fault_of, first_of, matches_of, new_app, new_rule, with_rule}
+use Rattle.clap.specs.declared.builder.action.ArgAction.TheVariants.{Set}
+use Rattle.clap.specs.declared.error.kind.ErrorKind.{ErrorKind}
+use Rattle.clap.specs.declared.error.kind.ErrorKind.TheVariants.{DisplayHelp}
+use Rattle.saturn_verify.specs.declared.words.NoFile.{NoFile}
+use Rattle.saturn_verify.specs.declared.words.NoFile.TheVariants.{Help, Bad, Memory}
+
+-- one word is required, the name of a file
+abbrev pub command : App
+command = with_rule (new_app (codes "saturn_verify")) (record (new_rule (codes "FILE")) { required = true; action = Some Set })
+
+-- the faults of the words, of which a call for help is one
+unfoldable pub faults : List (List ℕ) → Kinds
+faults words = fault_of command words
+
+-- the words ask for help
+abbrev pub AskForHelp : List (List ℕ) → Type 0
+AskForHelp words = IsAmong DisplayHelp (faults words)
+
+-- the words have a fault other than that
+abbrev pub HaveFault : List (List ℕ) → Type 0
+HaveFault words = (kind : ErrorKind) × IsAmong kind (faults words) × (kind ≢ DisplayHelp)
+
+unfoldable pub file_of : List (List ℕ) → Option (List ℕ)
+file_of words = first_of (codes "FILE") (matches_of command words)
+
+-- the words have no fault, and name this file
+abbrev pub Name : List (List ℕ) → List ℕ → Type 0
+Name words file = (faults words ≡ []) × (file_of words ≡ Some file)
+
+-- why the words name no file
+abbrev pub HaveNoFile : List (List ℕ) → NoFile → Type 0
+HaveNoFile words (Help text) = AskForHelp words
+HaveNoFile words (Bad text) = HaveFault words
+HaveNoFile words Memory = ⊤
