@@ -17,3 +17,6 @@ mod shown;
 
 pub use checks::text;
 pub use replays::{Ending, replay};
+
+#[cfg(test)]
+mod tests;
