@@ -6,7 +6,6 @@ use Rattle.fsm_spec.specs.declared.table.MachineSpec.{MachineSpec}
 use Rattle.fsm_spec.specs.Table.{find_in, returns_zero}
 use Rattle.sc_rules.specs.declared.walk.Builtin.{Builtin}
 use Rattle.sc_rules.specs.declared.walk.Builtin.TheVariants as b
-use Rattle.sc_rules.specs.declared.walk.Given.{Given}
 use Rattle.sc_rules.specs.declared.walk.Given.TheVariants as takes
 
 -- operations on locks

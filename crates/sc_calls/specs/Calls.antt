@@ -1,12 +1,12 @@
 -- Calls (C11 6.5.2.2): how many arguments a function takes, and what becomes of each.
-use Rattle.std.specs.Prelude.{◌++◌, ℕ, nat_eq, nat_lt, Bool, true, false, not, ◌&&◌, ◌||◌, Option, Some, None, List, [], ◌∷◌, length, if◌then◌else◌}
+use Rattle.std.specs.Prelude.{◌++◌, ℕ, nat_eq, nat_lt, Bool, true, false, ◌&&◌, ◌||◌, Option, Some, None, List, [], ◌∷◌, length, if◌then◌else◌}
 use Rattle.sc_base.specs.declared.pos.Pos.{Pos}
 use Rattle.sc_base.specs.declared.pos.NameId.{NameId}
 use Rattle.sc_base.specs.declared.skip.Unsupported.TheVariants as u
 use Rattle.sc_base.specs.declared.skip.IllTyped.TheVariants as i
 use Rattle.sc_tree.specs.declared.ctype.CType.{CType, CType-F, out-CType}
 use Rattle.sc_tree.specs.declared.ctype.CType.TheVariants as ty
-use Rattle.sc_tree.specs.declared.ctype.Signature.{Signature, Signature-F, out-Signature, roll-Signature}
+use Rattle.sc_tree.specs.declared.ctype.Signature.{Signature, out-Signature, roll-Signature}
 use Rattle.sc_tree.specs.declared.ctype.IntKind.TheVariants as kind
 use Rattle.sc_tree.specs.declared.ctype.Widths.{Widths}
 use Rattle.sc_tree.specs.declared.expr.Place.{Place}

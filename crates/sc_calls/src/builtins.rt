@@ -63,7 +63,7 @@ fn operation(zero: bool) -> Builtin
 
 // A built-in function on locks: without a machine one of nine, with one an operation of it.
 fn lock_builtin(machine: Option<&MachineSpec>, name: &str) -> Option<Builtin>
-    ensures { result ≡ spec.lock_builtin (option_copied machine) name.now }
+    ensures { result ≡ spec.lock_builtin (option_copied machine.entry) name.now }
 {
     match machine {
         None => row_of(&LOCKS, name.as_bytes()),
@@ -77,7 +77,7 @@ fn lock_builtin(machine: Option<&MachineSpec>, name: &str) -> Option<Builtin>
 /// The built-in function that a name means where it is called. With a machine its operations stand in place of
 /// the nine names of locks.
 pub fn builtin(machine: Option<&MachineSpec>, name: &str) -> Option<Builtin>
-    ensures { result ≡ spec.builtin (option_copied machine) name.now }
+    ensures { result ≡ spec.builtin (option_copied machine.entry) name.now }
 {
     match lock_builtin(machine, name) {
         None => row_of(&OTHERS, name.as_bytes()),

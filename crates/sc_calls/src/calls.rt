@@ -103,7 +103,7 @@ fn argument_to(
     t: Option<&CType>,
     a: TExpr,
 ) -> Result<Option<TExpr>, OutOfMemory>
-    ensures { Gives (spec.argument_to w at (option_copied t) a walk.old) result walk.new }
+    ensures { Gives (spec.argument_to w at (option_copied t.entry) a walk.old) result walk.new }
 {
     match t {
         None => promoted_argument(alloc, walk, at, a),
@@ -120,7 +120,7 @@ fn argument(
     t: Option<&CType>,
     a: Option<TExpr>,
 ) -> Result<Option<TExpr>, OutOfMemory>
-    ensures { Gives (spec.argument w at (option_copied t) a walk.old) result walk.new }
+    ensures { Gives (spec.argument w at (option_copied t.entry) a walk.old) result walk.new }
 {
     match a {
         None => Ok(None),
@@ -171,7 +171,7 @@ fn behind(types: &[CType]) -> &[CType]
 }
 
 // The arguments of a call, each as its parameter asks.
-#[tactic(auto, using(crate::proofs::Arguments::behind_one, crate::proofs::Arguments::behind_none))]
+#[tactic(auto, using(crate::proofs::Arguments::behind_one, crate::proofs::Arguments::behind_none, crate::proofs::Arguments::behind_end))]
 fn arguments(
     alloc: Global,
     walk: &mut Walk,
@@ -357,7 +357,7 @@ fn has_count(given: Given, count: usize) -> bool
 /// The signature of a prototype that is in sight: it limits and converts the arguments of a built-in function
 /// too. `None` where the name means no function.
 pub fn prototype(alloc: Global, visible: Option<&Entity>) -> Result<Option<Signature>, OutOfMemory>
-    ensures { IfOk result (λ x. x ≡ spec.prototype (option_copied visible)) }
+    ensures { IfOk result (λ x. x ≡ spec.prototype (option_copied visible.entry)) }
 {
     match visible {
         Some(Entity::Function(t, _)) => copy_called(alloc, t),

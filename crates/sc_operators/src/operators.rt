@@ -1,10 +1,10 @@
 // Constants, and operators other than those between two operands and assignment (C11 6.4.4.1, 6.5).
 
-ghost use Rattle.std.specs.Prelude.{◌≡◌, IfOk};
+ghost use Rattle.std.specs.Prelude.{◌≡◌, IfOk, Some};
 ghost use Rattle.sc_typed.specs.Types as types;
 ghost use Rattle.sc_typed.specs.declared.expr.What.TheVariants as what;
 ghost use Rattle.sc_rules.specs.Gives.{Gives};
-ghost use Rattle.sc_rules.specs.Conversions.{node as node_of, opaque_kind as opaque_of};
+ghost use Rattle.sc_rules.specs.Conversions.{node as node_of, opaque_kind as opaque_of, to as in_type};
 ghost use Rattle.sc_operators.specs.Operators as spec;
 
 use crate::binary::{both_integers, some_pointer};
@@ -228,6 +228,14 @@ fn arms_type(alloc: Global, w: Widths, b: &TExpr, c: &TExpr) -> Result<Option<CT
     }
 }
 
+// An arm of `a ? b : c` in the type of the whole.
+fn arm(alloc: Global, t: &CType, e: TExpr) -> Result<Boxed<TExpr>, OutOfMemory>
+    ensures { IfOk result (λ x. x ≡ in_type t.now e) }
+{
+    let e = to(alloc, t, e)?;
+    Ok(Boxed::new(alloc, e)?)
+}
+
 // `a ? b : c` with both arms in one type.
 fn chosen(
     alloc: Global,
@@ -239,9 +247,9 @@ fn chosen(
 ) -> Result<TExpr, OutOfMemory>
     ensures { IfOk result (λ x. x ≡ spec.chosen t p a b c) }
 {
-    let b = Boxed::new(alloc, to(alloc, &t, b)?)?;
-    let c = Boxed::new(alloc, to(alloc, &t, c)?)?;
     let a = Boxed::new(alloc, a)?;
+    let b = arm(alloc, &t, b)?;
+    let c = arm(alloc, &t, c)?;
     Ok(node(What::Cond(a, b, c), t, p))
 }
 
@@ -285,6 +293,45 @@ fn no_aggregate(walk: &mut Walk, e: Option<TExpr>) -> Option<TExpr>
     }
 }
 
+// `a ? b : c`, where the first two have types.
+fn with_third(
+    alloc: Global,
+    walk: &mut Walk,
+    w: Widths,
+    p: Place,
+    a: TExpr,
+    b: TExpr,
+    c: Option<TExpr>,
+) -> Result<Option<TExpr>, OutOfMemory>
+    ensures { Gives (spec.conditional_of w p (Some a) (Some b) c walk.old) result walk.new }
+{
+    match c {
+        None => Ok(None),
+        Some(c) => {
+            let t = arms_type(alloc, w, &b, &c)?;
+            conditional_to(alloc, walk, t, p, a, b, c)
+        }
+    }
+}
+
+// `a ? b : c`, where the first has a type.
+fn with_second(
+    alloc: Global,
+    walk: &mut Walk,
+    w: Widths,
+    p: Place,
+    a: TExpr,
+    b: Option<TExpr>,
+    c: Option<TExpr>,
+) -> Result<Option<TExpr>, OutOfMemory>
+    ensures { Gives (spec.conditional_of w p (Some a) b c walk.old) result walk.new }
+{
+    match b {
+        None => Ok(None),
+        Some(b) => with_third(alloc, walk, w, p, a, b, c),
+    }
+}
+
 // `a ? b : c`, where all of them have types.
 fn conditional_of(
     alloc: Global,
@@ -297,17 +344,10 @@ fn conditional_of(
 ) -> Result<Option<TExpr>, OutOfMemory>
     ensures { Gives (spec.conditional_of w p a b c walk.old) result walk.new }
 {
-    let Some(a) = a else {
-        return Ok(None);
-    };
-    let Some(b) = b else {
-        return Ok(None);
-    };
-    let Some(c) = c else {
-        return Ok(None);
-    };
-    let t = arms_type(alloc, w, &b, &c)?;
-    conditional_to(alloc, walk, t, p, a, b, c)
+    match a {
+        None => Ok(None),
+        Some(a) => with_second(alloc, walk, w, p, a, b, c),
+    }
 }
 
 /// `a ? b : c` of values (C11 6.5.15). An operand in which a fault stands is `None`; the others are judged.
