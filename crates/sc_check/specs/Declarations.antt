@@ -1,11 +1,11 @@
 -- Declarations (C11 6.7): what a declarator declares, at file scope and in a body.
-use Rattle.std.specs.Prelude.{ℕ, zero, suc, ◌+◌, ◌-◌, nat_eq, nat_lt, Bool, true, false, not, ◌&&◌, ◌||◌, Option, Some, None, List, [], ◌∷◌, ◌++◌, length, map, slice_set, slice_index_or, if◌then◌else◌}
+use Rattle.std.specs.Prelude.{ℕ, Bool, true, false, not, ◌&&◌, Option, Some, None, List, [], ◌∷◌, if◌then◌else◌}
 use Rattle.sc_base.specs.declared.pos.Pos.{Pos}
 use Rattle.sc_base.specs.declared.pos.NameId.{NameId}
 use Rattle.sc_base.specs.declared.skip.Unsupported.TheVariants as u
 use Rattle.sc_tree.specs.declared.ctype.CType.{CType}
 use Rattle.sc_tree.specs.declared.expr.Storage.{Storage}
-use Rattle.sc_tree.specs.declared.expr.Specs.{Specs, out-Specs}
+use Rattle.sc_tree.specs.declared.expr.Specs.{out-Specs}
 use Rattle.sc_tree.specs.declared.decl.Decl.{Decl}
 use Rattle.sc_tree.specs.declared.decl.InitDeclarator.{InitDeclarator}
 use Rattle.sc_tree.specs.declared.decl.Init.{Init}
@@ -17,7 +17,7 @@ use Rattle.sc_typed.specs.Types.{is_function}
 use Rattle.sc_rules.specs.declared.walk.GlobalKey.{GlobalKey}
 use Rattle.sc_rules.specs.Faults.{unsupported_at}
 use Rattle.sc_rules.specs.Walks.{Check, ◌>>=◌, done}
-use Rattle.sc_rules.specs.Members.{is_there}
+use Rattle.sc_operators.specs.Members.{is_there}
 use Rattle.sc_names.specs.Notes.{note_unless}
 use Rattle.sc_names.specs.Structs.{object_at, size_now}
 use Rattle.sc_declare.specs.declared.functions.Parameter.{Parameter}

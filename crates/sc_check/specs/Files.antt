@@ -1,6 +1,6 @@
 -- One file (C11 6.9): its declarations and functions in their order. A declaration that is refused leaves a note
 -- and nothing else; a function that is refused keeps its name, and what its head declares.
-use Rattle.std.specs.Prelude.{ℕ, ◌+◌, nat_lt, Bool, true, false, not, ◌&&◌, ◌||◌, Option, Some, None, List, [], ◌∷◌, ◌++◌, take, length, slice_set, if◌then◌else◌}
+use Rattle.std.specs.Prelude.{ℕ, nat_lt, Bool, true, false, not, Option, Some, None, List, [], ◌∷◌, ◌++◌, take, length, slice_set}
 use Rattle.sc_base.specs.declared.pos.Pos.{Pos}
 use Rattle.sc_base.specs.declared.pos.NameId.{NameId}
 use Rattle.sc_base.specs.declared.skip.Skip.{Skip}
@@ -9,12 +9,10 @@ use Rattle.sc_base.specs.declared.skip.LimitKind.TheVariants as limit
 use Rattle.sc_base.specs.declared.skip.Unsupported.TheVariants as u
 use Rattle.sc_tree.specs.declared.ctype.CType.{CType}
 use Rattle.sc_tree.specs.declared.ctype.CType.TheVariants as ty
-use Rattle.sc_tree.specs.declared.ctype.Signature.{Signature, out-Signature}
+use Rattle.sc_tree.specs.declared.ctype.Signature.{Signature}
 use Rattle.sc_tree.specs.declared.expr.Head.{Head, out-Head}
-use Rattle.sc_tree.specs.declared.expr.Specs.{Specs, out-Specs}
+use Rattle.sc_tree.specs.declared.expr.Specs.{out-Specs}
 use Rattle.sc_tree.specs.declared.decl.Decl.{Decl}
-use Rattle.sc_tree.specs.declared.stmt.Stmt.{Stmt}
-use Rattle.sc_tree.specs.declared.unit.Unit as unit
 use Rattle.sc_tree.specs.declared.unit.Segment.{Segment}
 use Rattle.sc_tree.specs.declared.unit.Segment.TheVariants as segment
 use Rattle.sc_tree.specs.declared.unit.FileDecl.TheVariants as file_decl
@@ -23,22 +21,20 @@ use Rattle.sc_tree.specs.declared.unit.Body.TheVariants as body
 use Rattle.sc_typed.specs.declared.program.Function.{Function}
 use Rattle.sc_typed.specs.declared.program.Param.{Param}
 use Rattle.sc_typed.specs.declared.program.StructDef.{StructDef}
-use Rattle.sc_typed.specs.declared.program.TBody.{TBody}
 use Rattle.sc_typed.specs.declared.program.TBody.TheVariants as tbody
 use Rattle.sc_typed.specs.declared.stmt.TStmt.{TStmt}
-use Rattle.sc_typed.specs.declared.stmt.TStmt.TheVariants as st
 use Rattle.sc_typed.specs.Extents.{struct_at}
 use Rattle.scopes.specs.Frames.{kept, forgotten, no_frames}
 use Rattle.sc_rules.specs.declared.walk.Walk.{Walk}
 use Rattle.sc_rules.specs.declared.walk.Fault.{Fault}
-use Rattle.sc_rules.specs.Faults.{unsupported_at, with_fault}
+use Rattle.sc_rules.specs.Faults.{unsupported_at}
 use Rattle.sc_rules.specs.Walks.{Check, ◌>>=◌, done, fault, holds_or, open_scope, close_scope}
-use Rattle.sc_rules.specs.Calls.{result_of}
+use Rattle.sc_calls.specs.Calls.{result_of}
 use Rattle.sc_declare.specs.declared.functions.Parameter.{Parameter}
 use Rattle.sc_declare.specs.Storage.{has_local}
 use Rattle.sc_declare.specs.Functions.{signature_if, signature_at, declare_function_if, local_function}
 use Rattle.sc_check.specs.Here.{Here}
-use Rattle.sc_check.specs.Shapes.{Own, Shape, Heading}
+use Rattle.sc_check.specs.Shapes.{Own, Heading}
 use Rattle.sc_check.specs.Typing.{heading}
 use Rattle.sc_check.specs.Declarations.{name_of, declaration}
 use Rattle.sc_check.specs.Bodies.{Inside, stating}

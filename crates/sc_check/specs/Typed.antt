@@ -24,8 +24,8 @@ use Rattle.sc_rules.specs.declared.walk.Record.{Record}
 use Rattle.sc_rules.specs.declared.walk.Builtin.{Builtin}
 use Rattle.sc_rules.specs.Walks.{Check, ◌>>=◌, done}
 use Rattle.fsm_spec.specs.declared.table.MachineSpec.{MachineSpec}
-use Rattle.sc_rules.specs.Builtins.{builtin_in, lock_rows, other_rows, operation_row}
-use Rattle.sc_rules.specs.Members.{is_there}
+use Rattle.sc_calls.specs.Builtins.{builtin}
+use Rattle.sc_operators.specs.Members.{is_there}
 use Rattle.sc_check.specs.Here.{Here}
 use Rattle.sc_check.specs.Typing.{heading}
 use Rattle.sc_check.specs.Declarations.{name_of}
@@ -58,14 +58,9 @@ no_walk =
 abbrev pub nothing_made : Made
 nothing_made = record { functions = []; notes = [] }
 
--- The built-in functions: those on locks, or the operations of the machine; and the others.
-abbrev pub operation_rows : Option MachineSpec → List (List ℕ × Builtin)
-operation_rows None = lock_rows
-operation_rows (Some m) = map operation_row m.operations
-
 -- the built-in function that a name means
 abbrev pub builtin_named : Sources → ℕ → Option Builtin
-builtin_named s n = builtin_in (operation_rows s.machine ++ other_rows) (slice_index_or s.names n [])
+builtin_named s n = builtin s.machine (slice_index_or s.names n [])
 
 abbrev pub walk_files : (ℕ → Here) → Made → List file.Unit → Check Made
 walk_files here m [] = done m

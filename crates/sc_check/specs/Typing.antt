@@ -1,6 +1,6 @@
 -- The typing of expressions, types and declarators (C11 6.5, 6.7): one fold over the trees that hold one
 -- another.
-use Rattle.std.specs.Prelude.{ℕ, zero, suc, ◌+◌, ◌-◌, ◌%◌, ◌^◌, nat_eq, nat_lt, nat_le, Bool, true, false, not, ◌&&◌, ◌||◌, Option, Some, None, List, [], ◌∷◌, ◌++◌, length, map, sum, slice_set, slice_index_or, ℤ, pos, negsuc, if◌then◌else◌}
+use Rattle.std.specs.Prelude.{ℕ, ◌+◌, ◌%◌, ◌^◌, nat_lt, Bool, true, false, not, ◌||◌, Option, Some, None, List, [], ◌∷◌, ◌++◌, map, sum, slice_index_or, ℤ, pos, negsuc, if◌then◌else◌}
 use Rattle.std.specs.List.{list_any}
 use Rattle.sc_base.specs.declared.pos.Pos.{Pos}
 use Rattle.sc_base.specs.declared.pos.NameId.{NameId}
@@ -9,49 +9,48 @@ use Rattle.sc_base.specs.declared.skip.IllTyped.TheVariants as i
 use Rattle.sc_tree.specs.declared.token.StrToken.{StrToken}
 use Rattle.sc_tree.specs.declared.op.UnaryOp.{UnaryOp}
 use Rattle.sc_tree.specs.declared.op.UnaryOp.TheVariants as sign
-use Rattle.sc_tree.specs.declared.ctype.CType.{CType, CType-F, out-CType}
+use Rattle.sc_tree.specs.declared.ctype.CType.{CType}
 use Rattle.sc_tree.specs.declared.ctype.CType.TheVariants as ty
 use Rattle.sc_tree.specs.declared.ctype.IntKind.TheVariants as kind
-use Rattle.sc_tree.specs.declared.ctype.Signature.{Signature, roll-Signature}
-use Rattle.sc_tree.specs.declared.ctype.Widths.{Widths}
+use Rattle.sc_tree.specs.declared.ctype.Signature.{roll-Signature}
 use Rattle.sc_tree.specs.declared.expr.Place.{Place}
 use Rattle.sc_tree.specs.declared.expr.Expr.{Expr, Expr-F}
 use Rattle.sc_tree.specs.declared.expr.Head.{Head, Head-F}
 use Rattle.sc_tree.specs.declared.expr.Specs.{Specs, Specs-F}
-use Rattle.sc_tree.specs.declared.expr.Base.{Base, Base-F}
+use Rattle.sc_tree.specs.declared.expr.Base.{Base-F}
 use Rattle.sc_tree.specs.declared.expr.Base.TheFolds.{fold-Expr, fold-Head, fold-Specs, fold-Declarator}
-use Rattle.sc_tree.specs.declared.expr.Aggregate.{Aggregate, Aggregate-F}
-use Rattle.sc_tree.specs.declared.expr.Member.{Member, Member-F}
-use Rattle.sc_tree.specs.declared.expr.Part.{Part, Part-F}
-use Rattle.sc_tree.specs.declared.expr.EnumSpec.{EnumSpec, EnumSpec-F}
-use Rattle.sc_tree.specs.declared.expr.Enumerator.{Enumerator, Enumerator-F}
+use Rattle.sc_tree.specs.declared.expr.Aggregate.{Aggregate-F}
+use Rattle.sc_tree.specs.declared.expr.Member.{Member-F}
+use Rattle.sc_tree.specs.declared.expr.Part.{Part-F}
+use Rattle.sc_tree.specs.declared.expr.EnumSpec.{EnumSpec-F}
+use Rattle.sc_tree.specs.declared.expr.Enumerator.{Enumerator-F}
 use Rattle.sc_tree.specs.declared.expr.Declarator.{Declarator, Declarator-F}
 use Rattle.sc_typed.specs.declared.expr.TExpr.{TExpr}
 use Rattle.sc_typed.specs.declared.expr.What.TheVariants as what
 use Rattle.sc_typed.specs.declared.program.FieldDef.{FieldDef}
-use Rattle.sc_typed.specs.declared.program.StructDef.{StructDef}
 use Rattle.sc_typed.specs.declared.program.Global.{Global}
-use Rattle.sc_typed.specs.Types.{is_integer, is_aggregate, is_function, is_array}
+use Rattle.sc_typed.specs.Types.{is_aggregate, is_function, is_array}
 use Rattle.sc_typed.specs.Arith.{converted as number_converted}
 use Rattle.sc_typed.specs.Constants.{constant, constant_bits}
-use Rattle.sc_rules.specs.declared.walk.Walk.{Walk}
 use Rattle.sc_rules.specs.declared.walk.Entity.{Entity}
 use Rattle.sc_rules.specs.declared.walk.Entity.TheVariants as entity
 use Rattle.sc_rules.specs.declared.walk.Tag.{Tag}
 use Rattle.sc_rules.specs.declared.walk.TagKind.{TagKind}
 use Rattle.sc_rules.specs.declared.walk.TagKind.TheVariants as tag
 use Rattle.sc_rules.specs.declared.walk.Builtin.{Builtin}
-use Rattle.sc_rules.specs.Walks.{Check, ◌>>=◌, done, given, both, unsupported, ill_typed, holds_or, name_means, declare, Scope, no_scope, open_scope, close_scope}
+use Rattle.sc_rules.specs.Walks.{Check, ◌>>=◌, done, given, both, unsupported, ill_typed, holds_or, name_means, Scope, no_scope, open_scope, close_scope}
 use Rattle.sc_rules.specs.Faults.{ill_typed_at}
-use Rattle.sc_rules.specs.Conversions.{node, type_of, place_of, value, decayed, decayed_type}
-use Rattle.sc_rules.specs.Operators.{int, made, int_constant, binary, unary, pre_increment, post_increment, assignment, conditional, comma, cast, size_of_expression, size_of_type, index}
+use Rattle.sc_rules.specs.Conversions.{node, type_of, place_of, value, decayed_type}
+use Rattle.sc_operators.specs.Binary.{int, made, binary}
+use Rattle.sc_operators.specs.Assignments.{pre_increment, post_increment, assignment}
+use Rattle.sc_operators.specs.Operators.{int_constant, unary, conditional, comma, cast, size_of_expression, size_of_type, index}
 use Rattle.sc_names.specs.Names.{new_here, declare_if}
 use Rattle.sc_names.specs.Structs.{complete_if, size_now, object_at}
 use Rattle.sc_names.specs.Tags.{tag_of, begin_body}
 use Rattle.sc_declare.specs.declared.functions.Parameter.{Parameter}
 use Rattle.sc_check.specs.Here.{Here}
-use Rattle.sc_rules.specs.Members.{field, is_called, is_there}
-use Rattle.sc_rules.specs.Calls.{unknown_function, callee, call, builtin_call}
+use Rattle.sc_operators.specs.Members.{field, is_called, is_there}
+use Rattle.sc_calls.specs.Calls.{unknown_function, callee, call, prototype, builtin_call}
 use Rattle.sc_check.specs.Shapes.{Typing, Own, Shape, Declaring, Heading, Naming, Adding, AddingOne, Counting}
 
 -- the value of an expression
@@ -131,7 +130,7 @@ module _ (here : Here) where
   call_by_name (Some b) name q p e es = do
     as' ← values es
     m ← name_means name
-    builtin_call here.widths name b m q p as'
+    builtin_call here.widths name b (prototype m) q p as'
 
   -- Types.
 
@@ -453,7 +452,7 @@ module _ (here : Here) where
   expr_step (Expr-F.Comma a b p) = plain (do
     x ← valued a
     y ← valued b
-    both x y (comma p))
+    both x y (λ x y. done (Some (comma p x y))))
   expr_step (Expr-F.Assign o a b p) = plain (do
     x ← a.run
     y ← valued b

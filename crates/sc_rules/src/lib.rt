@@ -1,7 +1,6 @@
-//! The rules of typing (C11 6.5, 6.7, 6.8): what stays the same over a file, what changes on the way through
-//! it, and what each rule makes of operands that have their types.
-//!
-//! `specs/` has the rules, one subject a file. Which program the trees of all files are is defined in `sc_check`.
+//! The base of the rules of typing: what changes on the way through a file, the first fault in it, and the
+//! conversions of operands that have their types (C11 6.3). The rules that stand on it are in `sc_operators`
+//! and `sc_calls`, and the walk over the trees is defined in `sc_check`.
 #![tactic(auto)]
 
 mod conversions;

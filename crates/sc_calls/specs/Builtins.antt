@@ -1,18 +1,15 @@
 -- Names that mean a built-in function where they are called, whatever is declared under them: what each gives
 -- and takes.
-use Rattle.std.specs.Prelude.{ℕ, nat_eq, Bool, Option, Some, None, List, [], ◌∷◌, codes}
-use Rattle.std.specs.Map.{lookup}
-use Rattle.std.specs.Cmp.Lexicographic.{pointwise}
-use Rattle.fsm_spec.specs.declared.table.Operation.{Operation}
-use Rattle.fsm_spec.specs.declared.table.Returns.{Returns}
-use Rattle.fsm_spec.specs.declared.table.Returns.TheVariants as returns
+use Rattle.std.specs.Prelude.{ℕ, Bool, true, false, Option, Some, None, List, [], ◌∷◌, codes, slice_get}
+use Rattle.sc_tree.specs.Tables.{Table, named, ◌|?◌}
+use Rattle.fsm_spec.specs.declared.table.MachineSpec.{MachineSpec}
+use Rattle.fsm_spec.specs.Table.{find_in, returns_zero}
 use Rattle.sc_rules.specs.declared.walk.Builtin.{Builtin}
 use Rattle.sc_rules.specs.declared.walk.Builtin.TheVariants as b
-use Rattle.sc_rules.specs.declared.walk.Given.{Given}
 use Rattle.sc_rules.specs.declared.walk.Given.TheVariants as takes
 
 -- operations on locks
-abbrev pub lock_rows : List (List ℕ × Builtin)
+abbrev pub lock_rows : Table Builtin
 lock_rows =
     (codes "spin_lock", b.Nothing takes.Pointer)
     ∷ (codes "mutex_lock", b.Nothing takes.Pointer)
@@ -26,7 +23,7 @@ lock_rows =
     ∷ []
 
 -- allocation, release, ends of the program, and what is not taken
-abbrev pub other_rows : List (List ℕ × Builtin)
+abbrev pub other_rows : Table Builtin
 other_rows =
     (codes "malloc", b.Object takes.Any)
     ∷ (codes "kmalloc", b.Object takes.Any)
@@ -45,16 +42,20 @@ other_rows =
     ∷ (codes "sigsetjmp", b.Refused)
     ∷ []
 
-abbrev pub same_text : List ℕ → List ℕ → Bool
-same_text = pointwise nat_eq
-
-abbrev pub builtin_in : List (List ℕ × Builtin) → List ℕ → Option Builtin
-builtin_in rows text = lookup (same_text text) rows
-
 -- an operation of a machine: its function takes a pointer first, and gives nothing or an `int`
-abbrev pub operation_of : List ℕ → Returns → List ℕ × Builtin
-operation_of function returns.Nothing = (function, b.Nothing takes.Pointer)
-operation_of function returns.Zero = (function, b.Int takes.Pointer)
+abbrev pub operation : (zero : Bool) → Builtin
+operation true = b.Int takes.Pointer
+operation false = b.Nothing takes.Pointer
 
-abbrev pub operation_row : Operation → List ℕ × Builtin
-operation_row o = operation_of o.function o.returns
+abbrev pub operation_if : MachineSpec → Option ℕ → Option Builtin
+operation_if m None = None
+operation_if m (Some n) = Some (operation (returns_zero (slice_get m.operations n)))
+
+-- the built-in functions on locks, or the operations of the machine where there is one
+abbrev pub lock_builtin : Option MachineSpec → List ℕ → Option Builtin
+lock_builtin None name = named lock_rows name
+lock_builtin (Some m) name = operation_if m (find_in m name)
+
+-- the built-in function that a name means
+abbrev pub builtin : Option MachineSpec → List ℕ → Option Builtin
+builtin machine name = lock_builtin machine name |? named other_rows name

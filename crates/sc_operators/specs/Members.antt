@@ -1,5 +1,5 @@
 -- Members of structs and unions (C11 6.5.2.3, 6.7.2.1).
-use Rattle.std.specs.Prelude.{ℕ, zero, suc, ◌+◌, nat_eq, Bool, true, false, not, ◌||◌, Option, Some, None, List, [], ◌∷◌, if◌then◌else◌}
+use Rattle.std.specs.Prelude.{slice_index_or, ℕ, zero, suc, ◌+◌, nat_eq, Bool, true, false, not, ◌||◌, Option, Some, None, List, [], ◌∷◌, if◌then◌else◌}
 use Rattle.sc_base.specs.declared.pos.NameId.{NameId}
 use Rattle.sc_base.specs.declared.skip.Unsupported.TheVariants as u
 use Rattle.sc_base.specs.declared.skip.IllTyped.TheVariants as i
@@ -13,19 +13,10 @@ use Rattle.sc_typed.specs.declared.expr.TExpr.{TExpr}
 use Rattle.sc_typed.specs.declared.expr.What.TheVariants as what
 use Rattle.sc_typed.specs.Extents.{struct_at}
 use Rattle.sc_typed.specs.Types.{target, is_aggregate}
-use Rattle.sc_rules.specs.declared.walk.Walk.{Walk}
+use Rattle.sc_operators.specs.declared.members.Meant.{Meant}
+use Rattle.sc_operators.specs.declared.members.Meant.TheVariants as means
 use Rattle.sc_rules.specs.Walks.{Check, ◌>>=◌, done, unsupported, ill_typed}
-use Rattle.sc_rules.specs.Conversions.{type_of}
-use Rattle.sc_rules.specs.Operators.{made}
-
--- What a member's name means in a struct or union: nothing; a member of its own, by its number; or what is not
--- taken, a member of a union, a bit field, and a member of an unnamed member.
-pub data Meant : Type 0 where
-  Missing : Meant
-  Plain : (number : ℕ) → (ctype : CType) → Meant
-  OfUnion : Meant
-  Bits : Meant
-  Unnamed : Meant
+use Rattle.sc_rules.specs.Conversions.{node, type_of}
 
 abbrev pub is_there : {A : Type 0} → Option A → Bool
 is_there None = false
@@ -36,24 +27,24 @@ is_called name None = false
 is_called name (Some m) = nat_eq name.at m.at
 
 abbrev pub meant_by : (union : Bool) → ℕ → FieldDef → Meant
-meant_by true k f = OfUnion
-meant_by false k f = if is_there f.bits then Bits else Plain k f.ctype
+meant_by true k f = means.OfUnion
+meant_by false k f = if is_there f.bits then means.Bits else means.Plain k
 
 -- among the members themselves, of which the first has the number k
 abbrev pub among : (union : Bool) → NameId → ℕ → List FieldDef → Meant
-among union name k [] = Missing
+among union name k [] = means.Missing
 among union name k (f ∷ fs) = if is_called name f.name then meant_by union k f else among union name (k + 1) fs
 
 -- what the name means in an unnamed member, read from outside
 abbrev pub through_unnamed : (union : Bool) → Meant → Meant
-through_unnamed union Missing = Missing
-through_unnamed union OfUnion = OfUnion
-through_unnamed true _ = OfUnion
-through_unnamed false Bits = Bits
-through_unnamed false _ = Unnamed
+through_unnamed union means.Missing = means.Missing
+through_unnamed union means.OfUnion = means.OfUnion
+through_unnamed true _ = means.OfUnion
+through_unnamed false means.Bits = means.Bits
+through_unnamed false _ = means.Unnamed
 
 abbrev pub or_next : Meant → Meant → Meant
-or_next Missing m = m
+or_next means.Missing m = m
 or_next m _ = m
 
 -- an unnamed member is a struct or union without a name that is no bit field
@@ -85,19 +76,19 @@ body_of structs t = body_layer structs (out-CType t)
 
 -- among the unnamed members, where `inside` finds a name in the type of one
 abbrev pub among_unnamed : (inside : CType → Meant) → (union : Bool) → List FieldDef → Meant
-among_unnamed inside union [] = Missing
+among_unnamed inside union [] = means.Missing
 among_unnamed inside union (f ∷ fs) =
-    or_next (if is_unnamed f then through_unnamed union (inside f.ctype) else Missing) (among_unnamed inside union fs)
+    or_next (if is_unnamed f then through_unnamed union (inside f.ctype) else means.Missing) (among_unnamed inside union fs)
 
 -- An unnamed member stands in the body that it is a member of, and no more than 128 bodies stand in one another.
 unfoldable pub member : (deep : ℕ) → List StructDef → NameId → CType → Meant
-member zero structs name t = Missing
+member zero structs name t = means.Missing
 member (suc deep) structs name t =
     or_next (among (body_of structs t).union name 0 (body_of structs t).fields)
     (among_unnamed (member deep structs name) (body_of structs t).union (body_of structs t).fields)
 
-abbrev pub meant : List StructDef → NameId → CType → Meant
-meant = member 128
+abbrev pub find_member : List StructDef → NameId → CType → Meant
+find_member = member 128
 
 -- the number of a struct or union type
 abbrev pub number_layer : CType-F CType Signature → ℕ
@@ -108,23 +99,37 @@ number_layer _ = 0
 abbrev pub struct_number : CType → ℕ
 struct_number t = number_layer (out-CType t)
 
+abbrev pub no_field : FieldDef
+no_field = record { name = None; ctype = ty.Void; bits = None }
+
+-- the type of the member with that number
+abbrev pub field_type : List StructDef → CType → ℕ → CType
+field_type structs t k = (slice_index_or (body_of structs t).fields k no_field).ctype
+
+abbrev pub plain_field : List StructDef → ℕ → (arrow : Bool) → CType → Place → TExpr → TExpr
+plain_field structs k arrow t p e = node (what.Field e (struct_number t) k arrow) (field_type structs t k) p
+
 abbrev pub access : Meant → (arrow : Bool) → CType → Place → TExpr → Check (Option TExpr)
-access Missing arrow t p e = ill_typed i.Field p.token
-access OfUnion arrow t p e = unsupported u.Union p.token
-access Bits arrow t p e = unsupported u.BitField p.token
-access Unnamed arrow t p e = unsupported u.Anon p.token
-access (Plain k c) arrow t p e = made (what.Field e (struct_number t) k arrow) c p
+access means.Missing arrow t p e = ill_typed i.Field p.token
+access means.OfUnion arrow t p e = unsupported u.Union p.token
+access means.Bits arrow t p e = unsupported u.BitField p.token
+access means.Unnamed arrow t p e = unsupported u.Anon p.token
+access (means.Plain k) arrow t p e = λ w. (Some (plain_field w.structs k arrow t p e), w)
 
 -- a member of what has the type t
 abbrev pub field_in : NameId → (arrow : Bool) → CType → Place → TExpr → Check (Option TExpr)
 field_in name arrow t p e w =
-    if is_aggregate t then access (meant w.structs name t) arrow t p e w else ill_typed i.Operand p.token w
+    if is_aggregate t then access (find_member w.structs name t) arrow t p e w else ill_typed i.Operand p.token w
 
 abbrev pub target_or_void : Option CType → CType
 target_or_void None = ty.Void
 target_or_void (Some t) = t
 
+-- the type whose member is named: with `->` that of what the pointer points to
+abbrev pub accessed : (arrow : Bool) → CType → CType
+accessed true t = target_or_void (target t)
+accessed false t = t
+
 -- `e . name`, or `e -> name` with the flag; the place's token is the name
 abbrev pub field : NameId → (arrow : Bool) → Place → TExpr → Check (Option TExpr)
-field name true p e = field_in name true (target_or_void (target (type_of e))) p e
-field name false p e = field_in name false (type_of e) p e
+field name arrow p e = field_in name arrow (accessed arrow (type_of e)) p e

@@ -1,12 +1,12 @@
 -- Calls (C11 6.5.2.2): how many arguments a function takes, and what becomes of each.
-use Rattle.std.specs.Prelude.{ℕ, ◌+◌, nat_eq, nat_lt, Bool, true, false, not, ◌&&◌, ◌||◌, Option, Some, None, List, [], ◌∷◌, length, if◌then◌else◌}
+use Rattle.std.specs.Prelude.{◌++◌, ℕ, nat_eq, nat_lt, Bool, true, false, ◌&&◌, ◌||◌, Option, Some, None, List, [], ◌∷◌, length, if◌then◌else◌}
 use Rattle.sc_base.specs.declared.pos.Pos.{Pos}
 use Rattle.sc_base.specs.declared.pos.NameId.{NameId}
 use Rattle.sc_base.specs.declared.skip.Unsupported.TheVariants as u
 use Rattle.sc_base.specs.declared.skip.IllTyped.TheVariants as i
 use Rattle.sc_tree.specs.declared.ctype.CType.{CType, CType-F, out-CType}
 use Rattle.sc_tree.specs.declared.ctype.CType.TheVariants as ty
-use Rattle.sc_tree.specs.declared.ctype.Signature.{Signature, Signature-F, out-Signature, roll-Signature}
+use Rattle.sc_tree.specs.declared.ctype.Signature.{Signature, out-Signature, roll-Signature}
 use Rattle.sc_tree.specs.declared.ctype.IntKind.TheVariants as kind
 use Rattle.sc_tree.specs.declared.ctype.Widths.{Widths}
 use Rattle.sc_tree.specs.declared.expr.Place.{Place}
@@ -21,9 +21,8 @@ use Rattle.sc_rules.specs.declared.walk.Given.{Given}
 use Rattle.sc_rules.specs.declared.walk.Given.TheVariants as takes
 use Rattle.sc_rules.specs.declared.walk.Entity.{Entity}
 use Rattle.sc_rules.specs.declared.walk.Entity.TheVariants as entity
-use Rattle.sc_rules.specs.Walks.{Check, ◌>>=◌, done, given, both, unsupported, ill_typed}
+use Rattle.sc_rules.specs.Walks.{Check, ◌>>=◌, done, unsupported, ill_typed}
 use Rattle.sc_rules.specs.Conversions.{node, type_of, place_of, value, promote, convert, converted}
-use Rattle.sc_rules.specs.Operators.{int, made}
 
 -- a function with that result of whose arguments nothing is said
 abbrev pub with_result : CType → Signature
@@ -37,9 +36,12 @@ abbrev pub function_layer : CType-F CType Signature → Option Signature
 function_layer (CType-F.Func s) = Some s
 function_layer _ = None
 
+abbrev pub function_signature : CType → Option Signature
+function_signature t = function_layer (out-CType t)
+
 abbrev pub called_layer : CType-F CType Signature → Option Signature
 called_layer (CType-F.Func s) = Some s
-called_layer (CType-F.Ptr t) = function_layer (out-CType t)
+called_layer (CType-F.Ptr t) = function_signature t
 called_layer _ = None
 
 abbrev pub called_signature : CType → Option Signature
@@ -67,9 +69,14 @@ abbrev pub argument_to : Widths → Pos → Option CType → TExpr → Check (Op
 argument_to w at None a = promoted_argument at a
 argument_to w at (Some t) a = converted w i.Operand at t a
 
+abbrev pub argument_unless : Widths → Pos → Option CType → TExpr → Check (Option TExpr)
+argument_unless w at t a =
+    if is_aggregate (type_of a) then unsupported u.Struct (place_of a).first else argument_to w at t a
+
 -- an argument, converted as the parameter asks where there is one; `at` is the place of the call
-abbrev pub argument : Widths → Pos → Option CType → TExpr → Check (Option TExpr)
-argument w at t a = if is_aggregate (type_of a) then unsupported u.Struct (place_of a).first else argument_to w at t a
+abbrev pub argument : Widths → Pos → Option CType → Option TExpr → Check (Option TExpr)
+argument w at t None = done None
+argument w at t (Some a) = argument_unless w at t a
 
 -- the parameter in front, and those behind it
 abbrev pub front : List CType → Option CType
@@ -80,19 +87,25 @@ abbrev pub behind : List CType → List CType
 behind [] = []
 behind (t ∷ ts) = ts
 
--- all of them, or nothing where one is missing
-abbrev pub with_first : Option TExpr → Option (List TExpr) → Check (Option (List TExpr))
-with_first None r = done None
-with_first (Some a) None = done None
-with_first (Some a) (Some as') = done (Some (a ∷ as'))
+-- one argument before the others; nothing where one is missing
+abbrev pub with_first : Option TExpr → Option (List TExpr) → Option (List TExpr)
+with_first None r = None
+with_first (Some a) None = None
+with_first (Some a) (Some as') = Some (a ∷ as')
 
--- each argument that has a type is judged, whatever faults others have
+-- the arguments for these parameters; each that has a type is judged, whatever faults others have
 abbrev pub arguments : Widths → Pos → List CType → List (Option TExpr) → Check (Option (List TExpr))
 arguments w at ts [] = done (Some [])
 arguments w at ts (a ∷ as') = do
-  x ← given a (argument w at (front ts))
+  x ← argument w at (front ts) a
   r ← arguments w at (behind ts) as'
-  with_first x r
+  done (with_first x r)
+
+-- the arguments so far and one more; nothing where one is missing
+abbrev pub with_last : Option (List TExpr) → Option TExpr → Option (List TExpr)
+with_last None x = None
+with_last (Some xs) None = None
+with_last (Some xs) (Some x) = Some (xs ++ x ∷ [])
 
 abbrev pub params_if : Option (List CType) → List CType
 params_if None = []
@@ -101,36 +114,36 @@ params_if (Some ts) = ts
 abbrev pub params_of : Signature → List CType
 params_of s = params_if (out-Signature s).params
 
+abbrev pub finished_call : Place → CType → TExpr → Option (List TExpr) → Option TExpr
+finished_call p t f None = None
+finished_call p t f (Some as') = Some (node (what.Call f as') t p)
+
 -- a struct or union as a result is not taken
-abbrev pub finished_call : Place → CType → TExpr → Option (List TExpr) → Check (Option TExpr)
-finished_call p t f None = done None
-finished_call p t f (Some as') = made (what.Call f as') t p
-
 abbrev pub call_with : Place → CType → TExpr → Option (List TExpr) → Check (Option TExpr)
-call_with p t f as' = if is_aggregate t then unsupported u.Struct p.first else finished_call p t f as'
+call_with p t f as' = if is_aggregate t then unsupported u.Struct p.first else done (finished_call p t f as')
 
--- a call of a function with that signature
-abbrev pub call_as : Widths → Signature → Place → TExpr → List (Option TExpr) → Check (Option TExpr)
-call_as w s p f as' =
-    if takes_many s (length as')
-    then (arguments w p.first (params_of s) as' >>= λ r. call_with p (result_of s) f r)
-    else ill_typed i.Call p.first
+abbrev pub call_taken : Widths → Signature → Place → TExpr → List (Option TExpr) → Check (Option TExpr)
+call_taken w s p f as' = arguments w p.first (params_of s) as' >>= λ r. call_with p (result_of s) f r
 
-abbrev pub call_if : Widths → Option Signature → Place → TExpr → List (Option TExpr) → Check (Option TExpr)
-call_if w None p f as' = ill_typed i.Call p.first
-call_if w (Some s) p f as' = call_as w s p f as'
+-- a call of what has that signature; none is that of no function
+abbrev pub call_as : Widths → Option Signature → Place → TExpr → List (Option TExpr) → Check (Option TExpr)
+call_as w None p f as' = ill_typed i.Call p.first
+call_as w (Some s) p f as' = if takes_many s (length as') then call_taken w s p f as' else ill_typed i.Call p.first
 
 abbrev pub call : Widths → Place → Option TExpr → List (Option TExpr) → Check (Option TExpr)
 call w p None as' = done None
-call w p (Some f) as' = call_if w (called_signature (type_of f)) p f as'
+call w p (Some f) as' = call_as w (called_signature (type_of f)) p f as'
 
 -- What is called: a function stays what it is, anything else is a value.
-abbrev pub callee_layer : What-F What TExpr → TExpr → Check (Option TExpr)
-callee_layer (What-F.Function name body) e = done (Some e)
-callee_layer _ e = value e
+abbrev pub function_name_layer : What-F What TExpr → Bool
+function_name_layer (What-F.Function name body) = true
+function_name_layer _ = false
+
+abbrev pub is_function_name : TExpr → Bool
+is_function_name e = function_name_layer (out-What (out-TExpr e).what)
 
 abbrev pub callee : TExpr → Check (Option TExpr)
-callee e = callee_layer (out-What (out-TExpr e).what) e
+callee e = if is_function_name e then done (Some e) else value e
 
 -- Built-in functions.
 
@@ -143,7 +156,7 @@ given_of b.Refused = takes.Any
 
 abbrev pub builtin_result : Builtin → CType
 builtin_result (b.Nothing g) = ty.Void
-builtin_result (b.Int g) = int
+builtin_result (b.Int g) = ty.Int kind.Int
 builtin_result (b.Long g) = ty.Int kind.Long
 builtin_result (b.Object g) = ty.Ptr ty.Void
 builtin_result b.Refused = ty.Void
@@ -154,17 +167,13 @@ has_count takes.Pointer n = nat_lt 0 n
 has_count takes.Two n = nat_eq n 2
 
 -- a prototype that is in sight limits and converts the arguments too
-abbrev pub function_type : Option Entity → Option CType
-function_type (Some (entity.Function t brackets)) = Some t
-function_type _ = None
+abbrev pub prototype : Option Entity → Option Signature
+prototype (Some (entity.Function t brackets)) = called_signature t
+prototype _ = None
 
 abbrev pub signature_or : CType → Option Signature → Signature
 signature_or result None = with_result result
 signature_or result (Some s) = s
-
-abbrev pub prototype_of : Option CType → CType → Signature
-prototype_of None result = with_result result
-prototype_of (Some t) result = signature_or result (called_signature t)
 
 abbrev pub two_longs : List CType
 two_longs = ty.Int kind.Long ∷ ty.Int kind.Long ∷ []
@@ -200,7 +209,7 @@ builtin_callee name b p = node (what.Function name None) (unknown_function (buil
 abbrev pub builtin_given : Widths → NameId → Builtin → Signature → (name_place call_place : Place) → Option (List (Option TExpr)) → Check (Option TExpr)
 builtin_given w name b s q p None = done None
 builtin_given w name b s q p (Some as') =
-    arguments w p.first (builtin_params (given_of b) s) as' >>= λ r. finished_call p (builtin_result b) (builtin_callee name b q) r
+    arguments w p.first (builtin_params (given_of b) s) as' >>= λ r. done (finished_call p (builtin_result b) (builtin_callee name b q) r)
 
 abbrev pub builtin_as : Widths → NameId → Builtin → Signature → (name_place call_place : Place) → List (Option TExpr) → Check (Option TExpr)
 builtin_as w name b s q p as' =
@@ -208,7 +217,7 @@ builtin_as w name b s q p as' =
     then (builtin_arguments w (given_of b) p.first as' >>= λ r. builtin_given w name b s q p r)
     else ill_typed i.Call p.first
 
--- a call of a built-in function, where the name means `visible` besides
-abbrev pub builtin_call : Widths → NameId → Builtin → (visible : Option Entity) → (name_place call_place : Place) → List (Option TExpr) → Check (Option TExpr)
+-- a call of a built-in function, where a prototype of the name is in sight or none
+abbrev pub builtin_call : Widths → NameId → Builtin → (visible : Option Signature) → (name_place call_place : Place) → List (Option TExpr) → Check (Option TExpr)
 builtin_call w name b.Refused visible q p as' = unsupported u.Call q.token
-builtin_call w name b visible q p as' = builtin_as w name b (prototype_of (function_type visible) (builtin_result b)) q p as'
+builtin_call w name b visible q p as' = builtin_as w name b (signature_or (builtin_result b) visible) q p as'

@@ -1,0 +1,4 @@
+pub mod Binary
+pub mod Assignments
+pub mod Operators
+pub mod Members
