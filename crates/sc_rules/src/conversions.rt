@@ -84,7 +84,7 @@ pub fn opaque_fault(kind: OpaqueKind) -> Unsupported
 }
 
 // What an array or a function becomes where its value is taken.
-fn decayed_type(alloc: Global, t: &CType) -> Result<Option<CType>, OutOfMemory>
+pub fn decayed_type(alloc: Global, t: &CType) -> Result<Option<CType>, OutOfMemory>
     ensures { IfOk result (λ x. x ≡ spec.decayed_type t.now) }
 {
     match t {

@@ -9,7 +9,7 @@ mod steps;
 mod walk;
 
 pub use conversions::{
-    common_of, convert, converted, converts, decayed, node, opaque_fault, opaque_kind, promote, to,
+    common_of, convert, converted, converts, decayed, decayed_type, node, opaque_fault, opaque_kind, promote, to,
     to_kind, value,
 };
 pub use faults::{ill_typed_at, is_before, unsupported_at, with_fault};
