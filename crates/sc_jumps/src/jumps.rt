@@ -45,7 +45,7 @@ impl Model for Jumps {
 
 impl Jumps {
     /// No label and no `goto`. It takes no memory.
-    pub fn new(alloc: Global) -> Jumps
+    pub(crate) fn new(alloc: Global) -> Jumps
         ensures { result ≡ spec.nothing }
     {
         Jumps {
@@ -77,7 +77,7 @@ impl Jumps {
     }
 
     /// Notes a label at the end of that way.
-    pub fn add_label(
+    pub(crate) fn add_label(
         &mut self,
         name: NameId,
         pos: Pos,
@@ -95,7 +95,12 @@ impl Jumps {
     }
 
     /// Notes a `goto` at the end of that way.
-    pub fn add_goto(&mut self, name: NameId, pos: Pos, way: &Vec<Inward>) -> Result<(), OutOfMemory>
+    pub(crate) fn add_goto(
+        &mut self,
+        name: NameId,
+        pos: Pos,
+        way: &Vec<Inward>,
+    ) -> Result<(), OutOfMemory>
         ensures { OnOk result (self.new ≡ spec.with_goto name pos way.now.items self.old) }
     {
         let way = copied(way)?;
