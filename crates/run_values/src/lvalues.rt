@@ -1,13 +1,13 @@
 // What an lvalue gives once the expressions in it are evaluated (C11 6.5.2, 6.5.3).
 
-ghost use Rattle.std.specs.Prelude.{◌≡◌, ◌<◌, ◌^◌, length, nat_eq, Ok};
+ghost use Rattle.std.specs.Prelude.{◌≡◌, ◌<◌, ◌^◌, length, Ok};
 ghost use Rattle.sc_world.specs.Tree.{target_or_void};
 ghost use Rattle.sc_world.specs.Eval as spec;
 ghost use Rattle.sc_world.specs.View.{type};
-ghost use Rattle.sc_world.specs.World.{goes_on, dereference as dereferenced_by, number_of, unless};
-ghost use Rattle.sc_world.specs.declared.run.Reason.TheVariants as reason;
+ghost use Rattle.sc_world.specs.World.{goes_on, dereference as dereferenced_by, number_of};
 ghost use Rattle.run_world.specs.Seen as seen;
 ghost use Rattle.run_values.specs.Seen.{want_of};
+ghost use Rattle.run_values.specs.Steps.{pointer_index, member_behind};
 
 use crate::parts::{element, member};
 use crate::want::{Want, wanted};
@@ -40,8 +40,7 @@ pub fn pointer_index(
     pointer: Value,
     index: Value,
 ) -> Result<Value, Ended>
-    ensures { seen.Does seen.cell (goes_on (dereferenced_by (seen.env here.now) (type t.now) (seen.cell pointer) (seen.world world.now))
-        (λ at. λ w. goes_on (unless (nat_eq (number_of (seen.cell index)) 0) reason.Index w) (λ _. spec.wanted (want_of want) (type t.now) at)))
+    ensures { seen.Does seen.cell (pointer_index (seen.env here.now) (want_of want) (type t.now) (seen.cell pointer) (seen.cell index) (seen.world world.now))
         result (seen.world world.now) }
 {
     let at = dereference(here, world, t, pointer)?;
@@ -117,8 +116,7 @@ pub fn member_behind(
     pointer: Value,
 ) -> Result<Value, Ended>
     requires few { length here.now.places.now.locations.items < 2 ^ 32 }
-    ensures { seen.Does seen.cell (goes_on (dereferenced_by (seen.env here.now) (target_or_void (type pointer_type.now)) (seen.cell pointer) (seen.world world.now))
-        (λ at. λ w. goes_on (spec.member (seen.env here.now) name at w) (λ k. spec.wanted (want_of want) (type t.now) k)))
+    ensures { seen.Does seen.cell (member_behind (seen.env here.now) (want_of want) (type pointer_type.now) (type t.now) name (seen.cell pointer) (seen.world world.now))
         result (seen.world world.now) }
 {
     let at = pointed(here, world, pointer_type, pointer)?;
