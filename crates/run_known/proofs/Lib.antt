@@ -1,0 +1,4 @@
+pub mod Bits
+pub mod Kinds
+pub mod Numbers
+pub mod Rows
