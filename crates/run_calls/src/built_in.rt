@@ -7,9 +7,9 @@ ghost use Rattle.sc_world.specs.World.{bit_at, target_or_null, null};
 ghost use Rattle.layout_base.specs.Seen as laid;
 ghost use Rattle.run_world.specs.Seen as seen;
 
-use crate::choice::{bit_at, integer_bits, number_at};
 use crate::objects::{escape, free, mark_object};
 use layout_base::Occurrence;
+use run_entry::{bit_at, integer_bits, number_at};
 use run_world::{Ended, Here, Value, World};
 use sc_gather::{is_integer, is_pointer};
 use sc_tree::ctype::CType;

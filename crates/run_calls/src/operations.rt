@@ -8,9 +8,9 @@ ghost use Rattle.sc_world.specs.View.{type};
 ghost use Rattle.layout_base.specs.Seen as laid;
 ghost use Rattle.run_world.specs.Seen as seen;
 
-use crate::choice::{bit_at, integer_bits};
 use crate::errors::fails;
 use layout_base::Occurrence;
+use run_entry::{bit_at, integer_bits};
 use run_store::Flag;
 use run_world::{Ended, Here, Value, World, reach, set_state, state_of};
 use sc_base::Pos;

@@ -10,7 +10,7 @@ ghost use Rattle.run_world.specs.Seen as world;
 ghost use Rattle.run_known.specs.Seen as seen;
 
 use layout_base::Occurrence;
-use run_calls::{integer_bits, number_at};
+use run_entry::{integer_bits, number_at};
 use run_world::{Here, Value};
 use sc_gather::{is_integer, is_pointer};
 use sc_tree::ctype::CType;

@@ -13,7 +13,7 @@ ghost use Rattle.run_known.specs.Seen as seen;
 use crate::acting::Acting;
 use crate::given::Given;
 use crate::rows::{Side, Sought, stands};
-use run_calls::number_at;
+use run_entry::number_at;
 use run_paths::{Found, Sort, argument, is_of, spot_at, spot_behind};
 use run_world::{Here, Value, World, state_of};
 use sum_rows::{Gives, Item, ItemRows, Row, State};

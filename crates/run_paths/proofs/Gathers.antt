@@ -1,5 +1,6 @@
 -- What a run gathers in a list, as a loop sees it: one more behind those that it has.
-use Rattle.std.proofs.Common.{◌≡◌, ℕ, ◌+◌, Bool, true, false, List, [], ◌∷◌, ◌++◌, Option, Some, None, Result, Ok, Err, refl, sym, ap, ◌∙◌, append_assoc}
+use Rattle.std.proofs.Common.{◌≡◌, ℕ, ◌+◌, Bool, true, false, List, [], ◌∷◌, ◌++◌, Option, Some, None, Result, Ok, Err, refl, sym, ap, ◌∙◌, ◌<◌, length, get_or, drop, append_assoc}
+use Rattle.std.proofs.lemmas.List.{at_drop_more}
 use Rattle.sum_rows.specs.declared.row.ItemRows.{ItemRows}
 use Rattle.sum_rows.specs.declared.row.Row.{Row}
 use Rattle.sum_rows.specs.declared.row.Write.{Write}
@@ -64,4 +65,27 @@ pub writes_past : (env : Env) (vs : List Cell) (items : List ItemRows) (k : ℕ)
     → joined front (writes env vs items k (x ∷ xs) w) ≡ joined front (writes env vs items k xs w)
 writes_past env vs items k x xs w front is = rw is refl
 
+-- one turn of the loop
+pub locks_turn : (env : Env) (vs : List Cell) (k k' : ℕ) (items : List ItemRows) (i : ℕ) (w : World) (at : Option ℕ) (front front' : List Locked) (x : ItemRows) (bit : ℕ)
+    → i < length items → x ≡ get_or items i x → locked_item env vs k x.item w ≡ (Ok at, w)
+    → front' ≡ front ++ with_locked x.rows bit at [] → bit ≡ (spot_at env.layout k).bit → k' ≡ spot_behind (is_lock x.item) k
+    → joined front' (locks env vs k' (drop (i + 1) items) w) ≡ joined front (locks env vs k (drop i items) w)
+locks_turn env vs k k' items i w at front front' x bit low is item pushed there next =
+    rw (pushed, there, next)
+    (sym (at_drop_more (λ xs. joined front (locks env vs k xs w)) items i x low
+    ∙ (ap (λ y. joined front (locks env vs k (y ∷ drop (i + 1) items) w)) (sym is)
+    ∙ locks_more env vs k x (drop (i + 1) items) w at front item)))
+
+pub outs_turn : (env : Env) (vs : List Cell) (k k' : ℕ) (items : List ItemRows) (i : ℕ) (w : World) (at : Option ℕ) (front front' : List Outed) (x : ItemRows) (s : Spot)
+    → i < length items → x ≡ get_or items i x → out_item env vs x.item w ≡ (Ok at, w)
+    → front' ≡ front ++ with_out x.rows s at [] → s ≡ spot_at env.layout k → k' ≡ spot_behind (is_out_item x.item) k
+    → joined front' (outs env vs k' (drop (i + 1) items) w) ≡ joined front (outs env vs k (drop i items) w)
+outs_turn env vs k k' items i w at front front' x s low is item pushed there next =
+    rw (pushed, there, next)
+    (sym (at_drop_more (λ xs. joined front (outs env vs k xs w)) items i x low
+    ∙ (ap (λ y. joined front (outs env vs k (y ∷ drop (i + 1) items) w)) (sym is)
+    ∙ outs_more env vs k x (drop (i + 1) items) w at front item)))
+
 pub ruleset gathers = (joined_none, locks_more, outs_more)
+
+pub ruleset written = (writes_more, writes_past)

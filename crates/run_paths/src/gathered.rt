@@ -123,7 +123,7 @@ fn locked_item(here: &Here, store: &World, arguments: &[Value], item: &Item) -> 
 }
 
 // The locations of the items.
-#[tactic(auto, using(crate::proofs::Gathers::gathers))]
+#[tactic(auto, using(crate::proofs::Gathers::gathers), unfolding(run_world::specs::Seen::env))]
 fn locks<'p>(
     here: &Here,
     store: &World,
@@ -175,7 +175,7 @@ fn pointer_cell_if(here: &Here, at: Option<u32>) -> Option<u32>
 }
 
 // The pointers that parameters with items of their own point to.
-#[tactic(auto, using(crate::proofs::Gathers::gathers))]
+#[tactic(auto, using(crate::proofs::Gathers::gathers), unfolding(run_world::specs::Seen::env))]
 fn outs<'p>(
     here: &Here,
     store: &World,
@@ -219,6 +219,7 @@ fn push_written(found: &mut Vec<Written>, width: u32, spot: Spot, at: Option<u32
 }
 
 // One written cell of a summary, with the next spot; the spot behind it.
+#[tactic(auto, using(crate::proofs::Gathers::written), unfolding(run_world::specs::Seen::env))]
 fn write(
     here: &Here,
     store: &World,
@@ -247,7 +248,7 @@ fn write(
 }
 
 // The other written cells.
-#[tactic(auto, using(crate::proofs::Gathers::gathers))]
+#[tactic(auto, using(crate::proofs::Gathers::gathers), unfolding(run_world::specs::Seen::env))]
 fn writes(
     here: &Here,
     store: &World,
@@ -325,10 +326,8 @@ fn is_at(found: &[Found], at: u32) -> bool
     false
 }
 
-/// Whether two items are at one location.
-pub fn meet_twice(found: &[Found]) -> bool
-    ensures locks { result ≡ spec.meet_twice (map (λ l. l.at) (map seen.locked found.now)) }
-    ensures outs { result ≡ spec.meet_twice (map (λ o. o.at) (map seen.outed found.now)) }
+fn meets(found: &[Found]) -> bool
+    ensures { result ≡ spec.meet_twice (map (λ f. f.at) found.now) }
 {
     for k in 0..found.len() {
         if is_at(&found[k + 1..], found[k].at) {
@@ -336,4 +335,12 @@ pub fn meet_twice(found: &[Found]) -> bool
         }
     }
     false
+}
+
+/// Whether two items are at one location.
+pub fn meet_twice(found: &[Found]) -> bool
+    ensures locks { result ≡ spec.meet_twice (map (λ l. l.at) (map seen.locked found.now)) }
+    ensures outs { result ≡ spec.meet_twice (map (λ o. o.at) (map seen.outed found.now)) }
+{
+    meets(found)
 }

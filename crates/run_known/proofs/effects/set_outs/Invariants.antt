@@ -7,5 +7,5 @@ use Rattle.run_known.proofs.effects.set_outs.Given as goal
 abbrev pub invariant-loop-out : goal.invariant-loop-out
 invariant-loop-out l =
     (set_outs (env l.here) (map outed (drop l.out-index l.outs)) (world l.world)
-        ≡ set_outs (env l.fn.here) (map outed l.fn.outs) (world l.fn.world))
+    ≡ set_outs (env l.fn.here) (map outed l.fn.outs) (world l.fn.world))
     × (l.world.trace ≡ l.fn.world.trace)

@@ -7,5 +7,5 @@ use Rattle.run_known.proofs.effects.set_writes.Given as goal
 abbrev pub invariant-loop-x : goal.invariant-loop-x
 invariant-loop-x l =
     (set_writes (env l.here) (map written (drop l.x-index l.writes)) (world l.world)
-        ≡ set_writes (env l.fn.here) (map written l.fn.writes) (world l.fn.world))
+    ≡ set_writes (env l.fn.here) (map written l.fn.writes) (world l.fn.world))
     × (l.world.trace ≡ l.fn.world.trace)
