@@ -1,5 +1,5 @@
 -- An event is one more in the trace.
-use Rattle.std.proofs.Common.{◌≡◌, ◌+◌, Ok, length, ap, sym, ◌∙◌, arith}
+use Rattle.std.proofs.Common.{◌≡◌, ◌+◌, Ok, length, ap, sym, ◌∙◌}
 use Rattle.std.specs.Prelude.{Result}
 use Rattle.std.proofs.lemmas.List.{length_push}
 use Rattle.sc_base.specs.declared.pos.Pos.{Pos}

@@ -1,4 +1,5 @@
 pub mod Bits
-pub mod Kinds
+pub mod CellKinds
+pub mod LockRows
 pub mod Numbers
-pub mod Rows
+pub mod Ranges

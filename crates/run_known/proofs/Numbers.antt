@@ -1,5 +1,5 @@
 -- What numbers of the choice name, from 3 on; and that the largest summary has room for each.
-use Rattle.std.proofs.Common.{◌≡◌, ℕ, zero, suc, ◌+◌, ◌≤◌, max, Bool, true, false, List, [], ◌∷◌, Option, Some, None, length, slice_index_or, refl, arith}
+use Rattle.std.proofs.Common.{◌≡◌, ℕ, zero, suc, ◌≤◌, max, List, [], ◌∷◌, Option, Some, None, slice_index_or, refl, arith}
 use Rattle.sum_rows.specs.declared.row.State.TheVariants as state
 use Rattle.sum_rows.specs.declared.row.Summary.{Summary}
 use Rattle.sc_world.specs.Known.{given_pointer, param_state, out_state}

@@ -110,15 +110,22 @@ fn size_of(verdict: &Verdict) -> usize
     }
 }
 
+// The largest of some summaries.
+fn largest(verdicts: &[Verdict]) -> usize
+    ensures { result ≡ known.most_of (map summary verdicts.now) }
+{
+    let mut most = 0;
+    for verdict in verdicts {
+        most = most.max(size_of(verdict));
+    }
+    most
+}
+
 /// For how many items and written cells a buffer needs room: the most of the summaries that the function reads.
-#[tactic(auto, using(crate::proofs::Numbers::most_fits), unfolding(run_world::specs::Seen::env, layout_base::specs::Seen::ground_of, sc_gather::specs::Seen::source_of, sc_world::specs::Programs::source_by))]
+#[tactic(auto, unfolding(run_world::specs::Seen::env, layout_base::specs::Seen::ground_of, sc_gather::specs::Seen::source_of, sc_world::specs::Programs::source_by))]
 pub fn most_items(here: &Here) -> usize
     ensures most { result ≡ known.most_of (seen.env here.now).source.sums }
     ensures fits { paths.FitsAll (seen.env here.now).source result }
 {
-    let mut most = 0;
-    for verdict in here.ground.here.verdicts {
-        most = most.max(size_of(verdict));
-    }
-    most
+    largest(here.ground.here.verdicts)
 }

@@ -144,7 +144,7 @@ fn written_cell(here: &Here, x: &Written) -> Value
 }
 
 // A cell of another width is not written.
-#[tactic(auto, using(crate::proofs::Kinds::kind_of_written), unfolding(run_world::specs::Seen::env))]
+#[tactic(auto, using(crate::proofs::CellKinds::kind_of_written), unfolding(run_world::specs::Seen::env))]
 fn set_written(here: &Here, world: &mut World, x: &Written)
     ensures set { spec.set_written (seen.env here.now) (paths.written x.now) (seen.world world.old) ≡ (Ok tt, seen.world world.new) }
     ensures trace { world.new.trace ≡ world.old.trace }

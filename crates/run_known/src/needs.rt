@@ -1,6 +1,6 @@
 // The rows that the choice needs.
 
-ghost use Rattle.std.specs.Prelude.{◌≡◌, ◌<◌, ◌≤◌, ◌^◌, Ok, length, map, nat_eq};
+ghost use Rattle.std.specs.Prelude.{◌≡◌, ◌<◌, ◌≤◌, ◌+◌, ◌^◌, Ok, length, map};
 ghost use Rattle.std.specs.List.{list_all};
 ghost use Rattle.fsm_spec.specs.Table as table;
 ghost use Rattle.sc_world.specs.Known as spec;
@@ -54,14 +54,15 @@ fn state_of_number(states: usize, n: u64) -> u64
 }
 
 // The number of so many bits behind one.
-#[tactic(auto, using(crate::proofs::Bits::number_behind))]
+#[tactic(auto, using(crate::proofs::Bits::behind))]
 fn number_behind(choice: &[bool], bit: u32, width: u32) -> u64
     requires { width ≤ 64 }
     ensures { result ≡ number_at choice.now (bit + 1) width }
 {
-    match choice {
-        [] => 0,
-        [_, rest @ ..] => number_at(rest, bit, width),
+    if choice.is_empty() {
+        0
+    } else {
+        number_at(&choice[1..], bit, width)
     }
 }
 
@@ -78,6 +79,7 @@ pub fn state_after(here: &Here, lock: &Found) -> u64
 }
 
 // Whether the row stands that leads from any state: one from some state.
+#[tactic(auto, using(crate::proofs::Ranges::ranges))]
 fn from_any(here: &Here, given: u8, gives: Gives, after: Side, rows: &[Row]) -> bool
     ensures { result ≡ spec.from_state (world.env here.now) given 15 gives (seen.sought after) rows.now }
 {
@@ -121,7 +123,7 @@ fn lock_stands(here: &Here, store: &World, given: u8, gives: Gives, lock: &Found
 }
 
 // Whether the rows of all locations stand.
-#[tactic(auto, using(crate::proofs::Rows::lock_rows))]
+#[tactic(auto, using(crate::proofs::LockRows::lock_rows))]
 fn locks_stand(here: &Here, store: &World, given: u8, gives: Gives, locks: &[Found]) -> bool
     ensures { spec.locks_stand (world.env here.now) given gives (map paths.locked locks.now) (world.world store.now) ≡ (Ok result, world.world store.now) }
 {

@@ -1,7 +1,7 @@
 // Rows, as a known call seeks them.
 
 ghost use Rattle.std.specs.Prelude.{◌≡◌, ◌≤◌, map};
-ghost use Rattle.sum_rows.specs.declared.row.State.TheVariants as state;
+ghost use Rattle.sum_rows.specs.declared.row.State.TheVariants as names;
 ghost use Rattle.sc_world.specs.World.{digit, is_true};
 ghost use Rattle.sc_world.specs.Known as spec;
 ghost use Rattle.run_world.specs.Seen as world;
@@ -47,7 +47,7 @@ fn same_state(a: State, b: State) -> bool
 }
 
 fn is_numbered(n: u64, state: State) -> bool
-    ensures { result ≡ spec.same_state (state.At n) state }
+    ensures { result ≡ spec.same_state (names.At n) state }
 {
     match state {
         State::At(m) => n == u64::from(m),

@@ -1,5 +1,5 @@
 -- What a run gathers in a list, as a loop sees it: one more behind those that it has.
-use Rattle.std.proofs.Common.{◌≡◌, ℕ, ◌+◌, Bool, true, false, List, [], ◌∷◌, ◌++◌, Option, Some, None, Result, Ok, Err, refl, sym, ap, ◌∙◌, ◌<◌, length, get_or, drop, append_assoc}
+use Rattle.std.proofs.Common.{◌≡◌, ℕ, ◌+◌, true, false, List, [], ◌∷◌, ◌++◌, Option, Some, None, Result, Ok, Err, refl, sym, ap, ◌∙◌, ◌<◌, length, get_or, drop, append_assoc}
 use Rattle.std.proofs.lemmas.List.{at_drop_more}
 use Rattle.sum_rows.specs.declared.row.ItemRows.{ItemRows}
 use Rattle.sum_rows.specs.declared.row.Row.{Row}

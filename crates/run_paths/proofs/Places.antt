@@ -1,5 +1,5 @@
 -- The locations of items, as the code and as the definitions hold them.
-use Rattle.std.proofs.Common.{◌≡◌, ℕ, List, [], ◌∷◌, map, refl, ap}
+use Rattle.std.proofs.Common.{◌≡◌, List, [], ◌∷◌, map, refl, ap}
 use Rattle.run_paths.specs.declared.buffer.Found.{Found}
 use Rattle.run_paths.specs.Seen.{locked, outed}
 

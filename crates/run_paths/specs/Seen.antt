@@ -1,5 +1,5 @@
 -- What contracts see of what a known call has to do with: as what the definitions are made of.
-use Rattle.std.specs.Prelude.{◌≡◌, ℕ, ◌≤◌, Bool, Option, Some, None, Result, Ok, Err, List, ◌++◌, length}
+use Rattle.std.specs.Prelude.{ℕ, ◌≤◌, Bool, Option, Some, None, Result, Ok, Err, List, ◌++◌, length}
 use Rattle.sum_rows.specs.declared.row.Item.{Item}
 use Rattle.sum_rows.specs.declared.row.Summary.{Summary}
 use Rattle.sc_world.specs.Source.{Source, sum_at}

@@ -2,7 +2,7 @@ use Rattle.std.proofs.Common.{◌≡◌, drop, map}
 use Rattle.sc_world.specs.Known.{locks_stand}
 use Rattle.run_world.specs.Seen.{env, world}
 use Rattle.run_paths.specs.Seen.{locked}
-use Rattle.run_known.proofs.Rows.{both}
+use Rattle.run_known.proofs.LockRows.{both}
 use Rattle.run_known.proofs.needs.locks_stand.Given as goal
 
 abbrev pub invariant-loop-lock : goal.invariant-loop-lock

@@ -1,4 +1,4 @@
-use Rattle.std.proofs.Common.{◌≡◌, ap, ◌∙◌, arith, map, ◌++◌, []}
+use Rattle.std.proofs.Common.{ap, ◌∙◌, arith, map, ◌++◌, []}
 use Rattle.run_world.specs.Seen.{cell, env, world}
 use Rattle.layout_base.specs.Seen.{spot_of}
 use Rattle.sc_world.specs.Known.{spot_behind, with_out}
@@ -19,5 +19,5 @@ loop-x-preserved c =
           ∙ c.loop-x.invariant.same;
       spot = omega (arith, c.loop-x.invariant.spot, c.spot_behind-k.ensures.most);
       len = omega (arith, c.loop-x.invariant.len, c.push.ensures.len);
-      room = c.push.ensures.capacity ∙ c.loop-x.invariant.room
+      room = c.push.ensures.capacity ∙ c.loop-x.invariant.room;
     }

@@ -1,5 +1,5 @@
 -- Answers of several rows, as a loop sees them.
-use Rattle.std.proofs.Common.{◌≡◌, ℕ, Bool, true, false, ◌&&◌, List, [], ◌∷◌, Result, Ok, Err, refl, sym, ap, ◌∙◌}
+use Rattle.std.proofs.Common.{◌≡◌, ℕ, Bool, true, false, ◌&&◌, List, ◌∷◌, Result, Ok, Err, refl, ap, ◌∙◌}
 use Rattle.sum_rows.specs.declared.row.Gives.{Gives}
 use Rattle.sc_world.specs.World.{World, Ended, Env, goes_on, done}
 use Rattle.sc_world.specs.Known.{Locked, lock_stands, locks_stand}

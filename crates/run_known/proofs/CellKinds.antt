@@ -1,6 +1,6 @@
 -- The kind of a cell that the choice gives to a written cell.
 use Rattle.std.proofs.Common.{◌≡◌, ℕ, Bool, true, false, Option, Some, None, nat_eq, if◌then◌else◌, refl}
-use Rattle.run_store.specs.Concrete.{Kind, Numbers, Pointers, Number, kind_of}
+use Rattle.run_store.specs.Concrete.{Numbers, Pointers, Number, kind_of}
 use Rattle.sc_world.specs.World.{Env, bit_at, number_at, null, target_or_null}
 use Rattle.sc_world.specs.Known.{Written, written_cell}
 
