@@ -27,7 +27,8 @@ pub fn first_argument(arguments: &[Value]) -> Value
 /// Allocation: the object of the call, or null, by the choice.
 #[tactic(auto, unfolding(run_world::specs::Seen::env))]
 pub fn allocate(here: &Here, world: &mut World, occurrence: Occurrence) -> Value
-    ensures allocate { spec.allocate (seen.env here.now) (laid.occurrence_of occurrence) (seen.world world.old) ≡ (Ok (seen.cell result), seen.world world.new) }
+    ensures allocate { spec.allocate (seen.env here.now) (laid.occurrence_of occurrence) (seen.world world.old)
+        ≡ (Ok (seen.cell result), seen.world world.new) }
     ensures trace { world.new.trace ≡ world.old.trace }
 {
     if bit_at(here.choice, occurrence.bit as usize) {
@@ -40,7 +41,8 @@ pub fn allocate(here: &Here, world: &mut World, occurrence: Occurrence) -> Value
 
 /// Frees what a pointer points to.
 pub fn release(here: &Here, world: &mut World, pointer: Value) -> Result<Value, Ended>
-    ensures release { seen.Does seen.cell (spec.release (seen.env here.now) (seen.cell pointer) (seen.world world.old)) result (seen.world world.new) }
+    ensures release { seen.Does seen.cell (spec.release (seen.env here.now) (seen.cell pointer)
+        (seen.world world.old)) result (seen.world world.new) }
     ensures trace { world.new.trace ≡ world.old.trace }
 {
     free(here, world, pointer)?;
@@ -49,7 +51,8 @@ pub fn release(here: &Here, world: &mut World, pointer: Value) -> Result<Value, 
 
 // The objects of all arguments escape.
 fn escape_all(here: &Here, world: &mut World, arguments: &[Value])
-    ensures escape { spec.escape_all (seen.env here.now) (map seen.cell arguments.now) (seen.world world.old) ≡ (Ok tt, seen.world world.new) }
+    ensures escape { spec.escape_all (seen.env here.now) (map seen.cell arguments.now) (seen.world world.old) ≡
+        (Ok tt, seen.world world.new) }
     ensures trace { world.new.trace ≡ world.old.trace }
 {
     for argument in arguments {
@@ -83,7 +86,8 @@ pub fn unknown(
     t: &CType,
     arguments: &[Value],
 ) -> Value
-    ensures unknown { spec.unknown (seen.env here.now) (laid.occurrence_of occurrence) (type t.now) (map seen.cell arguments.now) (seen.world world.old)
+    ensures unknown { spec.unknown (seen.env here.now) (laid.occurrence_of occurrence) (type t.now)
+        (map seen.cell arguments.now) (seen.world world.old)
         ≡ (Ok (seen.cell result), seen.world world.new) }
     ensures trace { world.new.trace ≡ world.old.trace }
 {

@@ -12,7 +12,8 @@ use sum_rows::What;
 #[tactic(auto, using(crate::proofs::Events::one_event), unfolding(run_world::specs::Seen::env))]
 pub fn fails(here: &Here, world: &mut World, pos: Pos, at: u32) -> Ended
     requires room { length world.old.trace.items < vec_capacity world.old.trace }
-    ensures error { spec.fails (seen.env here.now) pos at (seen.world world.old) ≡ (Err (seen.how_ended result), seen.world world.new) }
+    ensures error { spec.fails (seen.env here.now) pos at (seen.world world.old) ≡
+        (Err (seen.how_ended result), seen.world world.new) }
     ensures events { length world.new.trace.items ≡ length world.old.trace.items + 1 }
     ensures room { vec_capacity world.old.trace ≤ vec_capacity world.new.trace }
 {

@@ -14,7 +14,8 @@ use sc_world::{Origin, Reason};
 /// The object of what a pointer points to may be known outside from now on; nothing of null.
 #[tactic(auto, unfolding(run_world::specs::Seen::env))]
 pub fn escape(here: &Here, world: &mut World, pointer: Value)
-    ensures escape { spec.escape (seen.env here.now) (seen.cell pointer) (seen.world world.old) ≡ (Ok tt, seen.world world.new) }
+    ensures escape { spec.escape (seen.env here.now) (seen.cell pointer) (seen.world world.old) ≡
+        (Ok tt, seen.world world.new) }
     ensures trace { world.new.trace ≡ world.old.trace }
 {
     match pointer.location() {
@@ -50,7 +51,8 @@ fn may_free(location: &Location, at: u32) -> bool
 
 #[tactic(auto, unfolding(run_world::specs::Seen::env))]
 fn free_at(here: &Here, world: &mut World, at: u32) -> Result<(), Ended>
-    ensures free { seen.Does (λ x. x) (spec.free_at (seen.env here.now) (at + 1) (seen.world world.old)) result (seen.world world.new) }
+    ensures free { seen.Does (λ x. x) (spec.free_at (seen.env here.now) (at + 1) (seen.world world.old)) result
+        (seen.world world.new) }
     ensures trace { world.new.trace ≡ world.old.trace }
 {
     let location = here.places.location(at);
@@ -66,7 +68,8 @@ fn free_at(here: &Here, world: &mut World, at: u32) -> Result<(), Ended>
 /// Frees what a pointer points to; nothing of null. What is freed already, and what is no whole object of a call or
 /// behind a pointer at entry, sets the run aside.
 pub fn free(here: &Here, world: &mut World, pointer: Value) -> Result<(), Ended>
-    ensures free { seen.Does (λ x. x) (spec.free (seen.env here.now) (seen.cell pointer) (seen.world world.old)) result (seen.world world.new) }
+    ensures free { seen.Does (λ x. x) (spec.free (seen.env here.now) (seen.cell pointer)
+        (seen.world world.old)) result (seen.world world.new) }
     ensures trace { world.new.trace ≡ world.old.trace }
 {
     match pointer.location() {

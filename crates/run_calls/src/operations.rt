@@ -56,7 +56,8 @@ fn goes_to(
     target: Option<usize>,
 ) -> Result<Value, Ended>
     requires room { length world.old.trace.items < vec_capacity world.old.trace }
-    ensures step { seen.Does seen.cell (spec.goes_to (seen.env here.now) pos (type t.now) at target (seen.world world.old)) result (seen.world world.new) }
+    ensures step { seen.Does seen.cell (spec.goes_to (seen.env here.now) pos (type t.now) at target
+        (seen.world world.old)) result (seen.world world.new) }
     ensures events { length world.new.trace.items ≤ length world.old.trace.items + 1 }
     ensures room { vec_capacity world.old.trace ≤ vec_capacity world.new.trace }
 {
@@ -79,7 +80,8 @@ pub fn operation(
     pointer: Value,
 ) -> Result<Value, Ended>
     requires room { length world.old.trace.items < vec_capacity world.old.trace }
-    ensures operation { seen.Does seen.cell (spec.operation (seen.env here.now) pos (type t.now) number (seen.cell pointer) (seen.world world.old))
+    ensures operation { seen.Does seen.cell (spec.operation (seen.env here.now) pos (type t.now) number
+        (seen.cell pointer) (seen.world world.old))
         result (seen.world world.new) }
     ensures events { length world.new.trace.items ≤ length world.old.trace.items + 1 }
     ensures room { vec_capacity world.old.trace ≤ vec_capacity world.new.trace }
@@ -107,7 +109,8 @@ fn tried(
     at: u32,
     succeeds: bool,
 ) -> Value
-    ensures step { spec.tried (seen.env here.now) (type t.now) success failure at succeeds (seen.world world.old) ≡ (Ok (seen.cell result), seen.world world.new) }
+    ensures step { spec.tried (seen.env here.now) (type t.now) success failure at succeeds
+        (seen.world world.old) ≡ (Ok (seen.cell result), seen.world world.new) }
     ensures trace { world.new.trace ≡ world.old.trace }
 {
     if succeeds {
@@ -129,7 +132,8 @@ pub fn try_lock(
     failure: u32,
     pointer: Value,
 ) -> Result<Value, Ended>
-    ensures step { seen.Does seen.cell (spec.try (seen.env here.now) (type t.now) (laid.occurrence_of occurrence) success failure (seen.cell pointer)
+    ensures step { seen.Does seen.cell (spec.try (seen.env here.now) (type t.now)
+        (laid.occurrence_of occurrence) success failure (seen.cell pointer)
         (seen.world world.old)) result (seen.world world.new) }
     ensures trace { world.new.trace ≡ world.old.trace }
 {

@@ -35,7 +35,8 @@ fn known_by<'p>(
     requires room { length world.old.trace.items < vec_capacity world.old.trace }
     requires few { length here.now.places.now.locations.items < 2 ^ 32 }
     requires fits { paths.Fits buffer.old.most (option_copied summary) }
-    ensures known { seen.Does seen.cell (spec.known_by (seen.env here.now) pos (type t.now) (laid.occurrence_of occurrence) (map seen.cell arguments.now)
+    ensures known { seen.Does seen.cell (spec.known_by (seen.env here.now) pos (type t.now)
+        (laid.occurrence_of occurrence) (map seen.cell arguments.now)
         (option_copied summary.entry) (seen.world world.old)) result (seen.world world.new) }
     ensures events { length world.new.trace.items ≤ length world.old.trace.items + 1 }
     ensures room { vec_capacity world.old.trace ≤ vec_capacity world.new.trace }
@@ -63,7 +64,8 @@ pub fn act<'p>(
     requires room { length world.old.trace.items < vec_capacity world.old.trace }
     requires few { length here.now.places.now.locations.items < 2 ^ 32 }
     requires fits { paths.FitsAll (seen.env here.now).source buffer.old.most }
-    ensures act { seen.Does seen.cell (spec.act (seen.env here.now) pos (type t.now) (laid.occurrence_of occurrence) (map seen.cell arguments.now)
+    ensures act { seen.Does seen.cell (spec.act (seen.env here.now) pos (type t.now)
+        (laid.occurrence_of occurrence) (map seen.cell arguments.now)
         (meaning effect) (seen.world world.old)) result (seen.world world.new) }
     ensures events { length world.new.trace.items ≤ length world.old.trace.items + 1 }
     ensures room { vec_capacity world.old.trace ≤ vec_capacity world.new.trace }

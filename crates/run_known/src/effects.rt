@@ -22,7 +22,8 @@ use sum_rows::{Item, ItemRows, State};
 
 // The locations get their states, and are touched.
 fn set_states(here: &Here, world: &mut World, locks: &[Found])
-    ensures states { spec.set_states (seen.env here.now) (map (spec.state_after (seen.env here.now)) (map paths.locked locks.now)) (map paths.locked locks.now)
+    ensures states { spec.set_states (seen.env here.now) (map (spec.state_after (seen.env here.now))
+        (map paths.locked locks.now)) (map paths.locked locks.now)
         (seen.world world.old) ≡ (Ok tt, seen.world world.new) }
     ensures trace { world.new.trace ≡ world.old.trace }
 {
@@ -72,7 +73,8 @@ fn out_cell(kind: State, object: Option<u32>) -> Value
 }
 
 fn put_out(world: &mut World, kind: State, out: &Found)
-    ensures put { base.goes_on (base.store out.now.at (spec.out_cell kind out.now.object) (seen.world world.old)) (λ _. spec.mark_if out.now.object kind)
+    ensures put { base.goes_on (base.store out.now.at (spec.out_cell kind out.now.object)
+        (seen.world world.old)) (λ _. spec.mark_if out.now.object kind)
         ≡ (Ok tt, seen.world world.new) }
     ensures trace { world.new.trace ≡ world.old.trace }
 {
@@ -101,7 +103,8 @@ fn set_out_as(world: &mut World, kind: State, out: &Found)
 // The pointers that parameters point to get what the choice says.
 #[tactic(auto, unfolding(run_world::specs::Seen::env))]
 fn set_outs(here: &Here, world: &mut World, outs: &[Found])
-    ensures set { spec.set_outs (seen.env here.now) (map paths.outed outs.now) (seen.world world.old) ≡ (Ok tt, seen.world world.new) }
+    ensures set { spec.set_outs (seen.env here.now) (map paths.outed outs.now) (seen.world world.old) ≡
+        (Ok tt, seen.world world.new) }
     ensures trace { world.new.trace ≡ world.old.trace }
 {
     for out in outs {
@@ -146,7 +149,8 @@ fn written_cell(here: &Here, x: &Written) -> Value
 // A cell of another width is not written.
 #[tactic(auto, using(crate::proofs::CellKinds::kind_of_written), unfolding(run_world::specs::Seen::env))]
 fn set_written(here: &Here, world: &mut World, x: &Written)
-    ensures set { spec.set_written (seen.env here.now) (paths.written x.now) (seen.world world.old) ≡ (Ok tt, seen.world world.new) }
+    ensures set { spec.set_written (seen.env here.now) (paths.written x.now) (seen.world world.old) ≡
+        (Ok tt, seen.world world.new) }
     ensures trace { world.new.trace ≡ world.old.trace }
 {
     if takes(here, here.places.location(x.at).kind, x.width) {
@@ -156,7 +160,8 @@ fn set_written(here: &Here, world: &mut World, x: &Written)
 
 // The other written cells get what the choice says.
 fn set_writes(here: &Here, world: &mut World, writes: &[Written])
-    ensures set { spec.set_writes (seen.env here.now) (map paths.written writes.now) (seen.world world.old) ≡ (Ok tt, seen.world world.new) }
+    ensures set { spec.set_writes (seen.env here.now) (map paths.written writes.now) (seen.world world.old) ≡
+        (Ok tt, seen.world world.new) }
     ensures trace { world.new.trace ≡ world.old.trace }
 {
     for x in writes {
@@ -170,7 +175,8 @@ fn param_effect(
     kind: Option<State>,
     pointer: Value,
 ) -> Result<(), Ended>
-    ensures effect { seen.Does (λ x. x) (spec.param_effect (seen.env here.now) kind (seen.cell pointer) (seen.world world.old)) result (seen.world world.new) }
+    ensures effect { seen.Does (λ x. x) (spec.param_effect (seen.env here.now) kind (seen.cell pointer)
+        (seen.world world.old)) result (seen.world world.new) }
     ensures trace { world.new.trace ≡ world.old.trace }
 {
     match kind {
@@ -201,7 +207,8 @@ fn param_acts(
     spot: usize,
     item: &Item,
 ) -> Result<(), Ended>
-    ensures effect { seen.Does (λ x. x) (spec.param_acts (seen.env here.now) (map seen.cell arguments.now) spot item.now (seen.world world.old)) result (seen.world world.new) }
+    ensures effect { seen.Does (λ x. x) (spec.param_acts (seen.env here.now)
+        (map seen.cell arguments.now) spot item.now (seen.world world.old)) result (seen.world world.new) }
     ensures trace { world.new.trace ≡ world.old.trace }
 {
     match item {
@@ -223,7 +230,8 @@ fn params_act(
 ) -> Result<(), Ended>
     requires spot { spot < 2 ^ 62 }
     requires few { length items.now < 2 ^ 32 }
-    ensures effect { seen.Does (λ x. x) (spec.params_act (seen.env here.now) (map seen.cell arguments.now) spot items.now (seen.world world.old)) result (seen.world world.new) }
+    ensures effect { seen.Does (λ x. x) (spec.params_act (seen.env here.now)
+        (map seen.cell arguments.now) spot items.now (seen.world world.old)) result (seen.world world.new) }
     ensures trace { world.new.trace ≡ world.old.trace }
 {
     let mut k = spot;
@@ -244,8 +252,10 @@ pub fn effects(
     requires params { acting.now.params ≡ spec.param_spot (known.acting acting.now) }
     requires spot { acting.now.params < 2 ^ 62 }
     requires few { length acting.now.summary.now.items < 2 ^ 32 }
-    ensures effects { seen.Does seen.cell (spec.effects (seen.env here.now) (known.acting acting.now) (known.given given)
-        (map (spec.state_after (seen.env here.now)) (known.acting acting.now).locks) (seen.world world.old)) result (seen.world world.new) }
+    ensures effects { seen.Does seen.cell (spec.effects (seen.env here.now) (known.acting acting.now)
+        (known.given given)
+        (map (spec.state_after (seen.env here.now)) (known.acting acting.now).locks)
+        (seen.world world.old)) result (seen.world world.new) }
     ensures trace { world.new.trace ≡ world.old.trace }
 {
     set_states(here, world, acting.locks);

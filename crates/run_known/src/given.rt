@@ -46,7 +46,12 @@ fn given_int(width: u32, n: u64) -> Given
 
 // A pointer that is not null.
 fn to_object(kind: State, object: Option<u32>) -> Given
-    ensures { seen.given result ≡ record { value = target_or_null object; result = gives.NotZero; kind = kind; object = object } }
+    ensures { seen.given result ≡ record {
+      value = target_or_null object;
+      result = gives.NotZero;
+      kind = kind;
+      object = object;
+    } }
 {
     Given {
         value: Value::Pointer(object),

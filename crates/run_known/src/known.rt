@@ -62,7 +62,8 @@ fn errs(
     lock: &Found,
 ) -> Result<Value, Ended>
     requires room { length world.old.trace.items < vec_capacity world.old.trace }
-    ensures errs { seen.Does seen.cell (spec.errs (seen.env here.now) (eval.fails (seen.env here.now) pos) (known.acting acting.now) (paths.locked lock.now)
+    ensures errs { seen.Does seen.cell (spec.errs (seen.env here.now) (eval.fails (seen.env here.now) pos)
+        (known.acting acting.now) (paths.locked lock.now)
         (seen.world world.old)) result (seen.world world.new) }
     ensures events { length world.new.trace.items ≤ length world.old.trace.items + 1 }
     ensures room { vec_capacity world.old.trace ≤ vec_capacity world.new.trace }
@@ -85,7 +86,8 @@ fn acts_as(
     requires params { acting.now.params ≡ spec.param_spot (known.acting acting.now) }
     requires spot { acting.now.params < 2 ^ 62 }
     requires few { length acting.now.summary.now.items < 2 ^ 32 }
-    ensures acts { seen.Does seen.cell (spec.acts_as (seen.env here.now) (known.acting acting.now) (known.given_if given) (seen.world world.old))
+    ensures acts { seen.Does seen.cell (spec.acts_as (seen.env here.now) (known.acting acting.now)
+        (known.given_if given) (seen.world world.old))
         result (seen.world world.new) }
     ensures trace { world.new.trace ≡ world.old.trace }
 {
@@ -113,7 +115,8 @@ fn acts_unless(
     requires params { acting.now.params ≡ spec.param_spot (known.acting acting.now) }
     requires spot { acting.now.params < 2 ^ 62 }
     requires few { length acting.now.summary.now.items < 2 ^ 32 }
-    ensures acts { seen.Does seen.cell (spec.acts_unless (seen.env here.now) (eval.fails (seen.env here.now) pos) (type t.now) (known.acting acting.now)
+    ensures acts { seen.Does seen.cell (spec.acts_unless (seen.env here.now)
+        (eval.fails (seen.env here.now) pos) (type t.now) (known.acting acting.now)
         (known.locked_if error.entry) (seen.world world.old)) result (seen.world world.new) }
     ensures events { length world.new.trace.items ≤ length world.old.trace.items + 1 }
     ensures room { vec_capacity world.old.trace ≤ vec_capacity world.new.trace }
@@ -135,7 +138,8 @@ fn acts(
     requires params { acting.now.params ≡ spec.param_spot (known.acting acting.now) }
     requires spot { acting.now.params < 2 ^ 62 }
     requires few { length acting.now.summary.now.items < 2 ^ 32 }
-    ensures acts { seen.Does seen.cell (spec.acts (seen.env here.now) (eval.fails (seen.env here.now) pos) (type t.now) (known.acting acting.now)
+    ensures acts { seen.Does seen.cell (spec.acts (seen.env here.now) (eval.fails (seen.env here.now) pos)
+        (type t.now) (known.acting acting.now)
         (seen.world world.old)) result (seen.world world.new) }
     ensures events { length world.new.trace.items ≤ length world.old.trace.items + 1 }
     ensures room { vec_capacity world.old.trace ≤ vec_capacity world.new.trace }
@@ -163,7 +167,8 @@ pub fn known_call<'p>(
     requires room { length world.old.trace.items < vec_capacity world.old.trace }
     requires few { length here.now.places.now.locations.items < 2 ^ 32 }
     requires fits { paths.Fits buffer.old.most (Some summary.now) }
-    ensures known { seen.Does seen.cell (spec.known (seen.env here.now) (eval.fails (seen.env here.now) pos) (laid.occurrence_of occurrence) (type t.now)
+    ensures known { seen.Does seen.cell (spec.known (seen.env here.now) (eval.fails (seen.env here.now) pos)
+        (laid.occurrence_of occurrence) (type t.now)
         summary.now (map seen.cell arguments.now) (seen.world world.old)) result (seen.world world.new) }
     ensures events { length world.new.trace.items ≤ length world.old.trace.items + 1 }
     ensures room { vec_capacity world.old.trace ≤ vec_capacity world.new.trace }

@@ -115,7 +115,8 @@ fn from_state(here: &Here, given: u8, before: u64, gives: Gives, after: Side, ro
 }
 
 fn lock_stands(here: &Here, store: &World, given: u8, gives: Gives, lock: &Found) -> bool
-    ensures { spec.lock_stands (world.env here.now) given gives (paths.locked lock.now) (world.world store.now) ≡ (Ok result, world.world store.now) }
+    ensures { spec.lock_stands (world.env here.now) given gives (paths.locked lock.now) (world.world store.now)
+        ≡ (Ok result, world.world store.now) }
 {
     let before = state_of(here, store, lock.at);
     let after = Side::Numbered(state_after(here, lock));
@@ -125,7 +126,8 @@ fn lock_stands(here: &Here, store: &World, given: u8, gives: Gives, lock: &Found
 // Whether the rows of all locations stand.
 #[tactic(auto, using(crate::proofs::LockRows::lock_rows))]
 fn locks_stand(here: &Here, store: &World, given: u8, gives: Gives, locks: &[Found]) -> bool
-    ensures { spec.locks_stand (world.env here.now) given gives (map paths.locked locks.now) (world.world store.now) ≡ (Ok result, world.world store.now) }
+    ensures { spec.locks_stand (world.env here.now) given gives (map paths.locked locks.now)
+        (world.world store.now) ≡ (Ok result, world.world store.now) }
 {
     let mut all = true;
     for lock in locks {
@@ -188,7 +190,8 @@ fn param_stands(
     spot: usize,
     item: &ItemRows,
 ) -> bool
-    ensures { result ≡ spec.param_stands (world.env here.now) (map world.cell arguments.now) given gives spot item.now }
+    ensures { result ≡ spec.param_stands (world.env here.now)
+        (map world.cell arguments.now) given gives spot item.now }
 {
     match &item.item {
         Item::Param(n) => {
@@ -215,7 +218,8 @@ fn params_stand(
 ) -> bool
     requires spot { spot < 2 ^ 62 }
     requires few { length items.now < 2 ^ 32 }
-    ensures { result ≡ spec.params_stand (world.env here.now) (map world.cell arguments.now) given gives spot items.now }
+    ensures { result ≡ spec.params_stand (world.env here.now)
+        (map world.cell arguments.now) given gives spot items.now }
 {
     let mut k = spot;
     for x in items {
@@ -270,7 +274,8 @@ pub fn rows_stand(here: &Here, store: &World, acting: &Acting, given: Given) -> 
     requires params { acting.now.params ≡ spec.param_spot (seen.acting acting.now) }
     requires spot { acting.now.params < 2 ^ 62 }
     requires few { length acting.now.summary.now.items < 2 ^ 32 }
-    ensures { spec.rows_stand (world.env here.now) (seen.acting acting.now) (seen.given given) (world.world store.now) ≡ (Ok result, world.world store.now) }
+    ensures { spec.rows_stand (world.env here.now) (seen.acting acting.now) (seen.given given)
+        (world.world store.now) ≡ (Ok result, world.world store.now) }
 {
     let items = acting.summary.items.as_slice();
     let locks = locks_stand(here, store, acting.given, given.result, acting.locks);

@@ -84,7 +84,8 @@ fn same_gives(a: Gives, b: Gives) -> bool
 }
 
 fn is_row(sought: Sought, row: Row) -> bool
-    ensures { result ≡ spec.same_row (spec.row sought.given (seen.sought sought.before) sought.result (seen.sought sought.after)) row }
+    ensures { result ≡ spec.same_row (spec.row sought.given (seen.sought sought.before) sought.result
+        (seen.sought sought.after)) row }
 {
     sought.given == row.given
         && (is_side(sought.before, row.before)
@@ -93,7 +94,8 @@ fn is_row(sought: Sought, row: Row) -> bool
 
 /// Whether the row stands among these.
 pub fn stands(sought: Sought, rows: &[Row]) -> bool
-    ensures { result ≡ spec.stands (spec.row sought.given (seen.sought sought.before) sought.result (seen.sought sought.after)) rows.now }
+    ensures { result ≡ spec.stands (spec.row sought.given (seen.sought sought.before) sought.result
+        (seen.sought sought.after)) rows.now }
 {
     for row in rows {
         if is_row(sought, *row) {

@@ -35,7 +35,8 @@ pub fn argument(arguments: &[Value], n: u32) -> Value
 /// The location of a pointer; none of null, of a stub, of a freed object, and of what is no pointer.
 #[tactic(auto, unfolding(run_world::specs::Seen::env))]
 pub fn usable(here: &Here, store: &World, pointer: Value) -> Option<u32>
-    ensures { spec.usable (world.env here.now) (target_of (world.cell pointer)) (world.world store.now) ≡ (Ok result, world.world store.now) }
+    ensures { spec.usable (world.env here.now) (target_of (world.cell pointer)) (world.world store.now) ≡
+        (Ok result, world.world store.now) }
 {
     match pointer.location() {
         None => None,
@@ -54,7 +55,8 @@ pub fn usable(here: &Here, store: &World, pointer: Value) -> Option<u32>
 
 #[tactic(auto, unfolding(run_world::specs::Seen::env))]
 fn pointed(here: &Here, store: &World, come: Come) -> Option<u32>
-    ensures { spec.pointed (world.env here.now) (seen.come come) (world.world store.now) ≡ (Ok result, world.world store.now) }
+    ensures { spec.pointed (world.env here.now) (seen.come come) (world.world store.now) ≡
+        (Ok result, world.world store.now) }
 {
     match come {
         Come::Holds(value) => usable(here, store, value),
@@ -82,7 +84,8 @@ fn part_of(here: &Here, step: Step, come: Come) -> Option<u32>
 
 fn stepped(here: &Here, store: &World, step: Step, come: Come) -> Option<u32>
     requires few { length here.now.places.now.locations.items < 2 ^ 32 }
-    ensures { spec.stepped (world.env here.now) step (seen.come come) (world.world store.now) ≡ (Ok result, world.world store.now) }
+    ensures { spec.stepped (world.env here.now) step (seen.come come) (world.world store.now) ≡
+        (Ok result, world.world store.now) }
 {
     match step {
         Step::Deref => pointed(here, store, come),
@@ -101,7 +104,8 @@ fn at_end(come: Come) -> Option<u32>
 
 fn follow(here: &Here, store: &World, steps: &[Step], begin: Come) -> Option<u32>
     requires few { length here.now.places.now.locations.items < 2 ^ 32 }
-    ensures { spec.follow (world.env here.now) steps.now (seen.come begin) (world.world store.now) ≡ (Ok result, world.world store.now) }
+    ensures { spec.follow (world.env here.now) steps.now (seen.come begin) (world.world store.now) ≡
+        (Ok result, world.world store.now) }
 {
     let mut come = begin;
     for step in steps {
@@ -127,7 +131,8 @@ fn begin(here: &Here, arguments: &[Value], root: Root) -> Come
 /// The location to which a path leads from the arguments and globals of a call; none where it is missing.
 pub fn follow_path(here: &Here, store: &World, arguments: &[Value], path: &Path) -> Option<u32>
     requires few { length here.now.places.now.locations.items < 2 ^ 32 }
-    ensures { spec.follow_path (world.env here.now) (map world.cell arguments.now) path.now (world.world store.now) ≡ (Ok result, world.world store.now) }
+    ensures { spec.follow_path (world.env here.now) (map world.cell arguments.now) path.now
+        (world.world store.now) ≡ (Ok result, world.world store.now) }
 {
     follow(
         here,

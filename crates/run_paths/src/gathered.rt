@@ -76,7 +76,8 @@ pub fn spots_of(occurrence: Occurrence, items: &[ItemRows]) -> Spots
     requires few { length items.now < 2 ^ 32 }
     ensures locks { result.locks ≡ occurrence.spot }
     ensures params { result.params ≡ occurrence.spot + spec.count_items spec.is_lock items.now }
-    ensures outs { result.outs ≡ occurrence.spot + (spec.count_items spec.is_lock items.now + spec.count_items spec.is_param items.now) }
+    ensures outs { result.outs ≡ occurrence.spot + (spec.count_items spec.is_lock items.now
+        + spec.count_items spec.is_param items.now) }
     ensures writes { result.writes ≡ occurrence.spot + (spec.count_items spec.is_lock items.now
         + (spec.count_items spec.is_param items.now + spec.count_items spec.is_out_item items.now)) }
     ensures most { result.writes < 2 ^ 34 }
@@ -96,8 +97,10 @@ pub fn spots_of(occurrence: Occurrence, items: &[ItemRows]) -> Spots
 // One more item, if it is not missing.
 fn push<'p>(found: &mut Vec<Found<'p>>, rows: &'p [Row], spot: Spot, at: Option<u32>)
     requires room { vec_len found.old < vec_capacity found.old }
-    ensures locks { map seen.locked found.new.items ≡ map seen.locked found.old.items ++ spec.with_locked rows.now spot.bit at [] }
-    ensures outs { map seen.outed found.new.items ≡ map seen.outed found.old.items ++ spec.with_out rows.now (laid.spot_of spot) at [] }
+    ensures locks { map seen.locked found.new.items ≡ map seen.locked found.old.items
+        ++ spec.with_locked rows.now spot.bit at [] }
+    ensures outs { map seen.outed found.new.items ≡ map seen.outed found.old.items ++ spec.with_out rows.now
+        (laid.spot_of spot) at [] }
     ensures len { vec_len found.new ≤ vec_len found.old + 1 }
     ensures capacity { vec_capacity found.new ≡ vec_capacity found.old }
 {
@@ -114,7 +117,8 @@ fn push<'p>(found: &mut Vec<Found<'p>>, rows: &'p [Row], spot: Spot, at: Option<
 
 fn locked_item(here: &Here, store: &World, arguments: &[Value], item: &Item) -> Option<u32>
     requires few { length here.now.places.now.locations.items < 2 ^ 32 }
-    ensures { (k : ℕ) → spec.locked_item (world.env here.now) (map world.cell arguments.now) k item.now (world.world store.now) ≡ (Ok result, world.world store.now) }
+    ensures { (k : ℕ) → spec.locked_item (world.env here.now) (map world.cell arguments.now) k item.now
+        (world.world store.now) ≡ (Ok result, world.world store.now) }
 {
     match item {
         Item::Lock(path) => follow_path(here, store, arguments, path),
@@ -136,7 +140,8 @@ fn locks<'p>(
     requires spot { spot < 2 ^ 62 }
     requires items { length items.now < 2 ^ 32 }
     requires room { length items.now ≤ vec_capacity found.old }
-    ensures locks { spec.locks (world.env here.now) (map world.cell arguments.now) spot items.now (world.world store.now)
+    ensures locks { spec.locks (world.env here.now) (map world.cell arguments.now) spot items.now
+        (world.world store.now)
         ≡ (Ok (map seen.locked found.new.items), world.world store.now) }
     ensures capacity { vec_capacity found.new ≡ vec_capacity found.old }
 {
@@ -150,7 +155,8 @@ fn locks<'p>(
 }
 
 fn out_item(here: &Here, store: &World, arguments: &[Value], item: &Item) -> Option<u32>
-    ensures { spec.out_item (world.env here.now) (map world.cell arguments.now) item.now (world.world store.now) ≡ (Ok result, world.world store.now) }
+    ensures { spec.out_item (world.env here.now) (map world.cell arguments.now) item.now
+        (world.world store.now) ≡ (Ok result, world.world store.now) }
 {
     match item {
         Item::Out(n) => pointer_cell_if(here, usable(here, store, argument(arguments, *n))),
@@ -187,7 +193,8 @@ fn outs<'p>(
     requires spot { spot < 2 ^ 62 }
     requires items { length items.now < 2 ^ 32 }
     requires room { length items.now ≤ vec_capacity found.old }
-    ensures outs { spec.outs (world.env here.now) (map world.cell arguments.now) spot items.now (world.world store.now)
+    ensures outs { spec.outs (world.env here.now) (map world.cell arguments.now) spot items.now
+        (world.world store.now)
         ≡ (Ok (map seen.outed found.new.items), world.world store.now) }
     ensures capacity { vec_capacity found.new ≡ vec_capacity found.old }
 {
@@ -203,7 +210,8 @@ fn outs<'p>(
 // One more written cell, if it is not missing.
 fn push_written(found: &mut Vec<Written>, width: u32, spot: Spot, at: Option<u32>)
     requires room { vec_len found.old < vec_capacity found.old }
-    ensures writes { map seen.written found.new.items ≡ map seen.written found.old.items ++ spec.with_written width (laid.spot_of spot) at [] }
+    ensures writes { map seen.written found.new.items ≡ map seen.written found.old.items
+        ++ spec.with_written width (laid.spot_of spot) at [] }
     ensures len { vec_len found.new ≤ vec_len found.old + 1 }
     ensures capacity { vec_capacity found.new ≡ vec_capacity found.old }
 {
@@ -232,8 +240,11 @@ fn write(
     requires few { length here.now.places.now.locations.items < 2 ^ 32 }
     requires spot { spot < 2 ^ 63 }
     requires room { vec_len found.old < vec_capacity found.old }
-    ensures writes { (xs : List Writes) → seen.joined (map seen.written found.old.items) (spec.writes (world.env here.now) (map world.cell arguments.now) items.now spot (write.now ∷ xs) (world.world store.now))
-        ≡ seen.joined (map seen.written found.new.items) (spec.writes (world.env here.now) (map world.cell arguments.now) items.now result xs (world.world store.now)) }
+    ensures writes { (xs : List Writes) → seen.joined (map seen.written found.old.items)
+        (spec.writes (world.env here.now) (map world.cell arguments.now) items.now spot (write.now ∷ xs)
+        (world.world store.now))
+        ≡ seen.joined (map seen.written found.new.items) (spec.writes (world.env here.now)
+        (map world.cell arguments.now) items.now result xs (world.world store.now)) }
     ensures spot { result ≤ spot + 1 }
     ensures len { vec_len found.new ≤ vec_len found.old + 1 }
     ensures capacity { vec_capacity found.new ≡ vec_capacity found.old }
@@ -262,7 +273,8 @@ fn writes(
     requires spot { spot < 2 ^ 62 }
     requires writes { length writes.now < 2 ^ 32 }
     requires room { length writes.now ≤ vec_capacity found.old }
-    ensures writes { spec.writes (world.env here.now) (map world.cell arguments.now) items.now spot writes.now (world.world store.now)
+    ensures writes { spec.writes (world.env here.now) (map world.cell arguments.now) items.now spot writes.now
+        (world.world store.now)
         ≡ (Ok (map seen.written found.new.items), world.world store.now) }
     ensures capacity { vec_capacity found.new ≡ vec_capacity found.old }
 {
@@ -286,11 +298,14 @@ pub fn resolve<'p>(
     requires few { length here.now.places.now.locations.items < 2 ^ 32 }
     requires spots { (spots.locks < 2 ^ 62) × (spots.outs < 2 ^ 62) × (spots.writes < 2 ^ 62) }
     requires fits { seen.Fits buffer.old.most (Some summary.now) }
-    ensures locks { spec.locks (world.env here.now) (map world.cell arguments.now) spots.locks summary.now.items (world.world store.now)
+    ensures locks { spec.locks (world.env here.now)
+        (map world.cell arguments.now) spots.locks summary.now.items (world.world store.now)
         ≡ (Ok (map seen.locked buffer.new.locks.items), world.world store.now) }
-    ensures outs { spec.outs (world.env here.now) (map world.cell arguments.now) spots.outs summary.now.items (world.world store.now)
+    ensures outs { spec.outs (world.env here.now) (map world.cell arguments.now) spots.outs summary.now.items
+        (world.world store.now)
         ≡ (Ok (map seen.outed buffer.new.outs.items), world.world store.now) }
-    ensures writes { spec.writes (world.env here.now) (map world.cell arguments.now) summary.now.items spots.writes summary.now.writes (world.world store.now)
+    ensures writes { spec.writes (world.env here.now)
+        (map world.cell arguments.now) summary.now.items spots.writes summary.now.writes (world.world store.now)
         ≡ (Ok (map seen.written buffer.new.writes.items), world.world store.now) }
     ensures most { buffer.new.most ≡ buffer.old.most }
 {
