@@ -1,0 +1,5 @@
+pub mod Bits
+pub mod CellKinds
+pub mod LockRows
+pub mod Numbers
+pub mod Ranges
