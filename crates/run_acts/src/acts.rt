@@ -9,6 +9,7 @@ ghost use Rattle.run_values.specs.Seen.{want_of};
 ghost use Rattle.run_exprs.specs.Room.{room};
 ghost use Rattle.run_paths.specs.Seen.{FitsAll};
 ghost use Rattle.run_acts.specs.Reads.{reads_of};
+ghost use Rattle.run_acts.specs.Room.{fits_all_prop};
 
 use layout_base::{Ground, Occurrence, Places};
 use run_exprs::{Calls, Room, eval};
@@ -31,7 +32,7 @@ pub struct Acts<'p, 'm, 'f> {
     pub choice: &'f [bool],
     buffer: Buffer<'p>,
     ghost few: { length places.now.locations.items < 2 ^ 32 },
-    ghost fits: { FitsAll (laid.ground_of ground).source buffer.most },
+    ghost fits: { FitsAll (laid.ground_of ground).source buffer.most } by { fits_all_prop (laid.ground_of ground).source buffer.most },
 }
 
 impl<'p, 'm, 'f> Acts<'p, 'm, 'f> {
@@ -52,6 +53,32 @@ impl<'p, 'm, 'f> Acts<'p, 'm, 'f> {
             choice: here.choice,
             buffer,
         })
+    }
+
+    /// Evaluates an expression in a turn of the loops round it, as `run_exprs` does, with these calls.
+    #[tactic(auto, unfolding(run_world::specs::Seen::env))]
+    pub fn eval(
+        &mut self,
+        turn: u32,
+        world: &mut World,
+        kept: &mut Room,
+        e: &TExpr,
+        want: Want,
+    ) -> Result<Value, Ended>
+        requires cells { length (laid.layout_of self.old.places.now).locations ≤ vec_capacity kept.old.cells }
+        requires events { length world.old.trace.items + room (exp (laid.ground_of self.old.ground).source.structs e.now) ≤ vec_capacity world.old.trace }
+        requires arguments { length kept.old.arguments.items + room (exp (laid.ground_of self.old.ground).source.structs e.now) ≤ vec_capacity kept.old.arguments }
+        ensures evaluated { seen.Does seen.cell (spec.eval (exp (laid.ground_of self.old.ground).source.structs e.now) (want_of want)
+            (reads_of self.old.ground self.old.places self.old.choice.now turn) (seen.world world.old)) result (seen.world world.new) }
+        ensures arguments { OnOk result (kept.new.arguments.items ≡ kept.old.arguments.items) }
+    {
+        let here = Here {
+            ground: self.ground,
+            places: self.places,
+            choice: self.choice,
+            turn,
+        };
+        eval(&here, world, kept, self, e, want)
     }
 }
 
@@ -75,6 +102,15 @@ impl Calls for Acts<'_, '_, '_> {
             choice: self.choice,
             turn,
         };
-        act(&here, world, &mut self.buffer, pos, t, occurrence, arguments, effect)
+        act(
+            &here,
+            world,
+            &mut self.buffer,
+            pos,
+            t,
+            occurrence,
+            arguments,
+            effect,
+        )
     }
 }

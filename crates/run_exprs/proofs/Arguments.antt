@@ -4,8 +4,8 @@ use Rattle.std.proofs.lemmas.List.{append-nil, map-append, drop-append-le, take-
 use Rattle.std.proofs.Math.Seq.{drop-length}
 use Rattle.std.specs.Prelude.{Ok, Err, Result}
 use Rattle.run_store.specs.Concrete.{Cell}
-use Rattle.sc_world.specs.World.{World, Ended, Run, Env, goes_on, done}
-use Rattle.sc_world.specs.Tree.{Exp, Exps, NoExps, Exps'}
+use Rattle.sc_world.specs.World.{World, Ended, Env, goes_on, done}
+use Rattle.sc_world.specs.Tree.{Exp, Exps, Exps'}
 use Rattle.sc_world.specs.Eval.{eval, eval_all, Value}
 use Rattle.run_world.specs.declared.value.Value.{Value as Value'}
 use Rattle.run_world.specs.Seen.{cell}

@@ -1,5 +1,5 @@
 -- How long a trace is behind one event more.
-use Rattle.std.proofs.Common.{◌≡◌, ℕ, ◌+◌, Ok, Result, length, ◌++◌, ◌∷◌, [], ap, sym, ◌∙◌, arith, length-append}
+use Rattle.std.proofs.Common.{◌≡◌, ℕ, ◌+◌, Ok, Result, length, ◌∷◌, [], ap, sym, ◌∙◌, length-append}
 use Rattle.sc_base.specs.declared.pos.Pos.{Pos}
 use Rattle.sum_rows.specs.declared.report.What.{What}
 use Rattle.sc_world.specs.World as spec

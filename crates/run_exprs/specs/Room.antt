@@ -1,6 +1,6 @@
 -- How much room an expression needs: each call in it may add two events to the trace, of the call and of an error in
 -- it, and keeps the values of its arguments until it is made. One number counts both.
-use Rattle.std.specs.Prelude.{ℕ, ◌+◌, ◌≤◌}
+use Rattle.std.specs.Prelude.{ℕ, ◌+◌}
 use Rattle.sc_world.specs.Tree.{Exp, Comma, Assign, Cond, Binary, Cast, Unary, PreInc, PostInc, SizeofExpr, SizeofType, Index, Call, Field, Param, Local, Global, Function, Number, Str, Convert, Temp, TempPlace, Exps, NoExps, Exps'}
 
 abbrev mutual

@@ -1,6 +1,5 @@
 use Rattle.std.proofs.Common.{◌≡◌, ◌≤◌, ◌++◌, length, map, vec_capacity}
 use Rattle.run_store.specs.Concrete.{nth_cell}
-use Rattle.sc_world.specs.Eval.{cells_of}
 use Rattle.run_world.specs.Seen.{cell, world, env}
 use Rattle.run_values.specs.Objects.{cells_from}
 use Rattle.run_values.proofs.objects.load_cells.Given as goal
