@@ -1,0 +1,5 @@
+pub mod Among
+pub mod Bounded
+pub mod Items
+pub mod Reports
+pub mod Rising

@@ -1,0 +1,54 @@
+// What holds of the rows and the reports of every function.
+
+ghost use Rattle.std.specs.Prelude.{◌≡◌, ◌↔◌, ℕ, Bool, true, List, All, AllPairs};
+ghost use Rattle.sc_world.specs.Source.{Source};
+ghost use Rattle.sc_world.specs.Layout.{Layout};
+ghost use Rattle.sc_world.specs.Paths.{Texts};
+ghost use Rattle.sc_world.specs.Shows as query;
+ghost use Rattle.sc_world.specs.Verdict as verdict;
+ghost use Rattle.sc_world.specs.Verdict.{Answers};
+ghost use Rattle.world_laws.specs.Runs.{SomeRun, HasRowsOfRuns, HasNumbersOfRuns, IsBounded};
+ghost use Rattle.world_laws.specs.Order.{IsRowBefore};
+ghost use Rattle.world_laws.specs.Shown.{IsRightReport};
+
+use sc_world::the_first_choice;
+
+/// Of the rows that an item may have exactly those stand that the run of some choice of the defined length has; and
+/// exactly those parameters have an item of which some run says so.
+pub fn rows_are_those_of_runs()
+    ensures some { (s : Source) (x : Texts) (q : query.Query)
+        → ((verdict.answers s x).some q ≡ true) ↔ SomeRun s x q }
+    ensures exits { (s : Source) (x : Texts)
+        → HasRowsOfRuns s x query.Exits (verdict.exit_candidates s) (verdict.exit_rows s x (verdict.answers s x)) }
+    ensures locks { (s : Source) (x : Texts) (at : ℕ)
+        → HasRowsOfRuns s x (query.Locks at) (verdict.lock_candidates s) (verdict.lock_rows s x (verdict.answers s x) at) }
+    ensures params { (s : Source) (x : Texts) (n : ℕ)
+        → HasRowsOfRuns s x (query.Params n) (verdict.param_candidates s) (verdict.param_item s x (verdict.answers s x) n).rows }
+    ensures outs { (s : Source) (x : Texts) (n : ℕ)
+        → HasRowsOfRuns s x (query.Outs n) (verdict.out_candidates s) (verdict.out_item s x (verdict.answers s x) n).rows }
+    ensures changed { (s : Source) (x : Texts)
+        → HasNumbersOfRuns s x query.Changes (verdict.params_from s x (verdict.answers s x) 0 s.params) (verdict.changed s x (verdict.answers s x)) }
+    ensures set { (s : Source) (x : Texts)
+        → HasNumbersOfRuns s x query.Sets (verdict.out_params_from s x (verdict.answers s x) 0 s.params) (verdict.set_params s x (verdict.answers s x)) }
+{
+    the_first_choice();
+}
+
+/// The rows of each item of a summary stand in the order of printing, each once.
+pub fn rows_are_in_order()
+    ensures { (s : Source) (x : Texts) (q : Answers)
+        → All (λ i. AllPairs IsRowBefore i.rows) (verdict.summary s x q).items }
+{}
+
+/// Each run that a report shows has the least choice, of the defined length, whose run shows what the report says.
+pub fn shown_choices_are_least()
+    ensures { (s : Source) (x : Texts) → All (IsRightReport s x) (verdict.reports s x (verdict.answers s x)) }
+{
+    the_first_choice();
+}
+
+/// A run that is set aside answers no question.
+pub fn set_aside_shows_nothing()
+    ensures { (s : Source) (x : Texts) (q : query.Query) (c : List Bool) → verdict.shows s x q c ≡ true
+        → IsBounded (verdict.run_over s x.layout c).ended }
+{}
