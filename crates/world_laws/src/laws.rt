@@ -1,35 +1,43 @@
 // What holds of the rows and the reports of every function.
 
-ghost use Rattle.std.specs.Prelude.{◌≡◌, ◌↔◌, ℕ, Bool, true, List, All, AllPairs};
+ghost use Rattle.std.specs.Prelude.{◌≡◌, ◌↔◌, ◌&&◌, ℕ, Bool, true, List, All, AllPairs};
 ghost use Rattle.sc_world.specs.Source.{Source};
-ghost use Rattle.sc_world.specs.Layout.{Layout};
+ghost use Rattle.sc_world.specs.Layout.{is_outer, is_cell};
 ghost use Rattle.sc_world.specs.Paths.{Texts};
 ghost use Rattle.sc_world.specs.Shows as query;
 ghost use Rattle.sc_world.specs.Verdict as verdict;
 ghost use Rattle.sc_world.specs.Verdict.{Answers};
-ghost use Rattle.world_laws.specs.Runs.{SomeRun, HasRowsOfRuns, HasNumbersOfRuns, IsBounded};
+ghost use Rattle.world_laws.specs.Runs.{SomeRun, HasRowsOfRuns, HasAllRowsOfRuns, HasLocationsOfRuns, HasNumbersOfRuns, IsBounded};
 ghost use Rattle.world_laws.specs.Order.{IsRowBefore};
 ghost use Rattle.world_laws.specs.Shown.{IsRightReport};
 
 use sc_world::the_first_choice;
 
-/// Of the rows that an item may have exactly those stand that the run of some choice of the defined length has; and
-/// exactly those parameters have an item of which some run says so.
+/// The rows of an item are exactly those that the run of some choice of the defined length has; of a location this is
+/// said of the rows between states of the machine, and to an error. Exactly those locations and parameters have an item,
+/// and exactly those cells are written, of which some run says so.
 pub fn rows_are_those_of_runs()
     ensures some { (s : Source) (x : Texts) (q : query.Query)
         → ((verdict.answers s x).some q ≡ true) ↔ SomeRun s x q }
     ensures exits { (s : Source) (x : Texts)
-        → HasRowsOfRuns s x query.Exits (verdict.exit_candidates s) (verdict.exit_rows s x (verdict.answers s x)) }
+        → HasAllRowsOfRuns s x query.Exits (verdict.exit_rows s x (verdict.answers s x)) }
     ensures locks { (s : Source) (x : Texts) (at : ℕ)
-        → HasRowsOfRuns s x (query.Locks at) (verdict.lock_candidates s) (verdict.lock_rows s x (verdict.answers s x) at) }
+        → HasRowsOfRuns s x (query.Locks at) (verdict.lock_candidates s)
+        (verdict.lock_rows s x (verdict.answers s x) at) }
     ensures params { (s : Source) (x : Texts) (n : ℕ)
-        → HasRowsOfRuns s x (query.Params n) (verdict.param_candidates s) (verdict.param_item s x (verdict.answers s x) n).rows }
+        → HasAllRowsOfRuns s x (query.Params n) (verdict.param_item s x (verdict.answers s x) n).rows }
     ensures outs { (s : Source) (x : Texts) (n : ℕ)
-        → HasRowsOfRuns s x (query.Outs n) (verdict.out_candidates s) (verdict.out_item s x (verdict.answers s x) n).rows }
+        → HasAllRowsOfRuns s x (query.Outs n) (verdict.out_item s x (verdict.answers s x) n).rows }
+    ensures touched { (s : Source) (x : Texts)
+        → HasLocationsOfRuns s x query.Touches is_outer (verdict.touched s x (verdict.answers s x)) }
     ensures changed { (s : Source) (x : Texts)
-        → HasNumbersOfRuns s x query.Changes (verdict.params_from s x (verdict.answers s x) 0 s.params) (verdict.changed s x (verdict.answers s x)) }
+        → HasNumbersOfRuns s x query.Changes (verdict.params_from s x (verdict.answers s x) 0 s.params)
+        (verdict.changed s x (verdict.answers s x)) }
     ensures set { (s : Source) (x : Texts)
-        → HasNumbersOfRuns s x query.Sets (verdict.out_params_from s x (verdict.answers s x) 0 s.params) (verdict.set_params s x (verdict.answers s x)) }
+        → HasNumbersOfRuns s x query.Sets (verdict.out_params_from s x (verdict.answers s x) 0 s.params)
+        (verdict.set_params s x (verdict.answers s x)) }
+    ensures written { (s : Source) (x : Texts)
+        → HasLocationsOfRuns s x query.Writes (λ l. is_outer l && is_cell l) (verdict.written s x (verdict.answers s x)) }
 {
     the_first_choice();
 }
