@@ -15,7 +15,7 @@ use Rattle.sc_world.specs.Layout.{Layout}
 use Rattle.sc_world.specs.Paths.{Texts}
 use Rattle.sc_world.specs.Programs.{source}
 use Rattle.sc_world.specs.Verdict.{verdict_of}
-use Rattle.program_verdicts.specs.CallGraph.{rows}
+use Rattle.program_verdicts.specs.CallGraph.{functions, rows}
 use Rattle.program_verdicts.specs.Outputs.{output}
 
 abbrev pub names_of : List Param → List NameId
@@ -62,6 +62,10 @@ steps p = length p.functions * length p.functions + length p.functions + 1
 abbrev pub verdict_in : Program → (depth reach : ℕ) → ℕ → Verdict
 verdict_in p depth reach f =
     output (λ g vs. verdict_given p depth reach g (kept_of p g) vs) no_verdict (kept_of p) (steps p) f
+
+-- the verdicts of all functions, in the order of the program
+abbrev pub verdicts : Program → (depth reach : ℕ) → List Verdict
+verdicts p depth reach = map (verdict_in p depth reach) (functions p)
 
 -- whether each verdict is made of those of the kept callees
 abbrev pub AreVerdicts : Program → (depth reach : ℕ) → (ℕ → Verdict) → Type 0

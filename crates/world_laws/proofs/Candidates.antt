@@ -20,13 +20,13 @@ use Rattle.sc_world.specs.Verdict.{givens, results, nil_alone, exit_kinds, candi
 
 -- Elements of lists.
 
-first_is : {X : Type 0} (x : X) (xs : List X) → Contains (x ∷ xs) x
+pub first_is : {X : Type 0} (x : X) (xs : List X) → Contains (x ∷ xs) x
 first_is x xs = Contains-append_left (x ∷ []) xs x (Contains-push [] x)
 
-behind_first : {X : Type 0} (x y : X) (xs : List X) → Contains xs y → Contains (x ∷ xs) y
+pub behind_first : {X : Type 0} (x y : X) (xs : List X) → Contains xs y → Contains (x ∷ xs) y
 behind_first x y xs has = Contains-append_right (x ∷ []) xs y has
 
-each_so : {X : Type 0} (P Q : X → Type 0) → ((x : X) → P x → Q x) → (xs : List X) → AllByRecursion P xs → AllByRecursion Q xs
+pub each_so : {X : Type 0} (P Q : X → Type 0) → ((x : X) → P x → Q x) → (xs : List X) → AllByRecursion P xs → AllByRecursion Q xs
 each_so P Q so [] all = tt
 each_so P Q so (x ∷ xs) (h, hs) = (so x h, each_so P Q so xs hs)
 
@@ -38,7 +38,7 @@ mapped f (x ∷ xs) = (
       (mapped f xs),
 )
 
-in_map : {X Y : Type 0} (f : X → Y) (xs : List X) (x : X) → Contains xs x → Contains (map f xs) (f x)
+pub in_map : {X Y : Type 0} (f : X → Y) (xs : List X) (x : X) → Contains xs x → Contains (map f xs) (f x)
 in_map f xs x has = All-contains (λ y. Contains (map f xs) (f y)) xs x (All-from_recursion (λ y. Contains (map f xs) (f y)) xs (mapped f xs)) has
 
 flattened : {X Y : Type 0} (f : X → List Y) (y : Y) (xs : List X) → AllByRecursion (λ x. Contains (f x) y → Contains (flat_map f xs) y) xs
@@ -49,16 +49,16 @@ flattened f y (x ∷ xs) = (
       (λ z so has. Contains-append_right (f x) (flat_map f xs) y (so has)) xs (flattened f y xs),
 )
 
-in_flat : {X Y : Type 0} (f : X → List Y) (xs : List X) (x : X) (y : Y) → Contains xs x → Contains (f x) y → Contains (flat_map f xs) y
+pub in_flat : {X Y : Type 0} (f : X → List Y) (xs : List X) (x : X) (y : Y) → Contains xs x → Contains (f x) y → Contains (flat_map f xs) y
 in_flat f xs x y has inner =
     All-contains (λ z. Contains (f z) y → Contains (flat_map f xs) y) xs x
     (All-from_recursion (λ z. Contains (f z) y → Contains (flat_map f xs) y) xs (flattened f y xs)) has inner
 
-in_range : (n k : ℕ) → k < n → Contains (range_with_len 0 n) k
+pub in_range : (n k : ℕ) → k < n → Contains (range_with_len 0 n) k
 in_range n k less =
     (k, subst (λ m. k < m) (sym (length-range_with_len 0 n)) less, get_or-range_with_len 0 n k k less ∙ omega arith)
 
-in_candidates : (cs : List ℕ) (befores : List State) (rs : List Gives) (afters : List State) (c : ℕ) (b : State) (r : Gives) (a : State)
+pub in_candidates : (cs : List ℕ) (befores : List State) (rs : List Gives) (afters : List State) (c : ℕ) (b : State) (r : Gives) (a : State)
     → Contains cs c → Contains befores b → Contains rs r → Contains afters a → Contains (candidates cs befores rs afters) (row c b r a)
 in_candidates cs befores rs afters c b r a hc hb hr ha =
     in_flat (λ c'. flat_map (λ b'. flat_map (λ r'. map (λ a'. row c' b' r' a') afters) rs) befores) cs c (row c b r a) hc

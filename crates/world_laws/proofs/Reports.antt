@@ -27,7 +27,7 @@ each_flat_of Q P f so [] all = tt
 each_flat_of Q P f so (x ∷ xs) (h, hs) = each_append P (f x) (flat_map f xs) (so x h) (each_flat_of Q P f so xs hs)
 
 -- the first of a list
-abbrev first_head : {X : Type 0} → List X → Option X
+abbrev pub first_head : {X : Type 0} → List X → Option X
 first_head [] = None
 first_head (x ∷ xs) = Some x
 
@@ -46,7 +46,7 @@ first_passes p x [] e = absurd (cc)
 first_passes p x (y ∷ ys) e =
     passes_if p y x (first_head (filter p ys)) (p y) refl (sym (first_if (p y) y (filter p ys)) ∙ e) (first_passes p x ys)
 
-same_bytes : (t : List ℕ) → bytes_eq t t ≡ true
+pub same_bytes : (t : List ℕ) → bytes_eq t t ≡ true
 same_bytes [] = refl
 same_bytes (c ∷ cs) = and_from (eqb c c) (bytes_eq cs cs) (eq-eqb c c refl) (same_bytes cs)
 
@@ -101,7 +101,7 @@ module _ (least : FirstIsLeast) (some : FirstIsThere) (s : Source) (x : Texts) w
       let e : at ≡ n = eqb-true at n h in
       ap (λ m. bytes_eq (text_at x m) (text_at x at)) (sym e) ∙ same_bytes (text_at x at)
 
-  ended_there : (at : ℕ) → (answers s x).some (EndsAt at) ≡ true → (answers s x).some (Errs (text_at x at)) ≡ true
+  pub ended_there : (at : ℕ) → (answers s x).some (EndsAt at) ≡ true → (answers s x).some (Errs (text_at x at)) ≡ true
   ended_there at h =
       let run = some_from least s x (EndsAt at) h in
       some_to some s x (Errs (text_at x at))
@@ -130,7 +130,7 @@ module _ (least : FirstIsLeast) (some : FirstIsThere) (s : Source) (x : Texts) w
   right_leak p true is = (shown_right (Leaks p) is, tt)
   right_leak p false is = tt
 
-  same_first : {A : Type 0} (as' : List A) → first_head as' ≡ first_of s x (answers s x) as'
+  pub same_first : {A : Type 0} (as' : List A) → first_head as' ≡ first_of s x (answers s x) as'
   same_first [] = refl
   same_first (a ∷ as') = refl
 

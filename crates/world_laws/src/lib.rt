@@ -5,5 +5,6 @@
 mod laws;
 
 pub use laws::{
-    rows_are_in_order, rows_are_those_of_runs, set_aside_shows_nothing, shown_choices_are_least,
+    each_error_has_its_report, rows_are_in_order, rows_are_those_of_runs, set_aside_shows_nothing,
+    shown_choices_are_least,
 };
