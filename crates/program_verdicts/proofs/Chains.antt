@@ -13,6 +13,10 @@ unfolding EachOf
 map_same h k [] same = refl
 map_same h k (x ∷ xs) (e, es) = let rest = map_same h k xs es in cc
 
+pub map_all : {O : Type 0} (h k : ℕ → O) → ((x : ℕ) → h x ≡ k x) → (xs : List ℕ) → map h xs ≡ map k xs
+map_all h k same [] = refl
+map_all h k same (x ∷ xs) = let here = same x in let rest = map_all h k same xs in cc
+
 each_so : (P Q : ℕ → Type 0) → ((x : ℕ) → P x → Q x) → (xs : List ℕ) → EachOf P xs → EachOf Q xs
 unfolding EachOf
 each_so P Q so [] all = tt

@@ -2,9 +2,9 @@
 use Rattle.std.proofs.Common.{ℕ, ◌+◌, ◌*◌, ◌<◌, length, subst}
 use Rattle.std.proofs.lemmas.List.FromFn.{length-map-range_with_len}
 use Rattle.sc_typed.specs.declared.program.Program.{Program}
-use Rattle.program_verdicts.specs.CallGraph.{rows, row}
-use Rattle.program_verdicts.specs.Verdicts.{verdict_given, no_verdict, kept_of, steps}
-use Rattle.program_verdicts.proofs.Chains.{made_of, only_one}
+use Rattle.program_verdicts.specs.CallGraph.{functions, rows, row}
+use Rattle.program_verdicts.specs.Verdicts.{verdict_in, verdict_given, no_verdict, kept_of, steps}
+use Rattle.program_verdicts.proofs.Chains.{made_of, only_one, map_all}
 use Rattle.program_verdicts.proofs.Ranks.{rank, rank_below, falls}
 use Rattle.program_verdicts.proofs.laws.verdicts_by_callees.Goals as goal
 
@@ -21,3 +21,7 @@ pub returns-clause-only : goal.returns-clause-only
 returns-clause-only c p depth reach v are =
     only_one (λ g vs. verdict_given p depth reach g (kept_of p g) vs) no_verdict (kept_of p) (rank (rows p))
     (falls (rows p) (c.reaching.ensures.walks (rows p))) v are (steps p) (below p)
+
+pub returns-clause-listed : goal.returns-clause-listed
+returns-clause-listed c p depth reach v are =
+    map_all v (verdict_in p depth reach) (returns-clause-only c p depth reach v are) (functions p)
