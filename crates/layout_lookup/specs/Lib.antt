@@ -1,0 +1,4 @@
+pub mod Firsts
+pub mod Keys
+pub mod Seen
+pub mod Tables

@@ -1,0 +1,3 @@
+pub mod CallGraph
+pub mod Outputs
+pub mod Verdicts

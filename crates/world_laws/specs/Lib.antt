@@ -1,0 +1,4 @@
+pub mod Order
+pub mod Reported
+pub mod Runs
+pub mod Shown
