@@ -1,0 +1,16 @@
+mod Blocks
+mod Easy
+mod Expressions
+mod Follows
+mod Kept
+mod Logical
+mod Loops
+mod Operands
+mod Order
+mod OrderOf
+mod Parts
+mod Same
+mod Statements
+mod Steps
+mod Values
+mod Walks
