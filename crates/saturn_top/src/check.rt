@@ -11,7 +11,7 @@ ghost use Rattle.saturn_top.specs.Found.{due_of};
 use crate::first::read::read_first;
 use crate::first::text::{FirstText, text_of};
 use crate::status::Status;
-use crate::transfer::{ReadError, read_file, write_all};
+use transfer::{ReadError, read_file, write_all};
 use sc_base::{Files, OutOfMemory, Sink};
 use std::alloc::Global;
 

@@ -13,7 +13,7 @@ use crate::finding::{Finding, find};
 use crate::lines::{line_of, unread_line};
 use crate::verified::Verified;
 use crate::words::{NoFile, file_named};
-use saturn_top::transfer::{ReadError, read_file, write_all};
+use transfer::{ReadError, read_file, write_all};
 use sc_base::{Files, Sink};
 use std::alloc::Global;
 
