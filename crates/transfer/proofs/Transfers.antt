@@ -46,7 +46,7 @@ HasWritten-more first now then before old new bytes written count has later with
       later = omega (arith, has.later);
       within = omega (arith, has.within, length-drop written bytes);
       front = rw (take-add written count bytes)
-      (appends_both before old new (take written bytes) (take count (drop written bytes)) has.front taken);
+          (appends_both before old new (take written bytes) (take count (drop written bytes)) has.front taken);
     }
 
 -- what was read, and what is left, are the file
