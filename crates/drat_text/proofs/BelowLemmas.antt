@@ -1,5 +1,6 @@
 -- The variables of what was read are below the number of variables.
-use Rattle.std.proofs.Common.{◌≡◌, ℕ, ◌-◌, ◌<◌, Bool, true, false, List, [], ◌∷◌, refl, sym, ap, ◌∙◌, arith, Option, None, Some}
+use Rattle.std.proofs.Common.{◌≡◌, ℕ, ◌-◌, ◌<◌, Bool, true, false, List, [], ◌∷◌, refl, sym, ap, ◌∙◌, arith, Option}
+use Rattle.std.proofs.Common.{None, Some}
 use Rattle.std.proofs.Common.{IfSome, All, inl, inr}
 use Rattle.std.specs.Prelude.{if◌then◌else◌, ◌&&◌, ◌==◌, nat_le, option_and_then, bytes_eq, codes}
 use Rattle.std.proofs.lemmas.Bool.{cases_Bool, and_parts}
@@ -10,13 +11,16 @@ use Rattle.sat_base.specs.declared.certificate.Step.{Step}
 use Rattle.sat_base.specs.declared.certificate.Step.TheVariants.{Add, Drop}
 use Rattle.sat_base.specs.Logic.{LitsBelow, ClausesBelow}
 use Rattle.drat_text.specs.declared.expecting.Expected.{Expected}
-use Rattle.drat_text.specs.declared.expecting.Expected.TheVariants.{Problem, Format, VariableCount, ClauseCount, Formula, Start, Added, Removed}
+use Rattle.drat_text.specs.declared.expecting.Expected.TheVariants.{Problem, Format, VariableCount, ClauseCount}
+use Rattle.drat_text.specs.declared.expecting.Expected.TheVariants.{Formula, Start, Added, Removed}
 use Rattle.drat_text.specs.Parts.{words}
 use Rattle.drat_text.specs.Numbers.{number, variable_of, variable, with_sign, literal}
 use Rattle.drat_text.specs.Certificate.{Contents, StepBelow, IsBelow}
-use Rattle.drat_text.specs.Expecting.{Text, begun, key, with_vars, with_count, with_literal, lit_or_end, with_clause, with_step, formula_word}
+use Rattle.drat_text.specs.Expecting.{Text, begun, key, with_vars, with_count, with_literal, lit_or_end, with_clause}
+use Rattle.drat_text.specs.Expecting.{with_step, formula_word}
 use Rattle.drat_text.specs.Expecting.{added_word, removed_word, start_word}
-use Rattle.drat_text.specs.Expecting.{word_at, with_word, with_words, begins_with_c, are_c_drat, expects_formula, divided, with_line, may_end, finished}
+use Rattle.drat_text.specs.Expecting.{word_at, with_word, with_words, begins_with_c, are_c_drat, expects_formula}
+use Rattle.drat_text.specs.Expecting.{divided, with_line, may_end, finished}
 
 -- ---- literals
 
@@ -195,7 +199,8 @@ line_within text line within =
 -- what was read, at the end
 pub finished_below : (text : Text) → IsWithin text → IfSome (finished text) IsBelow
 finished_below text within =
-    elim (may_end text.expected) as (λ b. IfSome (if b then Some (record { vars = text.vars; clauses = text.clauses; steps = text.steps }) else None) IsBelow) [
+    let whole : Contents = record { vars = text.vars; clauses = text.clauses; steps = text.steps } in
+    elim (may_end text.expected) as (λ b. IfSome (if b then Some whole else None) IsBelow) [
       | true ↦ record { formula = within.clauses; proof = within.steps }
       | false ↦ tt
     ]

@@ -1,5 +1,6 @@
 -- What is written is read back.
-use Rattle.std.proofs.Common.{◌≡◌, ℕ, zero, suc, ◌+◌, ◌-◌, ◌≤◌, ◌<◌, ◌^◌, Bool, true, false, List, [], ◌∷◌, ◌++◌, length, map, refl, sym, ap, ◌∙◌}
+use Rattle.std.proofs.Common.{◌≡◌, ℕ, zero, suc, ◌+◌, ◌-◌, ◌≤◌, ◌<◌, ◌^◌, Bool, true, false, List, [], ◌∷◌, ◌++◌}
+use Rattle.std.proofs.Common.{length, map, refl, sym, ap, ◌∙◌}
 use Rattle.std.proofs.Common.{arith, Some, None, All, append_assoc, append-nil}
 use Rattle.std.specs.Prelude.{◌==◌, codes, decimal, bytes_eq, option_and_then}
 use Rattle.std.proofs.lemmas.Bool.Decides.{nat_tests}
@@ -9,15 +10,19 @@ use Rattle.sat_base.specs.declared.literal.Lit.{Lit}
 use Rattle.sat_base.specs.declared.certificate.Step.{Step}
 use Rattle.sat_base.specs.declared.certificate.Step.TheVariants.{Add, Drop}
 use Rattle.sat_base.specs.Logic.{LitsBelow, ClausesBelow}
-use Rattle.drat_text.specs.declared.expecting.Expected.TheVariants.{Problem, Format, VariableCount, ClauseCount, Formula, Start, Added, Removed}
+use Rattle.drat_text.specs.declared.expecting.Expected.TheVariants.{Problem, Format, VariableCount, ClauseCount}
+use Rattle.drat_text.specs.declared.expecting.Expected.TheVariants.{Formula, Start, Added, Removed}
 use Rattle.drat_text.specs.declared.expecting.Expected.{Expected}
 use Rattle.drat_text.specs.Parts.{has_bytes, is_line_feed, lines, words}
 use Rattle.drat_text.specs.Numbers.{greatest, number, literal}
 use Rattle.drat_text.specs.Certificate.{Contents, StepBelow}
-use Rattle.drat_text.specs.Expecting.{Text, begun, with_word, with_words, formula_word, added_word, removed_word, start_word, begins_with_c, divided, with_line}
+use Rattle.drat_text.specs.Expecting.{Text, begun, with_word, with_words, formula_word, added_word, removed_word}
+use Rattle.drat_text.specs.Expecting.{start_word, begins_with_c, divided, with_line}
 use Rattle.drat_text.specs.Reading.{Spelled, Spells, with_lines, spelled}
-use Rattle.drat_text.specs.Writing.{HasText, text_of, lit_word, lits_text, clauses_text, step_text, steps_text, header_text}
-use Rattle.drat_text.proofs.WordLemmas.{are_digits, number_is, IsLitWord, lit_word_is, IsPlain, plain_decimal, word_then, word_last, IsInLine, in_line, line_then}
+use Rattle.drat_text.specs.Writing.{HasText, text_of, lit_word, lits_text, clauses_text, step_text, steps_text}
+use Rattle.drat_text.specs.Writing.{header_text}
+use Rattle.drat_text.proofs.WordLemmas.{are_digits, number_is, IsLitWord, lit_word_is, IsPlain, plain_decimal}
+use Rattle.drat_text.proofs.WordLemmas.{word_then, word_last, IsInLine, in_line, line_then}
 
 feed_cons : (b : ℕ) (bs : List ℕ) → is_line_feed b ≡ false → IsInLine bs → IsInLine (b ∷ bs)
 feed_cons b bs one rest = All-cons (λ c. is_line_feed c ≡ false) b bs one rest
@@ -117,13 +122,17 @@ added_lit : (vars : ℕ) (cs : List (List Lit)) (ss : List Step) (front : List L
 unfolding with_word added_word
 added_lit vars cs ss front l word is = rw (is.no_end, is.reads) refl
 
+-- the word of the first of these literals
+first_word : (vars : ℕ) (l : Lit) (ls : List Lit) → vars ≤ greatest → LitsBelow vars (l ∷ ls) → IsLitWord vars l (lit_word l)
+first_word vars l ls small below = lit_word_is vars l small (All-head (λ q. q.var < vars) l ls below)
+
 added_lits : (vars : ℕ) (cs : List (List Lit)) (ss : List Step) (front ls : List Lit) → vars ≤ greatest → LitsBelow vars ls
     → with_words (in_step Added vars cs ss front) (lits_words ls) ≡ Some (in_step Start vars cs (ss ++ Add (front ++ ls) ∷ []) [])
 added_lits vars cs ss front [] small below =
     ap (option_and_then (λ next. with_words next [])) (added_end vars cs ss front)
     ∙ ap (λ (c : List Lit). Some (in_step Start vars cs (ss ++ Add c ∷ []) [])) (sym (append-nil front))
 added_lits vars cs ss front (l ∷ ls) small below =
-    ap (option_and_then (λ next. with_words next (lits_words ls))) (added_lit vars cs ss front l (lit_word l) (lit_word_is vars l small (All-head (λ q. q.var < vars) l ls below)))
+    ap (option_and_then (λ next. with_words next (lits_words ls))) (added_lit vars cs ss front l (lit_word l) (first_word vars l ls small below))
     ∙ added_lits vars cs ss (front ++ l ∷ []) ls small (All-tail (λ q. q.var < vars) l ls below)
     ∙ ap (λ (c : List Lit). Some (in_step Start vars cs (ss ++ Add c ∷ []) [])) (push_more front ls l)
 
@@ -143,7 +152,7 @@ removed_lits vars cs ss front [] small below =
     ap (option_and_then (λ next. with_words next [])) (removed_end vars cs ss front)
     ∙ ap (λ (c : List Lit). Some (in_step Start vars cs (ss ++ Drop c ∷ []) [])) (sym (append-nil front))
 removed_lits vars cs ss front (l ∷ ls) small below =
-    ap (option_and_then (λ next. with_words next (lits_words ls))) (removed_lit vars cs ss front l (lit_word l) (lit_word_is vars l small (All-head (λ q. q.var < vars) l ls below)))
+    ap (option_and_then (λ next. with_words next (lits_words ls))) (removed_lit vars cs ss front l (lit_word l) (first_word vars l ls small below))
     ∙ removed_lits vars cs ss (front ++ l ∷ []) ls small (All-tail (λ q. q.var < vars) l ls below)
     ∙ ap (λ (c : List Lit). Some (in_step Start vars cs (ss ++ Drop c ∷ []) [])) (push_more front ls l)
 
@@ -161,14 +170,14 @@ start_lits : (vars : ℕ) (cs : List (List Lit)) (ss : List Step) (ls : List Lit
     → with_words (in_step Start vars cs ss []) (lits_words ls) ≡ Some (in_step Start vars cs (ss ++ Add ls ∷ []) [])
 start_lits vars cs ss [] small below = ap (option_and_then (λ next. with_words next [])) (start_end vars cs ss)
 start_lits vars cs ss (l ∷ ls) small below =
-    ap (option_and_then (λ next. with_words next (lits_words ls))) (start_lit vars cs ss l (lit_word l) (lit_word_is vars l small (All-head (λ q. q.var < vars) l ls below)))
+    ap (option_and_then (λ next. with_words next (lits_words ls))) (start_lit vars cs ss l (lit_word l) (first_word vars l ls small below))
     ∙ added_lits vars cs ss (l ∷ []) ls small (All-tail (λ q. q.var < vars) l ls below)
 
 -- ---- lines
 
 -- a line of words, which is no comment
-words_line : (text next : Text) (line : List ℕ) (ws : List (List ℕ)) → begins_with_c line ≡ false → words line ≡ ws → with_words text ws ≡ Some next
-    → with_line text line ≡ Some next
+words_line : (text next : Text) (line : List ℕ) (ws : List (List ℕ)) → begins_with_c line ≡ false → words line ≡ ws
+    → with_words text ws ≡ Some next → with_line text line ≡ Some next
 unfolding with_line
 words_line text next line ws none are taken = rw (none, are) taken
 
@@ -230,7 +239,8 @@ unfolding with_line
 last_line vars passed cs ss = refl
 
 steps_read : (vars : ℕ) (cs : List (List Lit)) (ss done : List Step) → vars ≤ greatest → All (StepBelow vars) ss
-    → (passed : ℕ) → with_lines passed (in_step Start vars cs done []) (lines (steps_text ss)) ≡ Spells (record { vars = vars; clauses = cs; steps = done ++ ss })
+    → (passed : ℕ) → with_lines passed (in_step Start vars cs done []) (lines (steps_text ss))
+    ≡ Spells (record { vars = vars; clauses = cs; steps = done ++ ss })
 steps_read vars cs [] done small below passed =
     last_line vars passed cs done ∙ ap (λ (all : List Step). Spells (record { vars = vars; clauses = cs; steps = all })) (sym (append-nil done))
 steps_read vars cs (s ∷ ss) done small below passed =

@@ -1,5 +1,6 @@
 -- Written numbers and literals are words, and are what they were written from.
-use Rattle.std.proofs.Common.{◌≡◌, ◌≢◌, ℕ, ◌+◌, ◌-◌, ◌*◌, ◌/◌, ◌%◌, ◌≤◌, ◌<◌, ◌^◌, Bool, true, false, List, [], ◌∷◌, ◌++◌, length, refl, sym, ap}
+use Rattle.std.proofs.Common.{◌≡◌, ◌≢◌, ℕ, ◌+◌, ◌-◌, ◌*◌, ◌/◌, ◌%◌, ◌≤◌, ◌<◌, ◌^◌, Bool, true, false, List, [], ◌∷◌}
+use Rattle.std.proofs.Common.{◌++◌, length, refl, sym, ap}
 use Rattle.std.proofs.Common.{◌∙◌, arith, Some, None, All, rules}
 use Rattle.std.specs.Prelude.{◌&&◌, ◌==◌, not, nat_le, codes, decimal, bytes_eq, if◌then◌else◌, option_map}
 use Rattle.std.specs.Char.{is_ascii_digit, is_ascii_whitespace}
@@ -79,12 +80,14 @@ variable_is vars v word small below are =
     let back : (v + 1) - 1 ≡ v = omega arith in
     rw (number_is (v + 1) word (omega arith) are, low, high, back) refl
 
-positive : (vars v : ℕ) (word : List ℕ) → vars ≤ greatest → v < vars → AreDigits (v + 1) word → literal vars word ≡ Some (record { var = v; neg = false })
+positive : (vars v : ℕ) (word : List ℕ) → vars ≤ greatest → v < vars → AreDigits (v + 1) word
+    → literal vars word ≡ Some (record { var = v; neg = false })
 unfolding literal
 positive vars v [] small below are = absurd (let e : false ≡ true = are.some in (cc))
 positive vars v (b ∷ bs) small below are = rw (no_minus b (first_is (v + 1) b bs are), variable_is vars v (b ∷ bs) small below are) refl
 
-negative : (vars v : ℕ) (word : List ℕ) → vars ≤ greatest → v < vars → AreDigits (v + 1) word → literal vars (45 ∷ word) ≡ Some (record { var = v; neg = true })
+negative : (vars v : ℕ) (word : List ℕ) → vars ≤ greatest → v < vars → AreDigits (v + 1) word
+    → literal vars (45 ∷ word) ≡ Some (record { var = v; neg = true })
 unfolding literal
 negative vars v word small below are = rw (variable_is vars v word small below are) refl
 
@@ -135,7 +138,8 @@ positive_no_end v (b ∷ []) are =
     rw (no_zero b other) refl
 positive_no_end v (b ∷ c ∷ cs) are = never_both (b == 48)
 
-positive_word : (vars v : ℕ) (word : List ℕ) → vars ≤ greatest → v < vars → AreDigits (v + 1) word → IsLitWord vars (record { var = v; neg = false }) word
+positive_word : (vars v : ℕ) (word : List ℕ) → vars ≤ greatest → v < vars → AreDigits (v + 1) word
+    → IsLitWord vars (record { var = v; neg = false }) word
 positive_word vars v [] small below are = absurd (let e : false ≡ true = are.some in (cc))
 positive_word vars v (b ∷ bs) small below are =
     let digit = first_is (v + 1) b bs are in
@@ -148,7 +152,8 @@ positive_word vars v (b ∷ bs) small below are =
       no_comment = λ rest. no_c b digit;
     }
 
-negative_word : (vars v : ℕ) (word : List ℕ) → vars ≤ greatest → v < vars → AreDigits (v + 1) word → IsLitWord vars (record { var = v; neg = true }) (45 ∷ word)
+negative_word : (vars v : ℕ) (word : List ℕ) → vars ≤ greatest → v < vars → AreDigits (v + 1) word
+    → IsLitWord vars (record { var = v; neg = true }) (45 ∷ word)
 negative_word vars v word small below are = record {
   reads = negative vars v word small below are;
   no_end = refl;
@@ -158,7 +163,8 @@ negative_word vars v word small below are = record {
   no_comment = λ rest. refl;
 }
 
-signed_word : (vars v : ℕ) (neg : Bool) → vars ≤ greatest → v < vars → IsLitWord vars (record { var = v; neg = neg }) (lit_word (record { var = v; neg = neg }))
+signed_word : (vars v : ℕ) (neg : Bool) → vars ≤ greatest → v < vars
+    → IsLitWord vars (record { var = v; neg = neg }) (lit_word (record { var = v; neg = neg }))
 signed_word vars v true small below = negative_word vars v (decimal (v + 1)) small below (are_digits (v + 1) (omega arith))
 signed_word vars v false small below = positive_word vars v (decimal (v + 1)) small below (are_digits (v + 1) (omega arith))
 

@@ -15,7 +15,7 @@ pub use certificate::Certificate;
 pub use fault::ReadError;
 pub use laws::written_is_read_back;
 pub use reading::read;
-pub use writing::write;
+pub use writing::{write, write_parts};
 
 #[cfg(test)]
 mod tests;

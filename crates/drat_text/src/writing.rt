@@ -97,19 +97,36 @@ fn put_header(vars: usize, count: usize, out: &mut Vec<u8>) -> Result<(), OutOfM
     put(out, b"\n")
 }
 
-/// The text of a certificate: the header, then a line for each clause, the line `c drat`, a line for each step. By the
-/// law `written_is_read_back` the text spells the certificate.
+/// The text of the certificate with these parts: the header, then a line for each clause, the line `c drat`, a line for
+/// each step. By the law `written_is_read_back` the text spells the certificate.
 #[tactic(auto, unfolding(crate::specs::Writing::text_of))]
-pub fn write(alloc: Global, certificate: &Certificate) -> Result<Vec<u8>, OutOfMemory>
-    requires { IsBelow certificate.now }
-    ensures { IfOk result (λ text. text.items ≡ text_of certificate.now) }
+pub fn write_parts(
+    alloc: Global,
+    vars: usize,
+    clauses: &[Clause],
+    steps: &[Step],
+) -> Result<Vec<u8>, OutOfMemory>
+    requires clauses { ClausesBelow vars clauses.now }
+    requires steps { All (StepBelow vars) steps.now }
+    ensures { IfOk result (λ text. text.items ≡ text_of (record { vars = vars; clauses = clauses.now; steps = steps.now })) }
 {
-    let vars = certificate.vars();
-    let clauses = certificate.clauses().clauses();
     let mut text = Vec::new(alloc);
     put_header(vars, clauses.len(), &mut text)?;
     put_clauses(vars, &mut text, clauses)?;
     put(&mut text, b"c drat\n")?;
-    put_steps(vars, &mut text, certificate.steps().as_slice())?;
+    put_steps(vars, &mut text, steps)?;
     Ok(text)
+}
+
+/// The text of a certificate, as `write_parts` writes it.
+pub fn write(alloc: Global, certificate: &Certificate) -> Result<Vec<u8>, OutOfMemory>
+    requires { IsBelow certificate.now }
+    ensures { IfOk result (λ text. text.items ≡ text_of certificate.now) }
+{
+    write_parts(
+        alloc,
+        certificate.vars(),
+        certificate.clauses().clauses(),
+        certificate.steps().as_slice(),
+    )
 }

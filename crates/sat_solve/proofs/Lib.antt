@@ -1,1 +1,1 @@
-mod Growth
+mod ModelLemmas

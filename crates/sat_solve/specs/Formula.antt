@@ -1,53 +1,28 @@
--- The formula that a list of numbers spells in DIMACS CNF. A number other than 0 is a literal:
--- variables count from 1, and a number below 0 is the negation of its variable. A 0 ends a clause.
+-- Which formula the bytes of a file spell. A formula is written as in the text of a certificate, in DIMACS CNF: with the
+-- line `c drat` behind it, it is such a text, of no step.
 
-use Rattle.std.specs.Prelude.{◌≡◌, ℕ, ◌-◌, Bool, true, false, List, [], ◌∷◌, ◌++◌, ℤ, pos, zero, unsigned_abs, int_lt, slice_index_or, ◌⊎◌}
-use Rattle.sat_base.specs.declared.literal.Lit.{Lit}
-use Rattle.sat_base.specs.declared.solver.Answer.{Answer}
-use Rattle.sat_base.specs.declared.solver.Answer.TheVariants.{Model, NoModel}
-use Rattle.sat_base.specs.Logic.{at, satisfied}
+use Rattle.std.specs.Prelude.{◌≡◌, ◌<◌, ◌≤◌, ⊤, ℕ, List, ◌++◌, length, codes, Result, Ok, Err}
+use Rattle.drat_text.specs.Certificate.{Contents, IsBelow}
+use Rattle.drat_text.specs.Reading.{spelled, Spells, Breaks}
+use Rattle.sat_solve.specs.declared.formula.FormulaError.{FormulaError}
+use Rattle.sat_solve.specs.declared.formula.FormulaError.TheVariants as error
 
-pub record Formula : Type 0 where
-  -- the clauses that were ended, in order
-  pub clauses : List (List Lit)
-  -- the literals of the clause that is being read
-  pub unended : List Lit
+-- the greatest length of a formula's text
+abbrev pub most_bytes : ℕ
+most_bytes = 268435456
 
--- nothing was read
-abbrev pub begun : Formula
-begun = record { clauses = []; unended = [] }
+-- the bytes, and the line `c drat` behind them
+abbrev pub with_divider : List ℕ → List ℕ
+with_divider bytes = bytes ++ codes "\nc drat\n"
 
--- the literal of a number other than 0
-abbrev pub literal_of : ℤ → Lit
-literal_of number = record { var = unsigned_abs number - 1; neg = int_lt number (pos 0) }
+-- the bytes spell this formula
+abbrev pub SpellFormula : List ℕ → Contents → Type 0
+SpellFormula bytes formula = spelled (with_divider bytes) ≡ Spells formula
 
--- the literal stands behind those of the clause that is being read
-abbrev pub with_literal : Formula → Lit → Formula
-with_literal formula l = record { clauses = formula.clauses; unended = formula.unended ++ l ∷ [] }
-
--- the clause that is being read stands behind the others, and the next begins
-abbrev pub with_end : Formula → Formula
-with_end formula = record { clauses = formula.clauses ++ formula.unended ∷ []; unended = [] }
-
--- what the formula is after one more number
-abbrev pub with_number : Formula → ℤ → Formula
-with_number formula (pos zero) = with_end formula
-with_number formula number = with_literal formula (literal_of number)
-
--- what it is after several numbers, one after the other
-abbrev pub with_numbers : Formula → List ℤ → Formula
-with_numbers formula [] = formula
-with_numbers formula (number ∷ rest) = with_numbers (with_number formula number) rest
-
--- the new formula is the old one after some numbers
-abbrev pub Grows : Formula → Formula → Type 0
-Grows old new = (numbers : List ℤ) × (new ≡ with_numbers old numbers)
-
--- a line that begins with `c`, which is a comment, or with `p`, which gives the counts
-abbrev pub IsCommentOrCounts : List ℕ → Type 0
-IsCommentOrCounts line = (slice_index_or line 0 0 ≡ 99) ⊎ (slice_index_or line 0 0 ≡ 112)
-
--- what an answer says of the clauses: some assignment satisfies them all, or none does
-abbrev pub IsDecided : List (List Lit) → Answer → Type 0
-IsDecided clauses Model = (values : List Bool) × (satisfied (at values) clauses [] ≡ true)
-IsDecided clauses NoModel = (assignment : ℕ → Bool) → satisfied assignment clauses [] ≡ false
+-- what a reader answers: the formula; that the bytes are too many; the line that breaks the form; or that memory was
+-- refused
+abbrev pub IsRead : List ℕ → Result Contents FormulaError → Type 0
+IsRead bytes (Ok formula) = (length bytes ≤ most_bytes) × SpellFormula bytes formula × IsBelow formula
+IsRead bytes (Err error.TooLong) = most_bytes < length bytes
+IsRead bytes (Err (error.Malformed line)) = (length bytes ≤ most_bytes) × (spelled (with_divider bytes) ≡ Breaks line)
+IsRead bytes (Err error.Memory) = ⊤

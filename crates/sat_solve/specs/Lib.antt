@@ -1,1 +1,4 @@
 pub mod Formula
+pub mod Models
+pub mod Values
+pub mod Decided

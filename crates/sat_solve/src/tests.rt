@@ -1,29 +1,64 @@
-// What no clause says: which numbers the words of lines are, and that small texts are decided.
+// What no clause says: memory suffices for small texts, and what is written of them. Their models and their shortest
+// certificates were worked out by hand.
 
-use crate::dimacs::{DimacsError, Reader};
-use sat_base::Answer;
-use std::alloc::Global;
+use crate::certify::{Certified, certify};
+use crate::decide::{Decided, decide};
+use crate::formula::{FormulaError, read_formula};
 use std::test::Fail;
 
-/// The answer to the text of these lines.
-fn answer(alloc: Global, lines: &[&str]) -> Result<Answer, DimacsError> {
-    let mut reader = Reader::new(alloc);
-    for line in lines {
-        reader.read_line(line)?;
+// The line of the text that breaks the form; 0 where none does.
+fn broken_line(rt: &HostRuntime, text: &str) -> Result<u32, Fail> {
+    match read_formula(rt.alloc(), text.as_bytes().to_vec(rt.alloc())?) {
+        Ok(_) => Ok(0),
+        Err(FormulaError::Malformed { line }) => Ok(line),
+        Err(_) => Err(Fail::from("no memory")),
     }
-    reader.decide()
+}
+
+// The values of a model, or nothing where there is none.
+fn values(rt: &HostRuntime, text: &str) -> Result<Vec<u8>, Fail> {
+    let Ok(formula) = read_formula(rt.alloc(), text.as_bytes().to_vec(rt.alloc())?) else {
+        return Err(Fail::from("no formula"));
+    };
+    match decide(rt.alloc(), &formula) {
+        Ok(Decided::Model(text)) => Ok(text),
+        Ok(Decided::NoModel) => Ok(Vec::new(rt.alloc())),
+        Err(_) => Err(Fail::from("no memory")),
+    }
+}
+
+// The values of a model, or a certificate that there is none.
+fn certified(rt: &HostRuntime, text: &str) -> Result<Vec<u8>, Fail> {
+    let Ok(formula) = read_formula(rt.alloc(), text.as_bytes().to_vec(rt.alloc())?) else {
+        return Err(Fail::from("no formula"));
+    };
+    match certify(rt.alloc(), &formula) {
+        Ok(Certified::Model(text)) | Ok(Certified::Refuted(text)) => Ok(text),
+        Err(_) => Err(Fail::from("no memory")),
+    }
 }
 
 #[test]
-fn small_texts_are_decided(rt: HostRuntime) -> Result<(), Fail> {
-    let alloc = rt.alloc();
-    let satisfied = answer(alloc, &["c 1 x", "p cnf 2 2", " 1  -2", "0 2 0"]);
-    assert!(rt; matches!(satisfied, Ok(Answer::Model)));
-    let refuted = answer(alloc, &["1 0 -1 0"]);
-    assert!(rt; matches!(refuted, Ok(Answer::NoModel)));
-    let not_a_number = answer(alloc, &["1 x 0"]);
-    assert!(rt; matches!(not_a_number, Err(DimacsError::Word)));
-    let without_end = answer(alloc, &["1 0", "2"]);
-    assert!(rt; matches!(without_end, Err(DimacsError::Word)));
+fn lines_that_break_the_form_are_named(rt: HostRuntime) -> Result<(), Fail> {
+    assert_eq!(rt; broken_line(&rt, "c a\np cnf 2 2\n1 -2\n0 2 0")?, 0);
+    assert_eq!(rt; broken_line(&rt, "p cnf 2 1\n1 x 0\n")?, 2);
+    assert_eq!(rt; broken_line(&rt, "p cnf 2 1\n1 0\n2 0\n")?, 3);
+    Ok(())
+}
+
+#[test]
+fn small_formulas_are_decided(rt: HostRuntime) -> Result<(), Fail> {
+    let one_model = "p cnf 2 2\n1 -2 0\n2 0\n";
+    assert_eq!(rt; values(&rt, one_model)?.as_slice(), b"v 1 2 0\n".as_slice());
+    assert_eq!(rt;
+        certified(&rt, one_model)?.as_slice(),
+        b"v 1 2 0\n".as_slice()
+    );
+    let no_model = "p cnf 1 2\n1 0\n-1 0\n";
+    assert!(rt; values(&rt, no_model)?.is_empty());
+    assert_eq!(rt;
+        certified(&rt, no_model)?.as_slice(),
+        b"p cnf 1 2\n1 0\n-1 0\nc drat\n0\n".as_slice()
+    );
     Ok(())
 }

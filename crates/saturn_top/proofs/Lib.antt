@@ -1,4 +1,3 @@
-pub mod Transfers
 pub mod Answered
 pub mod Basics
 pub mod Turns

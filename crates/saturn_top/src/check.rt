@@ -11,9 +11,9 @@ ghost use Rattle.saturn_top.specs.Found.{due_of};
 use crate::first::read::read_first;
 use crate::first::text::{FirstText, text_of};
 use crate::status::Status;
-use crate::transfer::{ReadError, read_file, write_all};
 use sc_base::{Files, OutOfMemory, Sink};
 use std::alloc::Global;
+use transfer::{ReadError, read_file, write_all};
 
 /// Reading ends at this byte: a first form has at most one fewer.
 const READ_LIMIT: usize = 4097;

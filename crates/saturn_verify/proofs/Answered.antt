@@ -1,5 +1,6 @@
 -- An answer that is due, given: the parts of a run put together, and the cause of each answer.
-use Rattle.std.proofs.Common.{◌≡◌, ◌⊎◌, ℕ, Bool, true, false, List, [], Option, Some, None, refl, sym, subst, inl, inr, ⊎_elim}
+use Rattle.std.proofs.Common.{◌≡◌, ◌⊎◌, ℕ, Bool, true, false, List, [], Option, Some, None, refl, sym, subst, inl}
+use Rattle.std.proofs.Common.{inr, ⊎_elim}
 use Rattle.sc_base.specs.Causes.{Rose}
 use Rattle.sc_base.specs.Held.{is_named, IsRead}
 use Rattle.sc_base.specs.Taken.{SinkChange, Keeps, Went}
@@ -7,11 +8,13 @@ use Rattle.clap.specs.Words.{IsAmong}
 use Rattle.saturn_verify.specs.declared.finding.Finding.{Finding}
 use Rattle.saturn_verify.specs.declared.finding.Finding.TheVariants as found
 use Rattle.saturn_verify.specs.declared.verified.Verified.{Verified}
-use Rattle.saturn_verify.specs.declared.verified.Verified.TheVariants.{Accepted, Rejected, Refused, BadWords, ReadFault, WriteFault, Memory, Helped}
+use Rattle.saturn_verify.specs.declared.verified.Verified.TheVariants.{Accepted, Rejected, Refused, BadWords}
+use Rattle.saturn_verify.specs.declared.verified.Verified.TheVariants.{ReadFault, WriteFault, Memory, Helped}
 use Rattle.saturn_verify.specs.Words.{faults, AskForHelp, HaveFault, Name}
 use Rattle.saturn_verify.specs.Finding.{IsFinding}
 use Rattle.saturn_verify.specs.Lines.{line_of}
-use Rattle.saturn_verify.specs.Answer.{Due, ToOutput, ToErrors, Source, read_limit, due_for, IsDue, helped, bad_words, unread, read}
+use Rattle.saturn_verify.specs.Answer.{Due, ToOutput, ToErrors, Source, read_limit, due_for, IsDue, helped, bad_words}
+use Rattle.saturn_verify.specs.Answer.{unread, read}
 use Rattle.saturn_verify.specs.Answer.{IsAnswered, Answers, has_output, is_finding}
 
 -- a sink that nothing was written to has what it had
@@ -164,5 +167,6 @@ of_due words source due answer out err (read name bytes finding named is one) gi
 -- the causes of an answer
 pub causes : (words : List (List ℕ)) (source : Source) (answer : Verified) (out err : SinkChange) → Answers words source answer out err
     → HasCauses words source answer out err
-causes words source answer out err (inl memory) = carried words source Memory answer out err memory.0 (of_finding words source Memory out err refl (λ e. memory.1))
+causes words source answer out err (inl memory) =
+    carried words source Memory answer out err memory.0 (of_finding words source Memory out err refl (λ e. memory.1))
 causes words source answer out err (inr given) = of_due words source given.0 answer out err given.1 given.2

@@ -8,7 +8,8 @@ use Rattle.sc_base.specs.Taken.{SinkChange, Keeps, Went}
 use Rattle.saturn_verify.specs.declared.finding.Finding.{Finding}
 use Rattle.saturn_verify.specs.declared.finding.Finding.TheVariants as found
 use Rattle.saturn_verify.specs.declared.verified.Verified.{Verified}
-use Rattle.saturn_verify.specs.declared.verified.Verified.TheVariants.{Accepted, Rejected, Refused, BadWords, ReadFault, WriteFault, Memory, Helped}
+use Rattle.saturn_verify.specs.declared.verified.Verified.TheVariants.{Accepted, Rejected, Refused, BadWords}
+use Rattle.saturn_verify.specs.declared.verified.Verified.TheVariants.{ReadFault, WriteFault, Memory, Helped}
 use Rattle.saturn_verify.specs.Words.{AskForHelp, HaveFault, Name}
 use Rattle.saturn_verify.specs.Finding.{IsFinding}
 use Rattle.saturn_verify.specs.Lines.{line_of, unread_line}

@@ -13,9 +13,9 @@ use crate::finding::{Finding, find};
 use crate::lines::{line_of, unread_line};
 use crate::verified::Verified;
 use crate::words::{NoFile, file_named};
-use saturn_top::transfer::{ReadError, read_file, write_all};
 use sc_base::{Files, Sink};
 use std::alloc::Global;
+use transfer::{ReadError, read_file, write_all};
 
 /// Reading ends at this byte: a file has at most one fewer.
 const READ_LIMIT: usize = 268_435_457;

@@ -9,10 +9,12 @@ pub returns-in-Err-Help-clause-answers : goal.returns-in-Err-Help-clause-answers
 returns-in-Err-Help-clause-answers g c =
     let same : c.as_slice.result.now ≡ c.args.words.now.items = search rules in
     let P : NoFile → Type 0 = λ e. HaveNoFile (map string_bytes c.as_slice.result.now) e in
-    to_output _ _ _ _ _ _ _ _ (helped _ (rw same at (subst P c.in-Err-Help.field-0-is c.in-Err-Help.ensures.none))) refl c.say.ensures (Keeps-itself _)
+    let asked = rw same at (subst P c.in-Err-Help.field-0-is c.in-Err-Help.ensures.none) in
+    to_output _ _ _ _ _ _ _ _ (helped _ asked) refl c.say.ensures (Keeps-itself _)
 
 pub returns-in-Err-Bad-clause-answers : goal.returns-in-Err-Bad-clause-answers
 returns-in-Err-Bad-clause-answers g c =
     let same : c.as_slice.result.now ≡ c.args.words.now.items = search rules in
     let P : NoFile → Type 0 = λ e. HaveNoFile (map string_bytes c.as_slice.result.now) e in
-    to_errors _ _ _ _ _ _ _ _ (bad_words _ (rw same at (subst P c.in-Err-Bad.field-0-is c.in-Err-Bad.ensures.none))) refl c.say-in-Err-Bad.ensures (Keeps-itself _)
+    let bad = rw same at (subst P c.in-Err-Bad.field-0-is c.in-Err-Bad.ensures.none) in
+    to_errors _ _ _ _ _ _ _ _ (bad_words _ bad) refl c.say-in-Err-Bad.ensures (Keeps-itself _)

@@ -1,6 +1,8 @@
-use Rattle.std.proofs.Common.{◌≡◌, ◌∙◌, ℕ, List, [], rules, ap, ap₂, refl, sym, subst, true, inl, inr, arith, slice_index, codes, map, string_bytes, Some}
+use Rattle.std.proofs.Common.{◌≡◌, ◌∙◌, ℕ, List, [], rules, ap, ap₂, refl, sym, subst, true, inl, inr, arith}
+use Rattle.std.proofs.Common.{slice_index, codes, map, string_bytes, Some}
 use Rattle.std.specs.Prelude.{option_map}
-use Rattle.clap.specs.Words.{App, HasKind, app_of, fault_of, first_of, first_value, found_of, is_simple, is_simple_and_free, matches_of, rule_of, rows_of, with_rule}
+use Rattle.clap.specs.Words.{App, HasKind, app_of, fault_of, first_of, first_value, found_of, is_simple}
+use Rattle.clap.specs.Words.{is_simple_and_free, matches_of, rule_of, rows_of, with_rule}
 use Rattle.clap.proofs.CallerLemmas.{one_required_value, some_of_text}
 use Rattle.clap.proofs.WalkLemmas.{first_value-rows}
 use Rattle.saturn_verify.specs.Words.{command, faults, file_of}
