@@ -25,7 +25,7 @@ use Rattle.sc_rules.specs.declared.walk.Builtin.{Builtin}
 use Rattle.sc_rules.specs.Walks.{Check, ◌>>=◌, done}
 use Rattle.fsm_spec.specs.declared.table.MachineSpec.{MachineSpec}
 use Rattle.sc_calls.specs.Builtins.{builtin}
-use Rattle.sc_operators.specs.Members.{is_there}
+use Rattle.sc_unary.specs.Members.{is_there}
 use Rattle.sc_check.specs.Here.{Here}
 use Rattle.sc_check.specs.Typing.{heading}
 use Rattle.sc_check.specs.Declarations.{name_of}
