@@ -68,24 +68,22 @@ pub fn truth(test: bool) -> u64
     if test { 1 } else { 0 }
 }
 
-// The quotient, rounded toward zero.
+// The quotient, rounded toward zero; 0 for a zero divisor.
 fn divided(x: i128, y: i128) -> i128
-    requires divisor { y ≢ pos 0 }
     requires least { neg_ℤ (pos (2 ^ 64)) ≤ℤ x }
     requires greatest { x ≤ℤ pos (2 ^ 64) }
     ensures { result ≡ int_div x y }
 {
-    x / y
+    if y == 0 { 0 } else { x / y }
 }
 
-// The remainder, with the sign of the dividend.
+// The remainder, with the sign of the dividend; the dividend for a zero divisor.
 fn rest(x: i128, y: i128) -> i128
-    requires divisor { y ≢ pos 0 }
     requires least { neg_ℤ (pos (2 ^ 64)) ≤ℤ x }
     requires greatest { x ≤ℤ pos (2 ^ 64) }
     ensures { result ≡ int_rem x y }
 {
-    x % y
+    if y == 0 { x } else { x % y }
 }
 
 // A number divided by 2^count and rounded down.
@@ -99,10 +97,8 @@ fn moved_down(x: i128, count: u64) -> i128
 fn quotient(bits: u32, sign: bool, a: u64, b: u64) -> u64
     requires width { bits ≤ 64 }
     requires divisor { b ≢ 0 }
-    requires left { a < 2 ^ bits }
-    requires right { b < 2 ^ bits }
     ensures value { result ≡ spec.quotient bits sign a b }
-    ensures bound { result < 2 ^ bits }
+    ensures bound { a < 2 ^ bits → result < 2 ^ bits }
 {
     if sign {
         wrapped(bits, divided(signed(bits, a), signed(bits, b)))
@@ -114,10 +110,8 @@ fn quotient(bits: u32, sign: bool, a: u64, b: u64) -> u64
 fn remainder(bits: u32, sign: bool, a: u64, b: u64) -> u64
     requires width { bits ≤ 64 }
     requires divisor { b ≢ 0 }
-    requires left { a < 2 ^ bits }
-    requires right { b < 2 ^ bits }
     ensures value { result ≡ spec.remainder bits sign a b }
-    ensures bound { result < 2 ^ bits }
+    ensures bound { a < 2 ^ bits → result < 2 ^ bits }
 {
     if sign {
         wrapped(bits, rest(signed(bits, a), signed(bits, b)))
@@ -129,9 +123,8 @@ fn remainder(bits: u32, sign: bool, a: u64, b: u64) -> u64
 fn shifted_right(bits: u32, sign: bool, a: u64, b: u64) -> u64
     requires width { bits ≤ 64 }
     requires count { b < bits }
-    requires left { a < 2 ^ bits }
     ensures value { result ≡ spec.shifted_right bits sign a b }
-    ensures bound { result < 2 ^ bits }
+    ensures bound { a < 2 ^ bits → result < 2 ^ bits }
 {
     if sign {
         wrapped(bits, moved_down(signed(bits, a), b))
@@ -200,24 +193,24 @@ pub fn takes(op: BinaryOp, bits: u32, sign: bool, a: u64, b: u64) -> bool
     }
 }
 
-/// What an operator makes of two numbers of that many bits that it takes (C11 6.5.5 to 6.5.14). The
-/// result is a number of that many bits; a test gives 0 or 1.
+/// What an operator makes of two numbers that it takes (C11 6.5.5 to 6.5.14). Of two numbers of that
+/// many bits the result is such a number too; a test gives 0 or 1.
 #[tactic(auto, using(crate::proofs::Numbers::truth_fits, crate::proofs::Numbers::and_fits, std::proofs::lemmas::Nat::or_lt, std::proofs::lemmas::Nat::xor_lt))]
 pub fn computed(op: BinaryOp, bits: u32, sign: bool, a: u64, b: u64) -> u64
-    requires some { 1 ≤ bits }
     requires width { bits ≤ 64 }
-    requires left { a < 2 ^ bits }
-    requires right { b < 2 ^ bits }
     requires taken { IsTrue (spec.takes op bits sign a b) }
     ensures value { result ≡ spec.computed op bits sign a b }
-    ensures bound { result < 2 ^ bits }
+    ensures bound { 1 ≤ bits → a < 2 ^ bits → b < 2 ^ bits → result < 2 ^ bits }
 {
     match op {
         BinaryOp::Mul => low(bits, u128::from(a) * u128::from(b)),
         BinaryOp::Div => quotient(bits, sign, a, b),
         BinaryOp::Rem => remainder(bits, sign, a, b),
         BinaryOp::Add => low(bits, u128::from(a) + u128::from(b)),
-        BinaryOp::Sub => low(bits, power(bits) + u128::from(a) - u128::from(b)),
+        BinaryOp::Sub => low(
+            bits,
+            (power(bits) + u128::from(a)).saturating_sub(u128::from(b)),
+        ),
         BinaryOp::ShiftLeft => shifted_left(bits, a, b),
         BinaryOp::ShiftRight => shifted_right(bits, sign, a, b),
         BinaryOp::BitAnd => a & b,
@@ -234,20 +227,18 @@ pub fn computed(op: BinaryOp, bits: u32, sign: bool, a: u64, b: u64) -> u64
     }
 }
 
-/// What `+`, `-`, `~` and `!` make of a number of that many bits (C11 6.5.3.3). The result is a number
-/// of that many bits. (`&` and `*` leave it.)
+/// What `+`, `-`, `~` and `!` make of a number (C11 6.5.3.3). Of a number of that many bits the result
+/// is such a number too. (`&` and `*` leave it.)
 #[tactic(auto, using(crate::proofs::Numbers::truth_fits))]
 pub fn of_one(op: UnaryOp, bits: u32, a: u64) -> u64
-    requires some { 1 ≤ bits }
     requires width { bits ≤ 64 }
-    requires number { a < 2 ^ bits }
     ensures value { result ≡ spec.of_one op bits a }
-    ensures bound { result < 2 ^ bits }
+    ensures bound { 1 ≤ bits → a < 2 ^ bits → result < 2 ^ bits }
 {
     match op {
         UnaryOp::Plus | UnaryOp::Address | UnaryOp::Deref => a,
-        UnaryOp::Minus => low(bits, power(bits) - u128::from(a)),
-        UnaryOp::Complement => (power(bits) - 1 - u128::from(a)) as u64,
+        UnaryOp::Minus => low(bits, power(bits).saturating_sub(u128::from(a))),
+        UnaryOp::Complement => (power(bits) - 1).saturating_sub(u128::from(a)) as u64,
         UnaryOp::Not => truth(a == 0),
     }
 }

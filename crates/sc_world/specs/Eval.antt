@@ -50,6 +50,11 @@ wanted Place' t at = done (pointer_to at)
 abbrev pub place_of : Cell → ℕ
 place_of c = target_of c - 1
 
+-- what was kept of a place is the pointer to it; it is not checked again
+abbrev pub kept_place : Want → Ty → Cell → Run Cell
+kept_place Value t c = scalar_at (place_of c) t
+kept_place Place' t c = done c
+
 -- Conversions of a value (C11 6.3).
 abbrev pub number_to : Env → Ty → Ty → ℕ → Cell
 number_to env from to n =
@@ -416,7 +421,7 @@ abbrev mutual
   eval (Str p t) want env = done (pointer_to (location_of env.layout (origin.Literal p.token)))
   eval (Convert a t) want env = convert_of (type_of a) (eval a) t env
   eval (Temp n t) want env = done (slice_index_or env.temps n Nothing)
-  eval (TempPlace n t) want env = wanted want t (place_of (slice_index_or env.temps n Nothing))
+  eval (TempPlace n t) want env = kept_place want t (slice_index_or env.temps n Nothing)
 
   pub eval_all : Exps → Env → Run (List Cell)
   eval_all NoExps env = done []
