@@ -1,7 +1,6 @@
--- Constants, and operators other than those between two operands and assignment (C11 6.4.4.1, 6.5): what each
--- makes of operands that have their types, or which fault it finds.
-use Rattle.std.specs.Prelude.{ℕ, ◌+◌, Bool, true, false, not, ◌&&◌, ◌||◌, Option, Some, None, if◌then◌else◌, ◌∷◌, []}
-use Rattle.sc_base.specs.declared.pos.Pos.{Pos}
+-- Integer constants, operators before one operand, casts, `sizeof` and indexing (C11 6.4.4.1, 6.5.2.1, 6.5.3,
+-- 6.5.4): what each makes of operands that have their types, or which fault it finds.
+use Rattle.std.specs.Prelude.{ℕ, Bool, false, not, ◌&&◌, ◌||◌, Option, Some, None, if◌then◌else◌}
 use Rattle.sc_base.specs.declared.skip.Unsupported.TheVariants as u
 use Rattle.sc_base.specs.declared.skip.IllTyped.TheVariants as i
 use Rattle.sc_tree.specs.declared.token.IntToken.{IntToken}
@@ -17,13 +16,11 @@ use Rattle.sc_tree.specs.declared.ctype.Widths.{Widths}
 use Rattle.sc_tree.specs.declared.ctype.Widths.TheVariants as widths
 use Rattle.sc_tree.specs.declared.expr.Place.{Place}
 use Rattle.sc_typed.specs.declared.expr.TExpr.{TExpr}
-use Rattle.sc_typed.specs.declared.expr.What.{What}
 use Rattle.sc_typed.specs.declared.expr.What.TheVariants as what
-use Rattle.sc_typed.specs.Types.{same, is_integer, is_pointer, is_scalar, is_aggregate, is_function, is_void, is_void_pointer, target, promoted_kind}
-use Rattle.sc_typed.specs.Constants.{is_null_constant, is_lvalue, constant_kind}
-use Rattle.sc_rules.specs.Walks.{Check, ◌>>=◌, done, unsupported, ill_typed}
-use Rattle.sc_rules.specs.Conversions.{node, type_of, place_of, to, promote, common_of, opaque_kind, converts}
-use Rattle.sc_operators.specs.Binary.{int, made, both_integers, some_pointer}
+use Rattle.sc_typed.specs.Types.{is_integer, is_pointer, is_scalar, is_function, is_void, target, promoted_kind}
+use Rattle.sc_typed.specs.Constants.{is_lvalue, constant_kind}
+use Rattle.sc_rules.specs.Walks.{Check, done, unsupported, ill_typed}
+use Rattle.sc_rules.specs.Conversions.{node, type_of, to, promote, opaque_kind, converts}
 
 -- The type of `sizeof` (C11 6.5.3.4, 7.19).
 abbrev pub size_type : Widths → CType
@@ -33,7 +30,7 @@ size_type widths.Lp64 = ty.Int kind.ULong
 -- Constants (C11 6.4.4.1): one that no kind of its list holds is not taken.
 abbrev pub int_of_kind : Option IntKind → ℕ → Place → Check (Option TExpr)
 int_of_kind None n p = unsupported u.Wide p.token
-int_of_kind (Some k) n p = made (what.Int n) (ty.Int k) p
+int_of_kind (Some k) n p = done (Some (node (what.Int n) (ty.Int k) p))
 
 abbrev pub int_of_value : Widths → IntToken → Option ℕ → Place → Check (Option TExpr)
 int_of_value w t None p = unsupported u.Wide p.token
@@ -52,23 +49,23 @@ int_constant w t p = int_of_value w t (token_value t) p
 abbrev pub address : Place → TExpr → Check (Option TExpr)
 address p a =
     if is_lvalue a || is_function (type_of a)
-    then made (what.Unary sign.Address a) (ty.Ptr (type_of a)) p
+    then done (Some (node (what.Unary sign.Address a) (ty.Ptr (type_of a)) p))
     else ill_typed i.Lvalue p.token
 
 abbrev pub deref_to : Option CType → Place → TExpr → Check (Option TExpr)
 deref_to None p a = ill_typed i.Operand p.token
-deref_to (Some t) p a = made (what.Unary sign.Deref a) t p
+deref_to (Some t) p a = done (Some (node (what.Unary sign.Deref a) t p))
 
 abbrev pub deref : Place → TExpr → Check (Option TExpr)
 deref p a = deref_to (target (type_of a)) p a
 
 abbrev pub negation : Place → TExpr → Check (Option TExpr)
-negation p a = if is_scalar (type_of a) then made (what.Unary sign.Not a) int p else ill_typed i.Operand p.token
+negation p a = if is_scalar (type_of a) then done (Some (node (what.Unary sign.Not a) (ty.Int kind.Int) p)) else ill_typed i.Operand p.token
 
 abbrev pub promoting : UnaryOp → Place → TExpr → Check (Option TExpr)
 promoting o p a =
     if is_integer (type_of a)
-    then made (what.Unary o (promote a)) (ty.Int (promoted_kind (type_of a))) p
+    then done (Some (node (what.Unary o (promote a)) (ty.Int (promoted_kind (type_of a))) p))
     else ill_typed i.Operand p.token
 
 abbrev pub signing : UnaryOp → Place → TExpr → Check (Option TExpr)
@@ -83,65 +80,6 @@ unary sign.Plus p a = signing sign.Plus p a
 unary sign.Minus p a = signing sign.Minus p a
 unary sign.Complement p a = promoting sign.Complement p a
 
--- `? :` (C11 6.5.15)
-
-abbrev pub pointer_arms : Widths → TExpr → TExpr → Option CType
-pointer_arms w b c =
-    if is_pointer (type_of b) && is_pointer (type_of c)
-    then Some (if is_void_pointer (type_of c) then type_of c else type_of b)
-    else (if is_null_constant w b && is_null_constant w c then Some (ty.Ptr ty.Void) else None)
-
--- whether exactly the first is a null constant, and the second a pointer
-abbrev pub follows_pointer : Widths → TExpr → TExpr → Bool
-follows_pointer w b c = is_null_constant w b && (not (is_null_constant w c) && is_pointer (type_of c))
-
--- the type of `? :` by its arms, of which one is a pointer
-abbrev pub mixed_arms : Widths → TExpr → TExpr → Option CType
-mixed_arms w b c =
-    if follows_pointer w b c
-    then Some (type_of c)
-    else (if follows_pointer w c b then Some (type_of b) else pointer_arms w b c)
-
--- the type of `? :` by its arms
-abbrev pub arms_type : Widths → TExpr → TExpr → Option CType
-arms_type w b c =
-    if both_integers b c
-    then Some (common_of w b c)
-    else (if is_void (type_of b) && is_void (type_of c)
-    then Some ty.Void
-    else (if some_pointer b c then mixed_arms w b c else None))
-
-abbrev pub chosen : CType → Place → TExpr → TExpr → TExpr → TExpr
-chosen t p a b c = node (what.Cond a (to t b) (to t c)) t p
-
-abbrev pub conditional_to : Option CType → Place → TExpr → TExpr → TExpr → Check (Option TExpr)
-conditional_to None p a b c = ill_typed i.Operand p.token
-conditional_to (Some t) p a b c =
-    if is_scalar (type_of a) then done (Some (chosen t p a b c)) else ill_typed i.Operand p.token
-
--- an operand that is a struct or union is not taken
-abbrev pub no_aggregate : Option TExpr → Check (Option TExpr)
-no_aggregate None = done None
-no_aggregate (Some e) = if is_aggregate (type_of e) then unsupported u.Struct (place_of e).first else done (Some e)
-
--- each operand that has a type is judged, whatever faults others have
-abbrev pub conditional_of : Widths → Place → Option TExpr → Option TExpr → Option TExpr → Check (Option TExpr)
-conditional_of w p None b c = done None
-conditional_of w p (Some a) None c = done None
-conditional_of w p (Some a) (Some b) None = done None
-conditional_of w p (Some a) (Some b) (Some c) = conditional_to (arms_type w b c) p a b c
-
-abbrev pub conditional : Widths → Place → Option TExpr → Option TExpr → Option TExpr → Check (Option TExpr)
-conditional w p a b c = do
-  x ← no_aggregate a
-  y ← no_aggregate b
-  z ← no_aggregate c
-  conditional_of w p x y z
-
--- the comma operator (C11 6.5.17)
-abbrev pub comma : Place → TExpr → TExpr → TExpr
-comma p a b = node (what.Comma a b) (type_of b) p
-
 -- Casts (C11 6.5.4): a value of an opaque type that a cast makes of an integer is refused where it is taken.
 abbrev pub is_opaque_of_integer : CType → TExpr → Option OpaqueKind → Bool
 is_opaque_of_integer t e None = false
@@ -153,17 +91,17 @@ may_cast w t e = is_opaque_of_integer t e (opaque_kind t) || (is_void t || (is_s
 abbrev pub cast : Widths → Place → CType → TExpr → Check (Option TExpr)
 cast w p t e =
     if may_cast w t e
-    then made (what.Cast e) t p
+    then done (Some (node (what.Cast e) t p))
     else (if is_pointer (type_of e) || is_pointer t then unsupported u.Cast p.token else ill_typed i.Operand p.token)
 
 -- `sizeof` (C11 6.5.3.4)
 abbrev pub size_of_expression : Widths → Option ℕ → Place → TExpr → Check (Option TExpr)
 size_of_expression w None p e = ill_typed i.Incomplete p.token
-size_of_expression w (Some n) p e = made (what.SizeofExpr e n) (size_type w) p
+size_of_expression w (Some n) p e = done (Some (node (what.SizeofExpr e n) (size_type w) p))
 
 abbrev pub size_of_type : Widths → Option ℕ → Place → Check (Option TExpr)
 size_of_type w None p = ill_typed i.Incomplete p.token
-size_of_type w (Some n) p = made (what.SizeofType n) (size_type w) p
+size_of_type w (Some n) p = done (Some (node (what.SizeofType n) (size_type w) p))
 
 -- Indexing (C11 6.5.2.1): the left side is an array, or a pointer to objects.
 abbrev pub element_layer : CType-F CType Signature → Option CType
@@ -176,7 +114,7 @@ element t = element_layer (out-CType t)
 
 abbrev pub index_to : Option CType → Place → TExpr → TExpr → Check (Option TExpr)
 index_to None p a k = ill_typed i.Operand p.token
-index_to (Some t) p a k = if is_integer (type_of k) then made (what.Index a k) t p else ill_typed i.Operand p.token
+index_to (Some t) p a k = if is_integer (type_of k) then done (Some (node (what.Index a k) t p)) else ill_typed i.Operand p.token
 
 abbrev pub index : Place → TExpr → TExpr → Check (Option TExpr)
 index p a k = index_to (element (type_of a)) p a k

@@ -3,7 +3,7 @@ use Rattle.std.proofs.Common.{◌≡◌, ℕ, ◌<◌, ◌-◌, zero, suc, List,
 use Rattle.sc_base.specs.declared.pos.NameId.{NameId}
 use Rattle.sc_tree.specs.declared.ctype.CType.{CType}
 use Rattle.sc_typed.specs.declared.program.StructDef.{StructDef}
-use Rattle.sc_operators.specs.Members.{member, or_next, among, among_unnamed, body_of}
+use Rattle.sc_unary.specs.Members.{member, or_next, among, among_unnamed, body_of}
 
 pub member_deeper : (deep : ℕ) (structs : List StructDef) (name : NameId) (t : CType) → 0 < deep → member deep structs name t ≡ or_next (among (body_of structs t).union name 0 (body_of structs t).fields) (among_unnamed (member (deep - 1) structs name) (body_of structs t).union (body_of structs t).fields)
 unfolding member

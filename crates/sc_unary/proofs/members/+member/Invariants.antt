@@ -1,7 +1,7 @@
 -- The members that are left give what all give. The search goes inwards.
 use Rattle.std.proofs.Common.{◌≡◌, ◌+◌, ◌*◌, drop}
-use Rattle.sc_operators.specs.Members.{among_unnamed, member}
-use Rattle.sc_operators.proofs.members.+member.Given as goal
+use Rattle.sc_unary.specs.Members.{among_unnamed, member}
+use Rattle.sc_unary.proofs.members.+member.Given as goal
 
 abbrev pub invariant-among_unnamed-loop-field : goal.invariant-among_unnamed-loop-field
 invariant-among_unnamed-loop-field l =

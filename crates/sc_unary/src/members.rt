@@ -2,7 +2,7 @@
 
 ghost use Rattle.std.specs.Prelude.{◌≡◌, IfOk};
 ghost use Rattle.sc_rules.specs.Gives.{Gives};
-ghost use Rattle.sc_operators.specs.Members as spec;
+ghost use Rattle.sc_unary.specs.Members as spec;
 
 use sc_base::{Boxed, IllTyped, NameId, OutOfMemory, Unsupported};
 use sc_rules::{Walk, ill_typed, node, unsupported};

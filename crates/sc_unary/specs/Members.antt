@@ -13,8 +13,8 @@ use Rattle.sc_typed.specs.declared.expr.TExpr.{TExpr}
 use Rattle.sc_typed.specs.declared.expr.What.TheVariants as what
 use Rattle.sc_typed.specs.Extents.{struct_at}
 use Rattle.sc_typed.specs.Types.{target, is_aggregate}
-use Rattle.sc_operators.specs.declared.members.Meant.{Meant}
-use Rattle.sc_operators.specs.declared.members.Meant.TheVariants as means
+use Rattle.sc_unary.specs.declared.members.Meant.{Meant}
+use Rattle.sc_unary.specs.declared.members.Meant.TheVariants as means
 use Rattle.sc_rules.specs.Walks.{Check, ◌>>=◌, done, unsupported, ill_typed}
 use Rattle.sc_rules.specs.Conversions.{node, type_of}
 
