@@ -17,7 +17,7 @@ use Rattle.sc_typed.specs.Types.{is_function}
 use Rattle.sc_rules.specs.declared.walk.GlobalKey.{GlobalKey}
 use Rattle.sc_rules.specs.Faults.{unsupported_at}
 use Rattle.sc_rules.specs.Walks.{Check, ◌>>=◌, done}
-use Rattle.sc_operators.specs.Members.{is_there}
+use Rattle.sc_unary.specs.Members.{is_there}
 use Rattle.sc_names.specs.Notes.{note_unless}
 use Rattle.sc_names.specs.Structs.{object_at, size_now}
 use Rattle.sc_declare.specs.declared.functions.Parameter.{Parameter}

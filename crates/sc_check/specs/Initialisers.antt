@@ -26,7 +26,7 @@ use Rattle.sc_typed.specs.Types.{same, is_array}
 use Rattle.sc_rules.specs.declared.walk.Walk.{Walk}
 use Rattle.sc_rules.specs.Walks.{Check, ◌>>=◌, done, given, both, unsupported}
 use Rattle.sc_rules.specs.Conversions.{type_of, value, converted}
-use Rattle.sc_operators.specs.Members.{Body, body_of, is_there, is_unnamed}
+use Rattle.sc_unary.specs.Members.{Body, body_of, is_there, is_unnamed}
 use Rattle.sc_check.specs.Here.{Here}
 use Rattle.sc_check.specs.Shapes.{Typing}
 use Rattle.sc_check.specs.Typing.{typing, valued}

@@ -27,7 +27,7 @@ use Rattle.sc_typed.specs.declared.program.FieldDef.{FieldDef}
 use Rattle.sc_typed.specs.Constants.{constant}
 use Rattle.sc_rules.specs.declared.walk.Walk.{Walk}
 use Rattle.sc_rules.specs.Walks.{Check, ◌>>=◌, done, given}
-use Rattle.sc_operators.specs.Members.{Body, body_of, is_called, is_there}
+use Rattle.sc_unary.specs.Members.{Body, body_of, is_called, is_there}
 use Rattle.sc_check.specs.Here.{Here}
 use Rattle.sc_check.specs.Typing.{typing, valued, in_range, bytes_of}
 use Rattle.sc_check.specs.Initialisers.{is_char_array, members_given, is_char_kind, char_layer}

@@ -43,13 +43,14 @@ use Rattle.sc_rules.specs.Faults.{ill_typed_at}
 use Rattle.sc_rules.specs.Conversions.{node, type_of, place_of, value, decayed_type}
 use Rattle.sc_operators.specs.Binary.{int, made, binary}
 use Rattle.sc_operators.specs.Assignments.{pre_increment, post_increment, assignment}
-use Rattle.sc_operators.specs.Operators.{int_constant, unary, conditional, comma, cast, size_of_expression, size_of_type, index}
+use Rattle.sc_operators.specs.Conditionals.{conditional, comma}
+use Rattle.sc_unary.specs.Operators.{int_constant, unary, cast, size_of_expression, size_of_type, index}
 use Rattle.sc_names.specs.Names.{new_here, declare_if}
 use Rattle.sc_names.specs.Structs.{complete_if, size_now, object_at}
 use Rattle.sc_names.specs.Tags.{tag_of, begin_body}
 use Rattle.sc_declare.specs.declared.functions.Parameter.{Parameter}
 use Rattle.sc_check.specs.Here.{Here}
-use Rattle.sc_operators.specs.Members.{field, is_called, is_there}
+use Rattle.sc_unary.specs.Members.{field, is_called, is_there}
 use Rattle.sc_calls.specs.Calls.{unknown_function, callee, call, prototype, builtin_call}
 use Rattle.sc_check.specs.Shapes.{Typing, Own, Shape, Declaring, Heading, Naming, Adding, AddingOne, Counting}
 

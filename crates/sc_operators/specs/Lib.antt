@@ -1,4 +1,3 @@
 pub mod Binary
 pub mod Assignments
-pub mod Operators
-pub mod Members
+pub mod Conditionals
