@@ -1,5 +1,5 @@
 -- What declarators make of types (C11 6.7.6): pointers, arrays, functions and their parameters.
-use Rattle.std.specs.Prelude.{ℕ, ◌^◌, nat_lt, Bool, true, false, ◌||◌, Option, Some, None, List, [], ◌∷◌, ℤ, pos, negsuc, if◌then◌else◌}
+use Rattle.std.specs.Prelude.{ℕ, ◌^◌, nat_lt, Bool, ◌||◌, Option, Some, None, List, [], ◌∷◌, ℤ, pos, negsuc, if◌then◌else◌}
 use Rattle.sc_base.specs.declared.pos.Pos.{Pos}
 use Rattle.sc_base.specs.declared.pos.NameId.{NameId}
 use Rattle.sc_base.specs.declared.skip.Unsupported.TheVariants as u
@@ -12,7 +12,7 @@ use Rattle.sc_typed.specs.declared.expr.TExpr.{TExpr}
 use Rattle.sc_typed.specs.Types.{is_function, is_array}
 use Rattle.sc_typed.specs.Constants.{constant}
 use Rattle.sc_rules.specs.declared.walk.Entity.TheVariants as entity
-use Rattle.sc_rules.specs.Walks.{Check, ◌>>=◌, done, given, unsupported, ill_typed}
+use Rattle.sc_rules.specs.Walks.{Check, ◌>>=◌, done, unsupported, ill_typed}
 use Rattle.sc_rules.specs.Conversions.{place_of, decayed_type}
 use Rattle.sc_names.specs.Names.{new_here, declare_if}
 use Rattle.sc_declare.specs.declared.functions.Parameter.{Parameter}

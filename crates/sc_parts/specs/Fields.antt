@@ -15,7 +15,7 @@ use Rattle.sc_rules.specs.declared.walk.Entity.TheVariants as entity
 use Rattle.sc_rules.specs.declared.walk.TagKind.{TagKind}
 use Rattle.sc_rules.specs.declared.walk.TagKind.TheVariants as tag
 use Rattle.sc_rules.specs.Faults.{ill_typed_at}
-use Rattle.sc_rules.specs.Walks.{Check, ◌>>=◌, done, given, ill_typed, holds_or}
+use Rattle.sc_rules.specs.Walks.{Check, ◌>>=◌, done, ill_typed, holds_or}
 use Rattle.sc_rules.specs.Conversions.{type_of, place_of}
 use Rattle.sc_operators.specs.Binary.{int}
 use Rattle.sc_unary.specs.Members.{is_called}
