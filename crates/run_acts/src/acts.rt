@@ -26,20 +26,20 @@ use std::alloc::Global;
 /// The calls of the runs of a function: what they read, and room for what a known call finds.
 #[derive(Drop)]
 pub struct Acts<'p, 'm, 'f> {
-    pub ground: Ground<'p, 'm, 'f>,
+    pub given: Ground<'p, 'm, 'f>,
     pub places: &'f Places<'p>,
     /// The bits that choose the run.
     pub choice: &'f [bool],
     buffer: Buffer<'p>,
     ghost few: { length places.now.locations.items < 2 ^ 32 },
-    ghost fits: { FitsAll (laid.ground_of ground).source buffer.most } by { fits_all_prop (laid.ground_of ground).source buffer.most },
+    ghost fits: { FitsAll (laid.ground_of given).source buffer.most } by { fits_all_prop (laid.ground_of given).source buffer.most },
 }
 
 impl<'p, 'm, 'f> Acts<'p, 'm, 'f> {
     /// The calls of runs that read what stands here. No memory has room for 2^32 locations.
     #[tactic(auto, unfolding(run_world::specs::Seen::env))]
     pub fn reserve(alloc: Global, here: &Here<'p, 'm, 'f>) -> Result<Acts<'p, 'm, 'f>, OutOfMemory>
-        ensures ground { IfOk result (λ a. a.ground ≡ here.now.ground) }
+        ensures given { IfOk result (λ a. a.given ≡ here.now.ground) }
         ensures places { IfOk result (λ a. a.places.now ≡ here.now.places.now) }
         ensures choice { IfOk result (λ a. a.choice.now ≡ here.now.choice.now) }
     {
@@ -48,7 +48,7 @@ impl<'p, 'm, 'f> Acts<'p, 'm, 'f> {
         }
         let buffer = Buffer::reserve(alloc, most_items(here))?;
         Ok(Acts {
-            ground: here.ground,
+            given: here.ground,
             places: here.places,
             choice: here.choice,
             buffer,
@@ -66,14 +66,14 @@ impl<'p, 'm, 'f> Acts<'p, 'm, 'f> {
         want: Want,
     ) -> Result<Value, Ended>
         requires cells { length (laid.layout_of self.old.places.now).locations ≤ vec_capacity kept.old.cells }
-        requires events { length world.old.trace.items + room (exp (laid.ground_of self.old.ground).source.structs e.now) ≤ vec_capacity world.old.trace }
-        requires arguments { length kept.old.arguments.items + room (exp (laid.ground_of self.old.ground).source.structs e.now) ≤ vec_capacity kept.old.arguments }
-        ensures evaluated { seen.Does seen.cell (spec.eval (exp (laid.ground_of self.old.ground).source.structs e.now) (want_of want)
-            (reads_of self.old.ground self.old.places self.old.choice.now turn) (seen.world world.old)) result (seen.world world.new) }
+        requires events { length world.old.trace.items + room (exp (laid.ground_of self.old.given).source.structs e.now) ≤ vec_capacity world.old.trace }
+        requires arguments { length kept.old.arguments.items + room (exp (laid.ground_of self.old.given).source.structs e.now) ≤ vec_capacity kept.old.arguments }
+        ensures evaluated { seen.Does seen.cell (spec.eval (exp (laid.ground_of self.old.given).source.structs e.now) (want_of want)
+            (reads_of self.old.given self.old.places self.old.choice.now turn) (seen.world world.old)) result (seen.world world.new) }
         ensures arguments { OnOk result (kept.new.arguments.items ≡ kept.old.arguments.items) }
     {
         let here = Here {
-            ground: self.ground,
+            ground: self.given,
             places: self.places,
             choice: self.choice,
             turn,
@@ -83,7 +83,7 @@ impl<'p, 'm, 'f> Acts<'p, 'm, 'f> {
 }
 
 impl Calls for Acts<'_, '_, '_> {
-    ghost reads = { λ a turn. reads_of a.ground a.places a.choice.now turn };
+    ghost reads = { λ a turn. reads_of a.given a.places a.choice.now turn };
 
     #[tactic(auto, unfolding(run_world::specs::Seen::env))]
     fn act(
@@ -97,7 +97,7 @@ impl Calls for Acts<'_, '_, '_> {
         effect: Effect,
     ) -> Result<Value, Ended> {
         let here = Here {
-            ground: self.ground,
+            ground: self.given,
             places: self.places,
             choice: self.choice,
             turn,
