@@ -29,7 +29,8 @@ label_or : (c : Bool) (n : NameId) (s : Stm) (at other found : ℕ) → found �
 label_or true n s at other found h = refl
 label_or false n s at other found h = h
 
-pub look_labels : (n : NameId) (s : Stm) (at lost : ℕ) (ts : List Target) → look n (labels_of s at ts) lost ≡ (if has_label n s then at else look n ts lost)
+pub look_labels : (n : NameId) (s : Stm) (at lost : ℕ) (ts : List Target) → look n (labels_of s at ts) lost ≡
+    (if has_label n s then at else look n ts lost)
 look_labels n (Block ss end) at lost ts = refl
 look_labels n (Decl ds) at lost ts = refl
 look_labels n (Evaluate e) at lost ts = refl
@@ -45,9 +46,11 @@ look_labels n (Goto q m) at lost ts = refl
 look_labels n Break at lost ts = refl
 look_labels n Continue at lost ts = refl
 look_labels n (Return q e) at lost ts = refl
-look_labels n (Label m s) at lost ts = label_or (nat_eq n.at m.at) n s at (look n ts lost) (look n (labels_of s at ts) lost) (look_labels n s at lost ts)
+look_labels n (Label m s) at lost ts =
+    label_or (nat_eq n.at m.at) n s at (look n ts lost) (look n (labels_of s at ts) lost) (look_labels n s at lost ts)
 
-pick_cases : (n : ℕ) (s : Stm) (at other : ℕ) (cs : List Chosen) → pick n (cases_of s at cs) other ≡ (if is_case n s then at else pick n cs other)
+pick_cases : (n : ℕ) (s : Stm) (at other : ℕ) (cs : List Chosen) → pick n (cases_of s at cs) other ≡
+    (if is_case n s then at else pick n cs other)
 pick_cases n (Block ss end) at other cs = refl
 pick_cases n (Decl ds) at other cs = refl
 pick_cases n (Evaluate e) at other cs = refl
@@ -65,7 +68,8 @@ pick_cases n Continue at other cs = refl
 pick_cases n (Return q e) at other cs = refl
 pick_cases n (Label m s) at other cs = refl
 
-pub default_node : (s : Stm) (at other : ℕ) (d : Option ℕ) → node_or other (default_of s at d) ≡ (if is_default s then at else node_or other d)
+pub default_node : (s : Stm) (at other : ℕ) (d : Option ℕ) → node_or other (default_of s at d) ≡
+    (if is_default s then at else node_or other d)
 default_node (Block ss end) at other d = refl
 default_node (Decl ds) at other d = refl
 default_node (Evaluate e) at other d = refl
@@ -153,7 +157,8 @@ module _ (s : Source) (p : Layout) (choice : List Bool) (v : ℕ → Kept → Ru
       here = λ kept w. begins k g fits go m kept w;
       label = λ n kept w.
           ap (λ at. v at kept w) (look_labels n x (at_item k g) k.lost (items k g).0.labels)
-          ∙ one_of (has_label n x) (at_item k g) (look n (items k g).0.labels k.lost) (item_flow x xs >>= go) (exec_all xs (AtLabel n) env >>= go)
+          ∙ one_of (has_label n x) (at_item k g) (look n (items k g).0.labels k.lost) (item_flow x xs >>= go)
+          (exec_all xs (AtLabel n) env >>= go)
           (begins k g fits go m) ((open_rest k g fits go m).label n) kept w
           ∙ sym (sought (has_label n x) (item_flow x xs) (exec_all xs (AtLabel n) env) go w);
       number = λ n other rest h kept w.
@@ -194,14 +199,16 @@ module _ (s : Source) (p : Layout) (choice : List Bool) (v : ℕ → Kept → Ru
   chain_grows : (t : ℕ) (cs : List Chosen) (other : ℕ) (g : Growing) → Grows s p choice v g (chain t cs other g).1
   chain_grows t [] other g = grows_refl s p choice v g
   chain_grows t (c ∷ cs) other g =
-      grows_trans s p choice v (chain_grows t cs other g) (grows_put s p choice v (Choose t c.number c.at (chain t cs other g).0) (chain t cs other g).1)
+      grows_trans s p choice v (chain_grows t cs other g)
+      (grows_put s p choice v (Choose t c.number c.at (chain t cs other g).0) (chain t cs other g).1)
 
   lead : (b : Bool) (hit miss to : ℕ) (kept : Kept) (w : World) → v miss kept w ≡ v to kept w
       → (if b then v hit kept else v miss kept) w ≡ v (if b then hit else to) kept w
   lead true hit miss to kept w h = refl
   lead false hit miss to kept w h = h
 
-  chain_picks : (t : ℕ) (cs : List Chosen) (other : ℕ) (g : Growing) → Fits s p choice v (chain t cs other g).1.nodes → (kept : Kept) (w : World)
+  chain_picks : (t : ℕ) (cs : List Chosen) (other : ℕ) (g : Growing) → Fits s p choice v (chain t cs other g).1.nodes →
+      (kept : Kept) (w : World)
       → v (chain t cs other g).0 kept w ≡ v (pick (number_of (temp kept t)) cs other) kept w
   chain_picks t [] other g fits kept w = refl
   chain_picks t (c ∷ cs) other g fits kept w =
@@ -213,7 +220,8 @@ module _ (s : Source) (p : Layout) (choice : List Bool) (v : ℕ → Kept → Ru
   abbrev tree : Env
   tree = in_tree s p choice turn
 
-  meets_switch : (k : Targets) (go : Flow → Run Cell) → Meets s p choice v k go → Meets s p choice v (record k { leave = k.next }) (λ f. go (out_of_switch f))
+  meets_switch : (k : Targets) (go : Flow → Run Cell) → Meets s p choice v k go → Meets s p choice v
+      (record k { leave = k.next }) (λ f. go (out_of_switch f))
   meets_switch k go m = record {
     next = λ kept w. m.next kept w;
     leave = λ kept w. m.next kept w;
@@ -233,10 +241,13 @@ module _ (s : Source) (p : Layout) (choice : List Bool) (v : ℕ → Kept → Ru
   pub switch_does : (q : Pos) (e : Exp) (ss : Stms) (items : Targets → Build Opened) → Opens s p choice v tree items ss
       → Follows s p choice v (switched (unroll e turn) q e items) (exec (Switch q e ss) tree)
   switch_does q e ss items o = record {
-    grows = λ k g. grows_trans s p choice v (o.grows (inner k) g) (grows_trans s p choice v (grows_chain k g) (grows_trans s p choice v (grows_mark k g) (grows_value k g)));
+    grows = λ k g. grows_trans s p choice v (o.grows (inner k) g)
+        (grows_trans s p choice v (grows_chain k g) (grows_trans s p choice v (grows_mark k g) (grows_value k g)));
     by = λ k g fits go m kept w.
-        (does s p choice v turn e).by (Into Value (temp_of k g) (length (first k g).1.nodes)) (marked k g) 0 (omega arith) (omega arith) fits kept
-        (λ c. (event q (switch_event tree (type_of e) c) >>= λ _. switch_by (chosen_item (number_of c) ss) (λ seek. exec_all ss seek tree)) >>= go)
+        (does s p choice v turn e).by (Into Value (temp_of k g) (length (first k g).1.nodes)) (marked k g) 0
+        (omega arith) (omega arith) fits kept
+        (λ c. (event q (switch_event tree (type_of e) c) >>= λ _. switch_by (chosen_item (number_of c) ss)
+        (λ seek. exec_all ss seek tree)) >>= go)
         (record {
           goes = λ new c w' a told.
               ((grows_value k g).fits fits).0.by new w'
@@ -246,7 +257,8 @@ module _ (s : Source) (p : Layout) (choice : List Bool) (v : ℕ → Kept → Ru
               (λ y u. chosen k g ((grows_mark k g).fits ((grows_value k g).fits fits)) go m new c told u);
         }) w
         ∙ sym (goes_assoc (eval e Value tree w)
-        (λ c. event q (switch_event tree (type_of e) c) >>= λ _. switch_by (chosen_item (number_of c) ss) (λ seek. exec_all ss seek tree)) go);
+        (λ c. event q (switch_event tree (type_of e) c) >>= λ _. switch_by (chosen_item (number_of c) ss)
+        (λ seek. exec_all ss seek tree)) go);
   }
     where
       inner : Targets → Targets

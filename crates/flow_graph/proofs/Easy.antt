@@ -25,7 +25,8 @@ module _ (s : Source) (p : Layout) (choice : List Bool) where
   easy_one : {wa : Want} {a e : Exp} {whole : ℕ → Exp} → One s p choice wa a e whole → Same a → Same e
   easy_one {wa = wa} o h want k turn w =
       o.splits want (reads s p choice k) w
-      ∙ goes_cong _ _ (o.after want (reads s p choice k)) (o.after want (in_tree s p choice turn)) (h wa k turn w) (λ c w'. o.same want k turn c w')
+      ∙ goes_cong _ _ (o.after want (reads s p choice k)) (o.after want (in_tree s p choice turn)) (h wa k turn w)
+      (λ c w'. o.same want k turn c w')
       ∙ sym (o.splits want (in_tree s p choice turn) w)
 
   easy_two : {wa wb : Want} {a b e : Exp} {whole : ℕ → ℕ → Exp} → Two s p choice wa a wb b e whole → Same a → Same b → Same e
@@ -33,7 +34,8 @@ module _ (s : Source) (p : Layout) (choice : List Bool) where
       o.splits want (reads s p choice k) w
       ∙ goes_cong _ _ (λ x. eval b wb (reads s p choice k) >>= o.after want (reads s p choice k) x)
       (λ x. eval b wb (in_tree s p choice turn) >>= o.after want (in_tree s p choice turn) x) (ha wa k turn w)
-      (λ c w'. goes_cong _ _ (o.after want (reads s p choice k) c) (o.after want (in_tree s p choice turn) c) (hb wb k turn w') (λ d w''. o.same want k turn c d w''))
+      (λ c w'. goes_cong _ _ (o.after want (reads s p choice k) c) (o.after want (in_tree s p choice turn) c)
+      (hb wb k turn w') (λ d w''. o.same want k turn c d w''))
       ∙ sym (o.splits want (in_tree s p choice turn) w)
 
   easy_unary : (o : UnaryOp) (a : Exp) (t : Ty) → Same a → Same (Unary o a t)
@@ -63,17 +65,23 @@ module _ (s : Source) (p : Layout) (choice : List Bool) where
   easy_update : (o : BinaryOp) (works : Ty) (a b : Exp) (t : Ty) → Same a → Same b → Same (Assign (Some o) works a b t)
   easy_update o works a b t ha hb want k turn w =
       goes_cong _ _
-      (λ c. load (place_of c) >>= λ old. eval b Value (reads s p choice k) >>= λ v. combined (reads s p choice k) o works t old v >>= assign_value (reads s p choice k) want t c)
-      (λ c. load (place_of c) >>= λ old. eval b Value (in_tree s p choice turn) >>= λ v. combined (in_tree s p choice turn) o works t old v >>= assign_value (in_tree s p choice turn) want t c)
+      (λ c. load (place_of c) >>= λ old. eval b Value (reads s p choice k) >>= λ v. combined
+      (reads s p choice k) o works t old v >>= assign_value (reads s p choice k) want t c)
+      (λ c. load (place_of c) >>= λ old. eval b Value (in_tree s p choice turn) >>= λ v. combined
+      (in_tree s p choice turn) o works t old v >>= assign_value (in_tree s p choice turn) want t c)
       (ha Place' k turn w)
       (λ c w'. goes_ext (load (place_of c) w')
-      (λ old. eval b Value (reads s p choice k) >>= λ v. combined (reads s p choice k) o works t old v >>= assign_value (reads s p choice k) want t c)
-      (λ old. eval b Value (in_tree s p choice turn) >>= λ v. combined (in_tree s p choice turn) o works t old v >>= assign_value (in_tree s p choice turn) want t c)
+      (λ old. eval b Value (reads s p choice k) >>= λ v. combined (reads s p choice k) o works t old v >>= assign_value
+      (reads s p choice k) want t c)
+      (λ old. eval b Value (in_tree s p choice turn) >>= λ v. combined
+      (in_tree s p choice turn) o works t old v >>= assign_value (in_tree s p choice turn) want t c)
       (λ old w''. goes_cong _ _
       (λ v. combined (reads s p choice k) o works t old v >>= assign_value (reads s p choice k) want t c)
       (λ v. combined (in_tree s p choice turn) o works t old v >>= assign_value (in_tree s p choice turn) want t c)
       (hb Value k turn w'')
-      (λ v w'''. goes_cong _ _ (assign_value (reads s p choice k) want t c) (assign_value (in_tree s p choice turn) want t c) (combined_same s p choice k turn o works t old v w''') (λ r u. refl))))
+      (λ v w'''. goes_cong _ _ (assign_value (reads s p choice k) want t c)
+      (assign_value (in_tree s p choice turn) want t c) (combined_same s p choice k turn o works t old v w''')
+      (λ r u. refl))))
 
   easy_assign : (o : Option BinaryOp) (works : Ty) (a b : Exp) (t : Ty) → Same a → Same b → Same (Assign o works a b t)
   easy_assign None works a b t ha hb = easy_set (is_scalar t) works a b t refl ha hb
@@ -97,7 +105,8 @@ module _ (s : Source) (p : Layout) (choice : List Bool) where
   easy_same (SizeofExpr a n t) h = λ want k turn w. refl
   easy_same (SizeofType n t) h = λ want k turn w. refl
   easy_same (Index a b t) h =
-      easy_index (is_array (type_of a)) a b t refl (easy_same a (and_left (easy a) (easy b) h)) (easy_same b (and_right (easy a) (easy b) h))
+      easy_index (is_array (type_of a)) a b t refl (easy_same a (and_left (easy a) (easy b) h))
+      (easy_same b (and_right (easy a) (easy b) h))
   easy_same (Call q f es t) h = absurd (false≢true h)
   easy_same (Field a n true t) h = easy_one (arrow s p choice a n t) (easy_same a h)
   easy_same (Field a n false t) h = easy_one (dot s p choice a n t) (easy_same a h)

@@ -105,7 +105,8 @@ module _ (s : Source) (p : Layout) (choice : List Bool) (v : ℕ → Kept → Ru
   unary_does sign.Deref a t pa da = serves_one s p choice v turn Value a (Unary sign.Deref a t) pa _ (deref s p choice a t) da
   unary_does sign.Plus a t pa da = serves_one s p choice v turn Value a (Unary sign.Plus a t) pa _ (plus s p choice a t) da
   unary_does sign.Minus a t pa da = serves_one s p choice v turn Value a (Unary sign.Minus a t) pa _ (minus s p choice a t) da
-  unary_does sign.Complement a t pa da = serves_one s p choice v turn Value a (Unary sign.Complement a t) pa _ (complement s p choice a t) da
+  unary_does sign.Complement a t pa da =
+      serves_one s p choice v turn Value a (Unary sign.Complement a t) pa _ (complement s p choice a t) da
   unary_does sign.Not a t pa da = serves_one s p choice v turn Value a (Unary sign.Not a t) pa _ (negation s p choice a t) da
 
   -- a place that no temp keeps
@@ -168,11 +169,14 @@ module _ (s : Source) (p : Layout) (choice : List Bool) (v : ℕ → Kept → Ru
       df.by (Into Value g.temps first) (fresh 1 g).1 b (omega (arith, h)) h fits k (λ _. rest)
       (record { goes = λ new c w' a told. goes new w' a }) w
 
-  called_grows : (c : Bool) (f : Exp) → Does f (unroll f turn) → (first : ℕ) (g : Growing) → Grows s p choice v g (called c (unroll f turn) first g).1
+  called_grows : (c : Bool) (f : Exp) → Does f (unroll f turn) → (first : ℕ) (g : Growing) → Grows s p choice v g
+      (called c (unroll f turn) first g).1
   called_grows true f df first g = grows_refl s p choice v g
-  called_grows false f df first g = grows_trans s p choice v (grows_fresh s p choice v 1 g) (df.grows (Into Value g.temps first) (fresh 1 g).1)
+  called_grows false f df first g =
+      grows_trans s p choice v (grows_fresh s p choice v 1 g) (df.grows (Into Value g.temps first) (fresh 1 g).1)
 
-  module _ (q : Place) (f : Exp) (es : Exps) (t : Ty) (df : Does f (unroll f turn)) (des : ServesAll (λ x next. unroll_all es turn x next) (count es) (eval_all es tree)) where
+  module _ (q : Place) (f : Exp) (es : Exps) (t : Ty) (df : Does f (unroll f turn))
+      (des : ServesAll (λ x next. unroll_all es turn x next) (count es) (eval_all es tree)) where
     abbrev calling : Calling
     calling = record { place = q; callee = f; result = t; turn = turn }
 
@@ -230,15 +234,24 @@ module _ (s : Source) (p : Layout) (choice : List Bool) (v : ℕ → Kept → Ru
     does (Binary o a b t) = plainly_does (Binary o a b t) _ (binary_does (is_logical o) o a b t _ _ refl (does a) (does b))
     does (Cast a t) = plainly_does (Cast a t) _ (cast_does (is_array (type_of a)) a t _ refl (does a))
     does (Unary o a t) = plainly_does (Unary o a t) _ (unary_does o a t _ (does a))
-    does (PreInc d a t) = plainly_does (PreInc d a t) _ (serves_one s p choice v turn Place' a (PreInc d a t) _ _ (pre s p choice d a t) (does a))
-    does (PostInc d a t) = plainly_does (PostInc d a t) _ (serves_one s p choice v turn Place' a (PostInc d a t) _ _ (post s p choice d a t) (does a))
+    does (PreInc d a t) =
+        plainly_does (PreInc d a t) _
+        (serves_one s p choice v turn Place' a (PreInc d a t) _ _ (pre s p choice d a t) (does a))
+    does (PostInc d a t) =
+        plainly_does (PostInc d a t) _
+        (serves_one s p choice v turn Place' a (PostInc d a t) _ _ (post s p choice d a t) (does a))
     does (SizeofExpr a n t) =
-        plainly_does (SizeofExpr a n t) _ (serves_plain s p choice v (SizeofType n t) (λ want. eval (SizeofExpr a n t) want tree) (λ want k w. refl))
+        plainly_does (SizeofExpr a n t) _
+        (serves_plain s p choice v (SizeofType n t) (λ want. eval (SizeofExpr a n t) want tree) (λ want k w. refl))
     does (SizeofType n t) = serves_plain s p choice v (SizeofType n t) (λ want. eval (SizeofType n t) want tree) (λ want k w. refl)
     does (Index a b t) = plainly_does (Index a b t) _ (index_does (is_array (type_of a)) a b t _ _ refl (does a) (does b))
     does (Call q f es t) = call_does q f es t (does f) (all_do es)
-    does (Field a n true t) = plainly_does (Field a n true t) _ (serves_one s p choice v turn Value a (Field a n true t) _ _ (arrow s p choice a n t) (does a))
-    does (Field a n false t) = plainly_does (Field a n false t) _ (serves_one s p choice v turn Place' a (Field a n false t) _ _ (dot s p choice a n t) (does a))
+    does (Field a n true t) =
+        plainly_does (Field a n true t) _
+        (serves_one s p choice v turn Value a (Field a n true t) _ _ (arrow s p choice a n t) (does a))
+    does (Field a n false t) =
+        plainly_does (Field a n false t) _
+        (serves_one s p choice v turn Place' a (Field a n false t) _ _ (dot s p choice a n t) (does a))
     does (Param n t) = serves_plain s p choice v (Param n t) (λ want. eval (Param n t) want tree) (λ want k w. refl)
     does (Local n t) = serves_plain s p choice v (Local n t) (λ want. eval (Local n t) want tree) (λ want k w. refl)
     does (Global n t) = serves_plain s p choice v (Global n t) (λ want. eval (Global n t) want tree) (λ want k w. refl)

@@ -144,7 +144,8 @@ module _ (s : Source) (p : Layout) (choice : List Bool) where
     same = λ want k turn c w. ap (λ x. done x w) (convert_same s p choice k turn (type_of a) t c);
   }
 
-  pub convert_array : (a : Exp) (t : Ty) → is_array (type_of a) ≡ true → One Place' a (Convert a t) (λ x. Convert (TempPlace x (type_of a)) t)
+  pub convert_array : (a : Exp) (t : Ty) → is_array (type_of a) ≡ true → One Place' a (Convert a t)
+      (λ x. Convert (TempPlace x (type_of a)) t)
   convert_array a t h = record {
     after = λ want env c. done (first_element env c);
     splits = λ want env w. rw h refl;

@@ -35,11 +35,13 @@ module _ (s : Source) (p : Layout) (choice : List Bool) (v : ℕ → Kept → Ru
   sides_serve t (Into want x next) g b h apt fits k f r = record {
     hit = λ new w q.
         fits.1.0.by new w
-        ∙ r.goes (keep x (truth_cell tree t true) new) (truth_cell tree t true) w (agrees_trans q (agrees_keep b x (truth_cell tree t true) new apt))
+        ∙ r.goes (keep x (truth_cell tree t true) new) (truth_cell tree t true) w
+        (agrees_trans q (agrees_keep b x (truth_cell tree t true) new apt))
         (at_same Nothing x (truth_cell tree t true) new.temps);
     miss = λ new w q.
         fits.0.by new w
-        ∙ r.goes (keep x (truth_cell tree t false) new) (truth_cell tree t false) w (agrees_trans q (agrees_keep b x (truth_cell tree t false) new apt))
+        ∙ r.goes (keep x (truth_cell tree t false) new) (truth_cell tree t false) w
+        (agrees_trans q (agrees_keep b x (truth_cell tree t false) new apt))
         (at_same Nothing x (truth_cell tree t false) new.temps);
   }
   sides_serve t (Test hit miss) g b h apt fits k f r = record {
@@ -89,7 +91,8 @@ module _ (s : Source) (p : Layout) (choice : List Bool) (v : ℕ → Kept → Ru
   is_and op.Div h = absurd (false≢true h)
   is_and op.Rem h = absurd (false≢true h)
 
-  module _ (a b : Exp) (t : Ty) (pa pb : Part) (sa : Serves s p choice v pa (λ want. eval a want tree)) (sb : Serves s p choice v pb (λ want. eval b want tree)) where
+  module _ (a b : Exp) (t : Ty) (pa pb : Part) (sa : Serves s p choice v pa (λ want. eval a want tree))
+      (sb : Serves s p choice v pb (λ want. eval b want tree)) where
     abbrev c_of : Aim → Growing → Sides
     c_of aim g = (sides t aim g).0
 
@@ -103,7 +106,9 @@ module _ (s : Source) (p : Layout) (choice : List Bool) (v : ℕ → Kept → Ru
     grows_left o aim g = sa.grows (first_test o (behind_sides aim g).0 (c_of aim g)) (behind_sides aim g).1
 
     grows_logical : (o : BinaryOp) (aim : Aim) (g : Growing) → Grows s p choice v g (logical o t pa pb aim g).1
-    grows_logical o aim g = grows_trans s p choice v (sides_grow t aim g) (grows_trans s p choice v (grows_right aim g) (grows_left o aim g))
+    grows_logical o aim g =
+        grows_trans s p choice v (sides_grow t aim g)
+        (grows_trans s p choice v (grows_right aim g) (grows_left o aim g))
 
     tested_and : (aim : Aim) (g : Growing) (b' : ℕ) → b' ≤ g.temps → Apt b' aim → Fits s p choice v (behind_sides aim g).1.nodes
         → (k : Kept) (f : Cell → Run Cell) → Reaches s p choice v aim b' k f → (held : Bool) (new : Kept) (w : World) → Agrees b' k new
@@ -128,7 +133,8 @@ module _ (s : Source) (p : Layout) (choice : List Bool) (v : ℕ → Kept → Ru
       grows = grows_logical op.And;
       by = λ aim g b' h apt fits k f r w.
           sa.by (Test (behind_sides aim g).0 (c_of aim g).miss) (behind_sides aim g).1 b'
-          (omega (arith, h, (sides_grow t aim g).temps, (grows_right aim g).temps)) tt fits k (λ x. behind_left op.And b t (is_true x) >>= f)
+          (omega (arith, h, (sides_grow t aim g).temps, (grows_right aim g).temps)) tt fits k
+          (λ x. behind_left op.And b t (is_true x) >>= f)
           (record {
             goes = λ new x w' q told. tested_and aim g b' h apt ((grows_left op.And aim g).fits fits) k f r (is_true x) new w' q;
           }) w
@@ -147,6 +153,10 @@ module _ (s : Source) (p : Layout) (choice : List Bool) (v : ℕ → Kept → Ru
           ∙ sym (goes_assoc (eval a Value tree w) (λ x. behind_left op.Or b t (is_true x)) f);
     }
 
-    pub serves_logical : (o : BinaryOp) → (o ≡ op.And) ⊎ (o ≡ op.Or) → Serves s p choice v (logical o t pa pb) (λ want. eval (Binary o a b t) want tree)
-    serves_logical o (inl e) = subst (λ o. Serves s p choice v (logical o t pa pb) (λ want. eval (Binary o a b t) want tree)) (sym e) serves_and
-    serves_logical o (inr e) = subst (λ o. Serves s p choice v (logical o t pa pb) (λ want. eval (Binary o a b t) want tree)) (sym e) serves_or
+    pub serves_logical : (o : BinaryOp) → (o ≡ op.And) ⊎ (o ≡ op.Or) → Serves s p choice v (logical o t pa pb)
+        (λ want. eval (Binary o a b t) want tree)
+    serves_logical o (inl e) =
+        subst (λ o. Serves s p choice v (logical o t pa pb) (λ want. eval (Binary o a b t) want tree))
+        (sym e) serves_and
+    serves_logical o (inr e) =
+        subst (λ o. Serves s p choice v (logical o t pa pb) (λ want. eval (Binary o a b t) want tree)) (sym e) serves_or

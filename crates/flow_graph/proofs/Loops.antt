@@ -32,7 +32,8 @@ module _ (s : Source) (p : Layout) (choice : List Bool) (v : ℕ → Kept → Ru
   -- a piece does what the statement does, and goes on
   pub record Follows (m : Piece) (flow : Run Flow) : Type 0 where
     pub grows : (k : Targets) (g : Growing) → Grows s p choice v g (m k g).1
-    pub by : (k : Targets) (g : Growing) → Fits s p choice v (m k g).1.nodes → (go : Flow → Run Cell) → Meets k go → Goes (m k g).0 (flow >>= go)
+    pub by : (k : Targets) (g : Growing) → Fits s p choice v (m k g).1.nodes → (go : Flow → Run Cell) → Meets k go
+        → Goes (m k g).0 (flow >>= go)
 
   -- behind the body of a loop
   meets_loop : (k : Targets) (at : ℕ) (rest : Run Flow) (go : Flow → Run Cell) → Meets k go → Goes at (rest >>= go)
@@ -49,7 +50,8 @@ module _ (s : Source) (p : Layout) (choice : List Bool) (v : ℕ → Kept → Ru
     last_does : (test : (hit miss : ℕ) → Build ℕ) (holds : Run Bool) → Tests s p choice v turn test holds
         → Follows (last_turn test) (holds >>= λ c. if c then aside reason.Depth else done Next)
     last_does test holds t = record {
-      grows = λ k g. grows_trans s p choice v (grows_put s p choice v (SetAside reason.Depth) g) (t.grows (length g.nodes) k.next (put (SetAside reason.Depth) g).1);
+      grows = λ k g. grows_trans s p choice v (grows_put s p choice v (SetAside reason.Depth) g)
+          (t.grows (length g.nodes) k.next (put (SetAside reason.Depth) g).1);
       by = λ k g fits go m kept w.
           t.by (length g.nodes) k.next (put (SetAside reason.Depth) g).1 fits
           (λ c. (if c then aside reason.Depth else done Next) >>= go)

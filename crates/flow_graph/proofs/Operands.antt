@@ -90,7 +90,8 @@ module _ (s : Source) (p : Layout) (choice : List Bool) (v : ℕ → Kept → Ru
             → (old : Kept) (f : Cell → Run Cell) → Lands s p choice v k b old f → (w : World)
             → v (one_of wa part whole k g).0 old w ≡ (does k.want >>= f) w
         by k g b h apt fits old f lands w =
-            serves.by (Into wa g.temps (length g.nodes)) (behind_one whole k g) b (omega (arith, h)) h fits old (λ c. o.after k.want c >>= f)
+            serves.by (Into wa g.temps (length g.nodes)) (behind_one whole k g) b (omega (arith, h)) h fits old
+            (λ c. o.after k.want c >>= f)
             (record {
               goes = after_one o k g.temps (length g.nodes) b old f
                   ((serves.grows (Into wa g.temps (length g.nodes)) (behind_one whole k g)).fits fits).0 lands;
@@ -111,7 +112,8 @@ module _ (s : Source) (p : Layout) (choice : List Bool) (v : ℕ → Kept → Ru
         serves_by wa a (λ want. eval e want tree) part whole (works o) serves
 
     -- Two operands.
-    after_two : {wa wb : Want} {a c e : Exp} {whole : ℕ → ℕ → Exp} (o : Two s p choice wa a wb c e whole) (k : Goal) (x y at b : ℕ) (old : Kept)
+    after_two : {wa wb : Want} {a c e : Exp} {whole : ℕ → ℕ → Exp} (o : Two s p choice wa a wb c e whole) (k : Goal)
+        (x y at b : ℕ) (old : Kept)
         (f : Cell → Run Cell)
         → Acts s p choice v at (Keep k.want k.temp (whole x y) k.next) → Lands s p choice v k b old f
         → (new : Kept) (l r : Cell) (w : World) → Agrees b old new → temp new x ≡ l → temp new y ≡ r
@@ -155,7 +157,8 @@ module _ (s : Source) (p : Layout) (choice : List Bool) (v : ℕ → Kept → Ru
             → (old : Kept) (f : Cell → Run Cell) → Lands s p choice v k b old f → (w : World)
             → v (two_of wa pa wb pc whole k g).0 old w ≡ (eval e k.want tree >>= f) w
         by k g b h apt fits old f lands w =
-            sa.by (Into wa g.temps (second wb pc whole k g).0) (second wb pc whole k g).1 b (omega (arith, h, (grows_second k g).temps)) h fits old
+            sa.by (Into wa g.temps (second wb pc whole k g).0) (second wb pc whole k g).1 b
+            (omega (arith, h, (grows_second k g).temps)) h fits old
             (λ l. (eval c wb tree >>= o.after k.want tree l) >>= f)
             (record {
               goes = λ new l w' a left.
@@ -163,7 +166,8 @@ module _ (s : Source) (p : Layout) (choice : List Bool) (v : ℕ → Kept → Ru
                   ((grows_first k g).fits fits) new (λ r. o.after k.want tree l r >>= f)
                   (record {
                     goes = λ new' r w'' a' right.
-                        after_two o k g.temps (g.temps + 1) (length g.nodes) b old f ((grows_second k g).fits ((grows_first k g).fits fits)).0 lands new' l r w''
+                        after_two o k g.temps (g.temps + 1) (length g.nodes) b old f
+                        ((grows_second k g).fits ((grows_first k g).fits fits)).0 lands new' l r w''
                         (agrees_trans a (agrees_less (omega (arith, h)) a')) (a'.temps g.temps (omega arith) ∙ left) right;
                   }) w'
                   ∙ sym (goes_assoc (eval c wb tree w') (o.after k.want tree l) f);
@@ -233,7 +237,10 @@ module _ (s : Source) (p : Layout) (choice : List Bool) (v : ℕ → Kept → Ru
         grows_right k g = sb.grows (Into Value (g.temps + 1 + 1) (length g.nodes)) (behind_update u k g)
 
         grows_old : (k : Goal) (g : Growing) → Grows s p choice v (right_value u pb k g).1 (old_value u pb k g)
-        grows_old k g = grows_put s p choice v (Keep Value (g.temps + 1) (TempPlace g.temps (as_scalar u.ctype)) (right_value u pb k g).0) (right_value u pb k g).1
+        grows_old k g =
+            grows_put s p choice v
+            (Keep Value (g.temps + 1) (TempPlace g.temps (as_scalar u.ctype)) (right_value u pb k g).0)
+            (right_value u pb k g).1
 
         grows_place : (k : Goal) (g : Growing) → Grows s p choice v (old_value u pb k g) (update_of u pa pb k g).1
         grows_place k g = sa.grows (Into Place' g.temps (length (right_value u pb k g).1.nodes)) (old_value u pb k g)
@@ -249,12 +256,15 @@ module _ (s : Source) (p : Layout) (choice : List Bool) (v : ℕ → Kept → Ru
             → (new : Kept) (l o : Cell) (w : World) → Agrees b' old new → temp new g.temps ≡ l → temp new (g.temps + 1) ≡ o
             → v (right_value u pb k g).0 new w ≡ (behind_old u b k.want l o >>= f) w
         goes_right k g b' h fits old f lands new l o w a hl ho =
-            sb.by (Into Value (g.temps + 1 + 1) (length g.nodes)) (behind_update u k g) (g.temps + 1 + 1) (omega arith) (omega arith) fits new
+            sb.by (Into Value (g.temps + 1 + 1) (length g.nodes)) (behind_update u k g) (g.temps + 1 + 1) (omega arith)
+            (omega arith) fits new
             (λ r. (combined tree u.op u.works u.ctype o r >>= assign_value tree k.want u.ctype l) >>= f)
             (record {
               goes = λ new' r w' a' hr.
-                  after_update u k g.temps (g.temps + 1) (g.temps + 1 + 1) (length g.nodes) b' old f ((grows_right k g).fits fits).0 lands new' l o r w'
-                  (agrees_trans a (agrees_less (omega (arith, h)) a')) (a'.temps g.temps (omega arith) ∙ hl) (a'.temps (g.temps + 1) (omega arith) ∙ ho) hr;
+                  after_update u k g.temps (g.temps + 1) (g.temps + 1 + 1) (length g.nodes) b' old f
+                  ((grows_right k g).fits fits).0 lands new' l o r w'
+                  (agrees_trans a (agrees_less (omega (arith, h)) a')) (a'.temps g.temps (omega arith) ∙ hl)
+                  (a'.temps (g.temps + 1) (omega arith) ∙ ho) hr;
             }) w
             ∙ sym (goes_assoc (eval b Value tree w) (λ r. combined tree u.op u.works u.ctype o r >>= assign_value tree k.want u.ctype l) f)
 
@@ -262,7 +272,8 @@ module _ (s : Source) (p : Layout) (choice : List Bool) (v : ℕ → Kept → Ru
             → (old : Kept) (f : Cell → Run Cell) → Lands s p choice v k b' old f → (w : World)
             → v (update_of u pa pb k g).0 old w ≡ (eval (Assign (Some u.op) u.works a b u.ctype) k.want tree >>= f) w
         by k g b' h apt fits old f lands w =
-            sa.by (Into Place' g.temps (length (right_value u pb k g).1.nodes)) (old_value u pb k g) b' (omega (arith, h, (grows_right k g).temps)) h fits old
+            sa.by (Into Place' g.temps (length (right_value u pb k g).1.nodes)) (old_value u pb k g) b'
+            (omega (arith, h, (grows_right k g).temps)) h fits old
             (λ l. behind_place u b k.want l >>= f)
             (record {
               goes = λ new l w' a hl.
@@ -281,7 +292,8 @@ module _ (s : Source) (p : Layout) (choice : List Bool) (v : ℕ → Kept → Ru
         → Serves s p choice v pa (λ want. eval a want tree) → Serves s p choice v pb (λ want. eval b want tree)
         → Serves s p choice v (updating u pa pb) (λ want. eval (Assign (Some u.op) u.works a b u.ctype) want tree)
     serves_update u a b pa pb sa sb =
-        serves_kept s p choice v (update_of u pa pb) (λ want. eval (Assign (Some u.op) u.works a b u.ctype) want tree) (keeps_update u a b pa pb sa sb)
+        serves_kept s p choice v (update_of u pa pb) (λ want. eval (Assign (Some u.op) u.works a b u.ctype) want tree)
+        (keeps_update u a b pa pb sa sb)
 
     -- `&`: the place of its operand, kept where its value is due
     pub serves_address : (a : Exp) (pa : Part) → Serves s p choice v pa (λ want. eval a want tree)
@@ -291,7 +303,8 @@ module _ (s : Source) (p : Layout) (choice : List Bool) (v : ℕ → Kept → Ru
         grows : (aim : Aim) (g : Growing) → Grows s p choice v g (address pa aim g).1
         grows (Into want t next) g = sa.grows (Into Place' t next) g
         grows (Test hit miss) g =
-            grows_trans s p choice v (grows_branch s p choice v hit miss g) (sa.grows (Into Place' g.temps (length g.nodes)) (at_branch s p choice v hit miss g))
+            grows_trans s p choice v (grows_branch s p choice v hit miss g)
+            (sa.grows (Into Place' g.temps (length g.nodes)) (at_branch s p choice v hit miss g))
 
         by : (aim : Aim) (g : Growing) (b : ℕ) → b ≤ g.temps → Apt b aim → Fits s p choice v (address pa aim g).1.nodes
             → (k : Kept) (f : Cell → Run Cell) → Reaches s p choice v aim b k f → (w : World)
@@ -326,7 +339,8 @@ module _ (s : Source) (p : Layout) (choice : List Bool) (v : ℕ → Kept → Ru
             → (k : Kept) (f : Cell → Run Cell) → Reaches s p choice v aim b' k f → (w : World)
             → v (comma pa pb aim g).0 k w ≡ (eval (Comma a b t) (want_of aim) tree >>= f) w
         by aim g b' h apt fits k f r w =
-            sa.by (Into Value (pb aim g).1.temps (pb aim g).0) (fresh 1 (pb aim g).1).1 b' (omega (arith, h, (sb.grows aim g).temps)) (omega (arith, h, (sb.grows aim g).temps)) fits k
+            sa.by (Into Value (pb aim g).1.temps (pb aim g).0) (fresh 1 (pb aim g).1).1 b'
+            (omega (arith, h, (sb.grows aim g).temps)) (omega (arith, h, (sb.grows aim g).temps)) fits k
             (λ _. eval b (want_of aim) tree >>= f)
             (record {
               goes = λ new c w' q told.
@@ -365,6 +379,7 @@ module _ (s : Source) (p : Layout) (choice : List Bool) (v : ℕ → Kept → Ru
             (omega (arith, h, (sa.grows aim g).temps, (grows_miss aim g).temps)) tt fits k
             (λ x. (if is_true x then eval a (want_of aim) tree else eval b (want_of aim) tree) >>= f)
             (record {
-              goes = λ new x w' q told. sided aim g b' h apt ((grows_test aim g).fits fits) new f (reaches_on s p choice v q r) (is_true x) w';
+              goes = λ new x w' q told. sided aim g b' h apt ((grows_test aim g).fits fits) new f
+                  (reaches_on s p choice v q r) (is_true x) w';
             }) w
             ∙ sym (goes_assoc (eval c Value tree w) (λ x. if is_true x then eval a (want_of aim) tree else eval b (want_of aim) tree) f)

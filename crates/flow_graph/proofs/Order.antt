@@ -73,12 +73,16 @@ plainly_orders e hard o = chosen (easy e)
 
 pub one_orders : (want : Want) (a : Part) (whole : ℕ → Exp) → Orders a → Orders (one want a whole)
 one_orders want a whole o = orders_goal (λ k g. a (Into want g.temps (length g.nodes)) (behind k g))
-    (record { by = λ k g ord h. longer_trans g (behind k g) _ (omega arith) (o.by (Into want g.temps (length g.nodes)) (behind k g) (h, ord) (omega arith)) })
+    (record {
+      by = λ k g ord h. longer_trans g (behind k g) _ (omega arith)
+          (o.by (Into want g.temps (length g.nodes)) (behind k g) (h, ord) (omega arith));
+    })
   where
     behind : Goal → Growing → Growing
     behind k g = record { nodes = Keep k.want k.temp (whole g.temps) k.next ∷ g.nodes; temps = g.temps + 1; slots = g.slots }
 
-pub two_orders : (left : Want) (a : Part) (right : Want) (b : Part) (whole : ℕ → ℕ → Exp) → Orders a → Orders b → Orders (two left a right b whole)
+pub two_orders : (left : Want) (a : Part) (right : Want) (b : Part) (whole : ℕ → ℕ → Exp) → Orders a → Orders b → Orders
+    (two left a right b whole)
 two_orders left a right b whole oa ob = orders_goal (λ k g. a (Into left g.temps (second k g).0) (second k g).1)
     (record {
       by = λ k g ord h.
@@ -87,20 +91,28 @@ two_orders left a right b whole oa ob = orders_goal (λ k g. a (Into left g.temp
     })
   where
     behind : Goal → Growing → Growing
-    behind k g = record { nodes = Keep k.want k.temp (whole g.temps (g.temps + 1)) k.next ∷ g.nodes; temps = g.temps + 1 + 1; slots = g.slots }
+    behind k g = record {
+      nodes = Keep k.want k.temp
+          (whole g.temps (g.temps + 1)) k.next ∷ g.nodes;
+      temps = g.temps + 1 + 1;
+      slots = g.slots;
+    }
 
     second : Goal → Build ℕ
     second k g = b (Into right (g.temps + 1) (length g.nodes)) (behind k g)
 
     placed : (k : Goal) (g : Growing) → Ordered g.nodes → k.next < length g.nodes → Placed g (second k g)
-    placed k g ord h = longer_trans g (behind k g) _ (omega arith) (ob.by (Into right (g.temps + 1) (length g.nodes)) (behind k g) (h, ord) (omega arith))
+    placed k g ord h =
+        longer_trans g (behind k g) _ (omega arith)
+        (ob.by (Into right (g.temps + 1) (length g.nodes)) (behind k g) (h, ord) (omega arith))
 
 pub updating_orders : (u : Updating) (l r : Part) → Orders l → Orders r → Orders (updating u l r)
 updating_orders u l r ol or' = orders_goal (λ k g. l (Into Place' g.temps (length (right k g).1.nodes)) (old k g))
     (record {
       by = λ k g ord h.
           longer_trans g (old k g) _ (omega (arith, (placed k g ord h).longer))
-          (ol.by (Into Place' g.temps (length (right k g).1.nodes)) (old k g) ((placed k g ord h).below, (placed k g ord h).ordered) (omega arith));
+          (ol.by (Into Place' g.temps (length (right k g).1.nodes)) (old k g)
+          ((placed k g ord h).below, (placed k g ord h).ordered) (omega arith));
     })
   where
     behind : Goal → Growing → Growing
@@ -118,10 +130,14 @@ updating_orders u l r ol or' = orders_goal (λ k g. l (Into Place' g.temps (leng
     old k g = (put (Keep Value (g.temps + 1) (TempPlace g.temps (as_scalar u.ctype)) (right k g).0) (right k g).1).1
 
     placed : (k : Goal) (g : Growing) → Ordered g.nodes → k.next < length g.nodes → Placed g (right k g)
-    placed k g ord h = longer_trans g (behind k g) _ (omega arith) (or'.by (Into Value (g.temps + 1 + 1) (length g.nodes)) (behind k g) (h, ord) (omega arith))
+    placed k g ord h =
+        longer_trans g (behind k g) _ (omega arith)
+        (or'.by (Into Value (g.temps + 1 + 1) (length g.nodes)) (behind k g) (h, ord) (omega arith))
 
 pub address_orders : (a : Part) → Orders a → Orders (address a)
-address_orders a o = orders_goal (λ k g. a (Into Place' k.temp k.next) g) (record { by = λ k g ord h. o.by (Into Place' k.temp k.next) g ord h })
+address_orders a o =
+    orders_goal (λ k g. a (Into Place' k.temp k.next) g)
+    (record { by = λ k g ord h. o.by (Into Place' k.temp k.next) g ord h })
 
 pub comma_orders : (a b : Part) → Orders a → Orders b → Orders (comma a b)
 comma_orders a b oa ob = record {
@@ -147,7 +163,9 @@ conditional_orders c a b oc oa ob = record {
     miss aim g = b aim (a aim g).1
 
     second : (aim : Aim) (g : Growing) → Ordered g.nodes → AimIn (length g.nodes) aim → Placed (a aim g).1 (miss aim g)
-    second aim g ord h = ob.by aim (a aim g).1 (oa.by aim g ord h).ordered (aim_longer aim (length g.nodes) (length (a aim g).1.nodes) (oa.by aim g ord h).longer h)
+    second aim g ord h =
+        ob.by aim (a aim g).1 (oa.by aim g ord h).ordered
+        (aim_longer aim (length g.nodes) (length (a aim g).1.nodes) (oa.by aim g ord h).longer h)
 
 -- where `&&` and `||` go on
 record PlacedSides (g : Growing) (r : Sides × Growing) : Type 0 where
@@ -209,7 +227,8 @@ set_orders : (c : Bool) (left : Want) (p q : Want) (a b : Part) (x y : ℕ → �
 set_orders true left p q a b x y oa ob = two_orders left a p b x oa ob
 set_orders false left p q a b x y oa ob = two_orders left a q b y oa ob
 
-assign_orders : (o : Option BinaryOp) (works : Ty) (a b : Exp) (t : Ty) (l r : Part) → Orders l → Orders r → Orders (assigning o works a b t l r)
+assign_orders : (o : Option BinaryOp) (works : Ty) (a b : Exp) (t : Ty) (l r : Part) → Orders l → Orders r → Orders
+    (assigning o works a b t l r)
 assign_orders None works a b t l r ol or' =
     set_orders (is_scalar t) Place' Value Place' l r
     (λ x y. Assign None works (TempPlace x (type_of a)) (Temp y (type_of b)) t)
@@ -225,7 +244,8 @@ one_or : (c : Bool) (p q : Want) (a : Part) (x y : ℕ → Exp) → Orders a →
 one_or true p q a x y o = one_orders p a x o
 one_or false p q a x y o = one_orders q a y o
 
-index_or : (c : Bool) (l r : Part) (x y : ℕ → ℕ → Exp) → Orders l → Orders r → Orders (if c then two Place' l Value r x else two Value l Value r y)
+index_or : (c : Bool) (l r : Part) (x y : ℕ → ℕ → Exp) → Orders l → Orders r → Orders
+    (if c then two Place' l Value r x else two Value l Value r y)
 index_or true l r x y ol or' = two_orders Place' l Value r x ol or'
 index_or false l r x y ol or' = two_orders Value l Value r y ol or'
 
@@ -240,7 +260,8 @@ unary_orders sign.Not a t l ol = one_orders Value l (λ x. Unary sign.Not (Temp 
 pub record OrdersAll (m : (x next : ℕ) → Build ℕ) : Type 0 where
   pub by : (x next : ℕ) (g : Growing) → Ordered g.nodes → next < length g.nodes → Placed g (m x next g)
 
-called_orders : (c : Bool) (f : Part) (next : ℕ) (g : Growing) → Orders f → Ordered g.nodes → next < length g.nodes → Placed g (called c f next g)
+called_orders : (c : Bool) (f : Part) (next : ℕ) (g : Growing) → Orders f → Ordered g.nodes → next < length g.nodes
+    → Placed g (called c f next g)
 called_orders true f next g o ord h = record { ordered = ord; below = h; longer = omega arith }
 called_orders false f next g o ord h = longer_trans g (fresh 1 g).1 _ (omega arith) (o.by (Into Value g.temps next) (fresh 1 g).1 ord h)
 
@@ -249,16 +270,19 @@ arguments_order : (e : Exp) (es : Exps) (turn : ℕ) → Orders (unroll e turn) 
 arguments_order e es turn o os = record {
   by = λ x next g ord h.
       longer_trans g (unroll_all es turn (x + 1) next g).1 _ (os.by (x + 1) next g ord h).longer
-      (o.by (Into Value x (unroll_all es turn (x + 1) next g).0) (unroll_all es turn (x + 1) next g).1 (os.by (x + 1) next g ord h).ordered (os.by (x + 1) next g ord h).below);
+      (o.by (Into Value x (unroll_all es turn (x + 1) next g).0) (unroll_all es turn (x + 1) next g).1
+      (os.by (x + 1) next g ord h).ordered (os.by (x + 1) next g ord h).below);
 }
 
-call_orders : (q : Place) (f : Exp) (es : Exps) (t : Ty) (turn : ℕ) → Orders (unroll f turn) → OrdersAll (λ x next. unroll_all es turn x next)
+call_orders : (q : Place) (f : Exp) (es : Exps) (t : Ty) (turn : ℕ) → Orders (unroll f turn) → OrdersAll
+    (λ x next. unroll_all es turn x next)
     → Orders (unroll (Call q f es t) turn)
 call_orders q f es t turn o os = orders_goal (λ k g. called (is_name f) (unroll f turn) (arguments k g).0 (arguments k g).1)
     (record {
       by = λ k g ord h.
           longer_trans g (arguments k g).1 _ (omega (arith, (placed k g ord h).longer))
-          (called_orders (is_name f) (unroll f turn) (arguments k g).0 (arguments k g).1 o (placed k g ord h).ordered (placed k g ord h).below);
+          (called_orders (is_name f) (unroll f turn) (arguments k g).0 (arguments k g).1 o (placed k g ord h).ordered
+          (placed k g ord h).below);
     })
   where
     behind : Goal → Growing → Growing
@@ -277,23 +301,33 @@ call_orders q f es t turn o os = orders_goal (λ k g. called (is_name f) (unroll
 
 mutual
   pub expression_orders : (e : Exp) (turn : ℕ) → Orders (unroll e turn)
-  expression_orders (Comma a b t) turn = plainly_orders (Comma a b t) _ (comma_orders (unroll a turn) (unroll b turn) (expression_orders a turn) (expression_orders b turn))
+  expression_orders (Comma a b t) turn =
+      plainly_orders (Comma a b t) _
+      (comma_orders (unroll a turn) (unroll b turn) (expression_orders a turn) (expression_orders b turn))
   expression_orders (Assign o works a b t) turn =
       plainly_orders (Assign o works a b t) (assigning o works a b t (unroll a turn) (unroll b turn))
       (assign_orders o works a b t (unroll a turn) (unroll b turn) (expression_orders a turn) (expression_orders b turn))
   expression_orders (Cond c a b t) turn =
-      conditional_orders (unroll c turn) (unroll a turn) (unroll b turn) (expression_orders c turn) (expression_orders a turn) (expression_orders b turn)
+      conditional_orders (unroll c turn) (unroll a turn) (unroll b turn) (expression_orders c turn)
+      (expression_orders a turn) (expression_orders b turn)
   expression_orders (Binary o a b t) turn =
       plainly_orders (Binary o a b t) (binary o a b t (unroll a turn) (unroll b turn))
-      (binary_orders (is_logical o) o t (unroll a turn) (unroll b turn) (λ x y. Binary o (Temp x (type_of a)) (Temp y (type_of b)) t) (expression_orders a turn) (expression_orders b turn))
+      (binary_orders (is_logical o) o t (unroll a turn) (unroll b turn)
+      (λ x y. Binary o (Temp x (type_of a)) (Temp y (type_of b)) t) (expression_orders a turn)
+      (expression_orders b turn))
   expression_orders (Cast a t) turn =
       plainly_orders (Cast a t) (converted a (λ x. Cast x t) (unroll a turn))
-      (one_or (is_array (type_of a)) Place' Value (unroll a turn) (λ x. Cast (TempPlace x (type_of a)) t) (λ x. Cast (Temp x (type_of a)) t) (expression_orders a turn))
-  expression_orders (Unary o a t) turn = plainly_orders (Unary o a t) (unary o a t (unroll a turn)) (unary_orders o a t (unroll a turn) (expression_orders a turn))
+      (one_or (is_array (type_of a)) Place' Value (unroll a turn) (λ x. Cast (TempPlace x (type_of a)) t)
+      (λ x. Cast (Temp x (type_of a)) t) (expression_orders a turn))
+  expression_orders (Unary o a t) turn =
+      plainly_orders (Unary o a t) (unary o a t (unroll a turn))
+      (unary_orders o a t (unroll a turn) (expression_orders a turn))
   expression_orders (PreInc d a t) turn =
-      plainly_orders (PreInc d a t) _ (one_orders Place' (unroll a turn) (λ x. PreInc d (TempPlace x (type_of a)) t) (expression_orders a turn))
+      plainly_orders (PreInc d a t) _
+      (one_orders Place' (unroll a turn) (λ x. PreInc d (TempPlace x (type_of a)) t) (expression_orders a turn))
   expression_orders (PostInc d a t) turn =
-      plainly_orders (PostInc d a t) _ (one_orders Place' (unroll a turn) (λ x. PostInc d (TempPlace x (type_of a)) t) (expression_orders a turn))
+      plainly_orders (PostInc d a t) _
+      (one_orders Place' (unroll a turn) (λ x. PostInc d (TempPlace x (type_of a)) t) (expression_orders a turn))
   expression_orders (SizeofExpr a n t) turn = plainly_orders (SizeofExpr a n t) _ (kept_orders (SizeofType n t))
   expression_orders (SizeofType n t) turn = kept_orders (SizeofType n t)
   expression_orders (Index a b t) turn =
@@ -302,9 +336,12 @@ mutual
       (λ x y. Index (Temp x (type_of a)) (Temp y (type_of b)) t) (expression_orders a turn) (expression_orders b turn))
   expression_orders (Call q f es t) turn = call_orders q f es t turn (expression_orders f turn) (arguments_orders es turn)
   expression_orders (Field a n true t) turn =
-      plainly_orders (Field a n true t) _ (one_orders Value (unroll a turn) (λ x. Field (Temp x (type_of a)) n true t) (expression_orders a turn))
+      plainly_orders (Field a n true t) _
+      (one_orders Value (unroll a turn) (λ x. Field (Temp x (type_of a)) n true t) (expression_orders a turn))
   expression_orders (Field a n false t) turn =
-      plainly_orders (Field a n false t) _ (one_orders Place' (unroll a turn) (λ x. Field (TempPlace x (type_of a)) n false t) (expression_orders a turn))
+      plainly_orders (Field a n false t) _
+      (one_orders Place' (unroll a turn) (λ x. Field (TempPlace x (type_of a)) n false t)
+      (expression_orders a turn))
   expression_orders (Param n t) turn = kept_orders (Param n t)
   expression_orders (Local n t) turn = kept_orders (Local n t)
   expression_orders (Global n t) turn = kept_orders (Global n t)
@@ -313,7 +350,8 @@ mutual
   expression_orders (Str q t) turn = kept_orders (Str q t)
   expression_orders (Convert a t) turn =
       plainly_orders (Convert a t) (converted a (λ x. Convert x t) (unroll a turn))
-      (one_or (is_array (type_of a)) Place' Value (unroll a turn) (λ x. Convert (TempPlace x (type_of a)) t) (λ x. Convert (Temp x (type_of a)) t) (expression_orders a turn))
+      (one_or (is_array (type_of a)) Place' Value (unroll a turn) (λ x. Convert (TempPlace x (type_of a)) t)
+      (λ x. Convert (Temp x (type_of a)) t) (expression_orders a turn))
   expression_orders (Temp n t) turn = kept_orders nothing
   expression_orders (TempPlace n t) turn = one_orders Value (kept nothing) (λ x. TempPlace x t) (kept_orders nothing)
 

@@ -31,7 +31,8 @@ tests_order : (e : Exp) (turn : ℕ) (q : Pos) (x : Bool → What) → TestOrder
 tests_order e turn q x = record {
   by = λ hit miss g ord h m.
       longer_trans g (marks hit miss g) _ (omega arith)
-      ((expression_orders e turn).by (Test (length g.nodes) (suc (length g.nodes))) (marks hit miss g) (omega (arith, m), (h, ord)) (omega arith, omega arith));
+      ((expression_orders e turn).by (Test (length g.nodes) (suc (length g.nodes))) (marks hit miss g)
+      (omega (arith, m), (h, ord)) (omega arith, omega arith));
 }
   where
     marks : (hit miss : ℕ) → Growing → Growing
@@ -43,7 +44,8 @@ test_if_orders (Some e) turn q = tests_order e turn q what.Loop
 
 drop_orders : (e : Exp) (turn : ℕ) → ThenOrders (dropped (unroll e turn))
 drop_orders e turn = record {
-  by = λ next g ord h. longer_trans g (fresh 1 g).1 _ (omega arith) ((expression_orders e turn).by (Into Value g.temps next) (fresh 1 g).1 ord h);
+  by = λ next g ord h. longer_trans g (fresh 1 g).1 _ (omega arith)
+      ((expression_orders e turn).by (Into Value g.temps next) (fresh 1 g).1 ord h);
 }
 
 drop_if_orders : (e : Option Exp) (turn : ℕ) → ThenOrders (dropped_if e turn)
@@ -53,7 +55,8 @@ drop_if_orders (Some e) turn = drop_orders e turn
 -- a node that reads a kept value, and the value
 behind_node : (n : Node) (m : Part) (want : Want) (x : ℕ) (g : Growing) → Orders m → Ordered (n ∷ g.nodes)
     → Placed g (m (Into want x (length g.nodes)) (put n g).1)
-behind_node n m want x g o ord = longer_trans g (put n g).1 _ (omega arith) (o.by (Into want x (length g.nodes)) (put n g).1 ord (omega arith))
+behind_node n m want x g o ord =
+    longer_trans g (put n g).1 _ (omega arith) (o.by (Into want x (length g.nodes)) (put n g).1 ord (omega arith))
 
 set_hard : (c : Bool) (n : ℕ) (e : Exp) (m : Part) (x next : ℕ) (g : Growing) → Orders m → Ordered g.nodes → next < length g.nodes
     → Placed g ((if c then (put (Set n (Temp x (type_of e)) next) >>= λ at. m (Into Value x at)) else
@@ -67,7 +70,8 @@ set_orders : (c : Bool) (n : ℕ) (e : Exp) (m : Part) → Orders m
     (put (Set n (TempPlace x (type_of e)) next) >>= λ at. m (Into Place' x at))))
 set_orders true n e m o = record { by = λ next g ord h. record { ordered = (h, ord); below = omega arith; longer = omega arith } }
 set_orders false n e m o = record {
-  by = λ next g ord h. longer_trans g (fresh 1 g).1 _ (omega arith) (set_hard (is_scalar (type_of e)) n e m g.temps next (fresh 1 g).1 o ord h);
+  by = λ next g ord h. longer_trans g (fresh 1 g).1 _ (omega arith)
+      (set_hard (is_scalar (type_of e)) n e m g.temps next (fresh 1 g).1 o ord h);
 }
 
 cells_hard : (c : Bool) (n : ℕ) (e : Exp) (m : Part) (x next : ℕ) (g : Growing) → Orders m → Ordered g.nodes → next < length g.nodes
@@ -82,14 +86,16 @@ cells_order : (c : Bool) (n : ℕ) (e : Exp) (m : Part) → Orders m
     (put (KeepCells n (TempPlace x (type_of e)) next) >>= λ at. m (Into Place' x at))))
 cells_order true n e m o = record { by = λ next g ord h. record { ordered = (h, ord); below = omega arith; longer = omega arith } }
 cells_order false n e m o = record {
-  by = λ next g ord h. longer_trans g (fresh 1 g).1 _ (omega arith) (cells_hard (is_scalar (type_of e)) n e m g.temps next (fresh 1 g).1 o ord h);
+  by = λ next g ord h. longer_trans g (fresh 1 g).1 _ (omega arith)
+      (cells_hard (is_scalar (type_of e)) n e m g.temps next (fresh 1 g).1 o ord h);
 }
 
 -- one step in front of another
 then_orders : (first second : (next : ℕ) → Build ℕ) → ThenOrders first → ThenOrders second → ThenOrders (λ next. second next >>= first)
 then_orders first second a b = record {
   by = λ next g ord h.
-      longer_trans g (second next g).1 _ (b.by next g ord h).longer (a.by (second next g).0 (second next g).1 (b.by next g ord h).ordered (b.by next g ord h).below);
+      longer_trans g (second next g).1 _ (b.by next g ord h).longer
+      (a.by (second next g).0 (second next g).1 (b.by next g ord h).ordered (b.by next g ord h).below);
 }
 
 all_cells_order : (xs : List Given) (turn n : ℕ) → ThenOrders (λ next. all_kept xs turn n next)
@@ -101,7 +107,8 @@ all_cells_order (x ∷ xs) turn n =
 fill_orders : (n : ℕ) (xs : List Given) (turn : ℕ) → ThenOrders (filled_by n xs turn)
 fill_orders n xs turn = record {
   by = λ next g ord h.
-      longer_trans g (behind next g) _ (omega arith) ((all_cells_order xs turn g.slots).by (length g.nodes) (behind next g) (h, ord) (omega arith));
+      longer_trans g (behind next g) _ (omega arith)
+      ((all_cells_order xs turn g.slots).by (length g.nodes) (behind next g) (h, ord) (omega arith));
 }
   where
     behind : (next : ℕ) → Growing → Growing
@@ -123,7 +130,8 @@ declared_orders declared.Function x turn = itself_orders
 declarators_order : (ds : List Dec) (turn : ℕ) → ThenOrders (declarators ds turn)
 declarators_order [] turn = itself_orders
 declarators_order (d ∷ ds) turn =
-    then_orders (λ at. declared_by d.declared d.init turn at) (λ next. declarators ds turn next) (declared_orders d.declared d.init turn) (declarators_order ds turn)
+    then_orders (λ at. declared_by d.declared d.init turn at) (λ next. declarators ds turn next)
+    (declared_orders d.declared d.init turn) (declarators_order ds turn)
 
 start_orders : (f : Start) (turn : ℕ) → ThenOrders (started f turn)
 start_orders NoStart turn = itself_orders
@@ -178,7 +186,9 @@ while_orders test body rest ot ob or' = record {
 turns_order : (left t : ℕ) (test : ℕ → (hit miss : ℕ) → Build ℕ) (body : ℕ → Piece)
     → ((t : ℕ) → TestOrders (test t)) → ((t : ℕ) → PieceOrders (body t)) → PieceOrders (while_turns left t test body)
 turns_order zero t test body ot ob = last_orders (test t) (ot t)
-turns_order (suc more) t test body ot ob = while_orders (test t) (body t) (while_turns more (t + 1) test body) (ot t) (ob t) (turns_order more (t + 1) test body ot ob)
+turns_order (suc more) t test body ot ob =
+    while_orders (test t) (body t) (while_turns more (t + 1) test body) (ot t) (ob t)
+    (turns_order more (t + 1) test body ot ob)
 
 do_orders : (test : (hit miss : ℕ) → Build ℕ) (body rest : Piece) → TestOrders test → PieceOrders body → PieceOrders rest
     → PieceOrders (do_turn test body rest)
@@ -186,7 +196,8 @@ do_orders test body rest ot ob or' = record {
   by = λ k g ord t.
       longer_trans g (tests k g).1 _ (omega (arith, (or'.by k g ord t).longer, (placed k g ord t).longer))
       (ob.by (in_loop k (tests k g).0) (tests k g).1 (placed k g ord t).ordered
-      (in_loop_in (tests k g).0 (placed k g ord t).below (in_more (omega (arith, (or'.by k g ord t).longer, (placed k g ord t).longer)) t)));
+      (in_loop_in (tests k g).0 (placed k g ord t).below
+      (in_more (omega (arith, (or'.by k g ord t).longer, (placed k g ord t).longer)) t)));
 }
   where
     tests : Targets → Build ℕ
@@ -194,12 +205,16 @@ do_orders test body rest ot ob or' = record {
 
     placed : (k : Targets) (g : Growing) → Ordered g.nodes → TargetsIn (length g.nodes) k → Placed (rest k g).1 (tests k g)
     placed k g ord t =
-        ot.by (rest k g).0 k.next (rest k g).1 (or'.by k g ord t).ordered (or'.by k g ord t).below (omega (arith, t.next, (or'.by k g ord t).longer))
+        ot.by (rest k g).0 k.next (rest k g).1 (or'.by k g ord t).ordered (or'.by k g ord t).below
+        (omega (arith, t.next, (or'.by k g ord t).longer))
 
 do_turns_order : (left t : ℕ) (test : ℕ → (hit miss : ℕ) → Build ℕ) (body : ℕ → Piece)
     → ((t : ℕ) → TestOrders (test t)) → ((t : ℕ) → PieceOrders (body t)) → PieceOrders (do_turns left t test body)
-do_turns_order zero t test body ot ob = record { by = λ k g ord t. record { ordered = (tt, ord); below = omega arith; longer = omega arith } }
-do_turns_order (suc more) t test body ot ob = do_orders (test t) (body t) (do_turns more (t + 1) test body) (ot t) (ob t) (do_turns_order more (t + 1) test body ot ob)
+do_turns_order zero t test body ot ob =
+    record { by = λ k g ord t. record { ordered = (tt, ord); below = omega arith; longer = omega arith } }
+do_turns_order (suc more) t test body ot ob =
+    do_orders (test t) (body t) (do_turns more (t + 1) test body) (ot t) (ob t)
+    (do_turns_order more (t + 1) test body ot ob)
 
 step_orders : (body : Piece) (step : (next : ℕ) → Build ℕ) → PieceOrders body → ThenOrders step → PieceOrders (with_step body step)
 step_orders body step ob os = record {
@@ -256,7 +271,8 @@ cases_of_in Continue at m cs h x = x
 cases_of_in (Return q e) at m cs h x = x
 cases_of_in (Label n y) at m cs h x = x
 
-default_below : (d : Option ℕ) (other m n : ℕ) → other < n → m ≤ n → ((other : ℕ) → other < m → node_or other d < m) → 0 < m → node_or other d < n
+default_below : (d : Option ℕ) (other m n : ℕ) → other < n → m ≤ n → ((other : ℕ) → other < m → node_or other d < m)
+    → 0 < m → node_or other d < n
 default_below None other m n h l f p = h
 default_below (Some at) other m n h l f p = omega (arith, l, f 0 p)
 
@@ -269,7 +285,8 @@ item_orders x part items op ob = record {
     longer = omega (arith, (ob.by k g ord t).longer, (placed k g ord t).longer);
     label = λ n.
         subst (λ at. at < length (begins k g).1.nodes) (sym (look_labels n x (begins k g).0 k.lost (items k g).0.labels))
-        (one_below (has_label n x) (begins k g).0 (look n (items k g).0.labels k.lost) (length (begins k g).1.nodes) (placed k g ord t).below
+        (one_below (has_label n x) (begins k g).0 (look n (items k g).0.labels k.lost) (length (begins k g).1.nodes)
+        (placed k g ord t).below
         (omega (arith, (ob.by k g ord t).label n, (placed k g ord t).longer)));
     cases = cases_of_in x (begins k g).0 (length (begins k g).1.nodes) (items k g).0.cases (placed k g ord t).below
         (cases_more (items k g).0.cases (placed k g ord t).longer (ob.by k g ord t).cases);
@@ -293,12 +310,15 @@ item_orders x part items op ob = record {
           label = (ob.by k g ord t).label;
         })
 
-    defaults : (k : Targets) (g : Growing) → Ordered g.nodes → TargetsIn (length g.nodes) k → (other : ℕ) → other < length (begins k g).1.nodes
+    defaults : (k : Targets) (g : Growing) → Ordered g.nodes → TargetsIn (length g.nodes) k → (other : ℕ)
+        → other < length (begins k g).1.nodes
         → node_or other (default_of x (begins k g).0 (items k g).0.default) < length (begins k g).1.nodes
     defaults k g ord t other h =
         subst (λ at. at < length (begins k g).1.nodes) (sym (default_node x (begins k g).0 other (items k g).0.default))
-        (one_below (is_default x) (begins k g).0 (node_or other (items k g).0.default) (length (begins k g).1.nodes) (placed k g ord t).below
-        (default_below (items k g).0.default other (length (items k g).1.nodes) (length (begins k g).1.nodes) h (placed k g ord t).longer (ob.by k g ord t).default (omega (arith, (ob.by k g ord t).below))))
+        (one_below (is_default x) (begins k g).0 (node_or other (items k g).0.default) (length (begins k g).1.nodes)
+        (placed k g ord t).below
+        (default_below (items k g).0.default other (length (items k g).1.nodes) (length (begins k g).1.nodes) h
+        (placed k g ord t).longer (ob.by k g ord t).default (omega (arith, (ob.by k g ord t).below))))
 
 chain_orders : (t : ℕ) (cs : List Chosen) (other : ℕ) (g : Growing) → Ordered g.nodes → CasesIn (length g.nodes) cs → other < length g.nodes
     → Placed g (chain t cs other g)
@@ -313,7 +333,8 @@ chain_orders t (c ∷ cs) other g ord cases h =
       longer = omega (arith, (chain_orders t cs other g ord cases.1 h).longer);
     }
 
-switch_orders : (e : Exp) (turn : ℕ) (q : Pos) (items : Targets → Build Opened) → BlockOrders items → PieceOrders (switched (unroll e turn) q e items)
+switch_orders : (e : Exp) (turn : ℕ) (q : Pos) (items : Targets → Build Opened) → BlockOrders items → PieceOrders
+    (switched (unroll e turn) q e items)
 switch_orders e turn q items o = record {
   by = λ k g ord t.
       longer_trans g (marked k g) _ (omega (arith, (block k g ord t).longer, (placed k g ord t).longer))
@@ -342,11 +363,20 @@ switch_orders e turn q items o = record {
     placed : (k : Targets) (g : Growing) → Ordered g.nodes → TargetsIn (length g.nodes) k → Placed (items (inner k) g).1 (first k g)
     placed k g ord t =
         longer_trans (items (inner k) g).1 (fresh 1 (items (inner k) g).1).1 _ (omega arith)
-        (chain_orders (temp_of k g) (items (inner k) g).0.cases (other k g) (fresh 1 (items (inner k) g).1).1 (block k g ord t).ordered (block k g ord t).cases
+        (chain_orders (temp_of k g) (items (inner k) g).0.cases (other k g) (fresh 1 (items (inner k) g).1).1
+        (block k g ord t).ordered (block k g ord t).cases
         ((block k g ord t).default k.next (omega (arith, t.next, (block k g ord t).longer))))
 
 return_orders : (e : Option Exp) (turn : ℕ) (q : Pos) → PieceOrders (λ k. returning e turn q)
-return_orders None turn q = record { by = λ k g ord t. record { ordered = (omega arith, (tt, ord)); below = omega arith; longer = omega arith } }
+return_orders None turn q =
+    record {
+      by = λ k g ord t. record {
+        ordered =
+            (omega arith, (tt, ord));
+        below = omega arith;
+        longer = omega arith;
+      };
+    }
 return_orders (Some e) turn q = record {
   by = λ k g ord t.
       longer_trans g (out g) _ (omega arith)
@@ -383,7 +413,8 @@ then_piece m o = record { by = λ k g ord t. o.by k.next g ord t.next }
 for_orders : (loop : Piece) (start : (next : ℕ) → Build ℕ) → PieceOrders loop → ThenOrders start → PieceOrders (λ k. loop k >>= start)
 for_orders loop start ol os = record {
   by = λ k g ord t.
-      longer_trans g (loop k g).1 _ (ol.by k g ord t).longer (os.by (loop k g).0 (loop k g).1 (ol.by k g ord t).ordered (ol.by k g ord t).below);
+      longer_trans g (loop k g).1 _ (ol.by k g ord t).longer
+      (os.by (loop k g).0 (loop k g).1 (ol.by k g ord t).ordered (ol.by k g ord t).below);
 }
 
 module _ (depth : ℕ) where
@@ -399,9 +430,12 @@ module _ (depth : ℕ) where
     statement_orders (Decl ds) turn = then_piece (declarators ds turn) (declarators_order ds turn)
     statement_orders (Evaluate e) turn = then_piece (dropped_if e turn) (drop_if_orders e turn)
     statement_orders (If q e x) turn = if_orders q e turn (unroll_stm depth x turn) (statement_orders x turn)
-    statement_orders (IfElse q e x y) turn = if_else_orders q e turn (unroll_stm depth x turn) (unroll_stm depth y turn) (statement_orders x turn) (statement_orders y turn)
+    statement_orders (IfElse q e x y) turn =
+        if_else_orders q e turn (unroll_stm depth x turn) (unroll_stm depth y turn) (statement_orders x turn)
+        (statement_orders y turn)
     statement_orders (While q e x) turn =
-        turns_order depth 0 (λ t. tested (unroll e (turn_of turn (depth + 1) t)) q what.Loop) (λ t. unroll_stm depth x (turn_of turn depth t))
+        turns_order depth 0 (λ t. tested (unroll e (turn_of turn (depth + 1) t)) q what.Loop)
+        (λ t. unroll_stm depth x (turn_of turn depth t))
         (λ t. tests_order e (turn_of turn (depth + 1) t) q what.Loop) (λ t. statement_orders x (turn_of turn depth t))
     statement_orders (Do q x e) turn =
         do_turns_order depth 0 (λ t. tested (unroll e (turn_of turn depth t)) q what.Loop) (λ t. unroll_stm depth x (turn_of turn depth t))
@@ -414,13 +448,15 @@ module _ (depth : ℕ) where
         (turns_order depth 0 (λ t. test_or_true c (turn_of turn (depth + 1) t) q)
         (λ t. with_step (unroll_stm depth x (turn_of turn depth t)) (dropped_if n (turn_of turn depth t)))
         (λ t. test_if_orders c (turn_of turn (depth + 1) t) q)
-        (λ t. step_orders (unroll_stm depth x (turn_of turn depth t)) (dropped_if n (turn_of turn depth t)) (statement_orders x (turn_of turn depth t))
+        (λ t. step_orders (unroll_stm depth x (turn_of turn depth t)) (dropped_if n (turn_of turn depth t))
+        (statement_orders x (turn_of turn depth t))
         (drop_if_orders n (turn_of turn depth t))))
         (start_orders f turn)
     statement_orders (Switch q e xs) turn = switch_orders e turn q (unroll_stms depth xs turn) (block_orders xs turn)
     statement_orders (Case n e) turn = record { by = λ k g ord t. placed_itself k.next g ord t.next }
     statement_orders Default turn = record { by = λ k g ord t. placed_itself k.next g ord t.next }
-    statement_orders (Goto q n) turn = record { by = λ k g ord t. record { ordered = (t.label n, ord); below = omega arith; longer = omega arith } }
+    statement_orders (Goto q n) turn =
+        record { by = λ k g ord t. record { ordered = (t.label n, ord); below = omega arith; longer = omega arith } }
     statement_orders Break turn = record { by = λ k g ord t. placed_itself k.leave g ord t.leave }
     statement_orders Continue turn = record { by = λ k g ord t. placed_itself k.again g ord t.again }
     statement_orders (Return q e) turn = return_orders e turn q
@@ -437,4 +473,6 @@ module _ (depth : ℕ) where
         default = λ other h. h;
       };
     }
-    block_orders (Stms' x xs) turn = item_orders x (unroll_stm depth x turn) (unroll_stms depth xs turn) (statement_orders x turn) (block_orders xs turn)
+    block_orders (Stms' x xs) turn =
+        item_orders x (unroll_stm depth x turn) (unroll_stms depth xs turn) (statement_orders x turn)
+        (block_orders xs turn)

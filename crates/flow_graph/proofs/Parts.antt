@@ -65,7 +65,13 @@ module _ (s : Source) (p : Layout) (choice : List Bool) (v : ℕ → Kept → Ru
   grows_refl g = record { fits = λ f. f; temps = omega arith; slots = omega arith }
 
   pub grows_trans : {f g h : Growing} → Grows f g → Grows g h → Grows f h
-  grows_trans x y = record { fits = λ z. x.fits (y.fits z); temps = omega (arith, x.temps, y.temps); slots = omega (arith, x.slots, y.slots) }
+  grows_trans x y =
+      record {
+        fits = λ z. x.fits (y.fits z);
+        temps = omega (arith, x.temps, y.temps);
+        slots = omega
+            (arith, x.slots, y.slots);
+      }
 
   pub grows_put : (n : Node) (g : Growing) → Grows g (put n g).1
   grows_put n g = record { fits = λ z. z.1; temps = omega arith; slots = omega arith }
@@ -133,7 +139,9 @@ module _ (s : Source) (p : Layout) (choice : List Bool) (v : ℕ → Kept → Ru
     where
       grows : (aim : Aim) (g : Growing) → Grows g (aimed m aim g).1
       grows (Into want t next) g = q.grows (in_goal want t next) g
-      grows (Test hit miss) g = grows_trans (grows_branch hit miss g) (q.grows (in_goal Value g.temps (length g.nodes)) (at_branch hit miss g))
+      grows (Test hit miss) g =
+          grows_trans (grows_branch hit miss g)
+          (q.grows (in_goal Value g.temps (length g.nodes)) (at_branch hit miss g))
 
       by : (aim : Aim) (g : Growing) (b : ℕ) → b ≤ g.temps → Apt b aim → Fits (aimed m aim g).1.nodes
           → (k : Kept) (f : Cell → Run Cell) → Reaches aim b k f → (w : World)

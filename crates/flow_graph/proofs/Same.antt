@@ -39,9 +39,12 @@ module _ (s : Source) (p : Layout) (choice : List Bool) (k : Kept) (turn : ℕ) 
       → counted (reads s p choice k) d t c w ≡ counted (in_tree s p choice turn) d t c w
   counted_same d t c w =
       goes_cong _ _ _ _
-      (ap (λ x. operated (reads s p choice k) (one_step d) (promoted_type t) (promoted_type t) x (Num (int_bits s.widths (promoted_type t)) 1) w)
+      (ap (λ x. operated (reads s p choice k) (one_step d) (promoted_type t) (promoted_type t) x
+      (Num (int_bits s.widths (promoted_type t)) 1) w)
       (convert_same t (promoted_type t) c)
-      ∙ ap (λ m. m w) (operated_same (one_step d) (promoted_type t) (promoted_type t) (convert (in_tree s p choice turn) t (promoted_type t) c)
+      ∙ ap (λ m. m w)
+      (operated_same (one_step d) (promoted_type t) (promoted_type t)
+      (convert (in_tree s p choice turn) t (promoted_type t) c)
       (Num (int_bits s.widths (promoted_type t)) 1)))
       (λ v w'. ap (λ x. done x w') (convert_same (promoted_type t) t v))
 

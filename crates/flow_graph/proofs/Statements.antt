@@ -46,14 +46,18 @@ module _ (s : Source) (p : Layout) (choice : List Bool) (v : ℕ → Kept → Ru
     if_does q e x part f = record {
       grows = λ k g. grows_trans s p choice v (f.grows k g) ((tests s p choice v turn e q what.If).grows (part k g).0 k.next (part k g).1);
       by = λ k g fits go m kept w.
-          (tests s p choice v turn e q what.If).by (part k g).0 k.next (part k g).1 fits (λ c. (if c then exec x tree else done Next) >>= go)
+          (tests s p choice v turn e q what.If).by (part k g).0 k.next (part k g).1 fits
+          (λ c. (if c then exec x tree else done Next) >>= go)
           (f.by k g (((tests s p choice v turn e q what.If).grows (part k g).0 k.next (part k g).1).fits fits) go m)
           (λ k' u. m.next k' u) kept w
           ∙ sym (goes_assoc (condition q what.If e tree w) (λ c. if c then exec x tree else done Next) go);
     }
 
-    if_else_does : (q : Pos) (e : Exp) (x y : Stm) (hit miss : Piece) → Follows s p choice v hit (exec x tree) → Follows s p choice v miss (exec y tree)
-        → Follows s p choice v (λ k g. tested (unroll e turn) q what.If (hit k g).0 (miss k (hit k g).1).0 (miss k (hit k g).1).1) (exec (IfElse q e x y) tree)
+    if_else_does : (q : Pos) (e : Exp) (x y : Stm) (hit miss : Piece) → Follows s p choice v hit (exec x tree)
+        → Follows s p choice v miss (exec y tree)
+        → Follows s p choice v
+        (λ k g. tested (unroll e turn) q what.If (hit k g).0 (miss k (hit k g).1).0 (miss k (hit k g).1).1)
+        (exec (IfElse q e x y) tree)
     if_else_does q e x y hit miss f h = record {
       grows = λ k g. grows_trans s p choice v (f.grows k g) (grows_trans s p choice v (h.grows k (hit k g).1) (grows_test k g));
       by = λ k g fits go m kept w.
@@ -65,7 +69,8 @@ module _ (s : Source) (p : Layout) (choice : List Bool) (v : ℕ → Kept → Ru
     }
       where
         grows_test : (k : Targets) (g : Growing)
-            → Grows s p choice v (miss k (hit k g).1).1 (tested (unroll e turn) q what.If (hit k g).0 (miss k (hit k g).1).0 (miss k (hit k g).1).1).1
+            → Grows s p choice v (miss k (hit k g).1).1
+            (tested (unroll e turn) q what.If (hit k g).0 (miss k (hit k g).1).0 (miss k (hit k g).1).1).1
         grows_test k g = (tests s p choice v turn e q what.If).grows (hit k g).0 (miss k (hit k g).1).0 (miss k (hit k g).1).1
 
     return_does : (q : Pos) (e : Option Exp) → Follows s p choice v (λ k. returning e turn q) (return_value q e tree)
@@ -73,10 +78,12 @@ module _ (s : Source) (p : Layout) (choice : List Bool) (v : ℕ → Kept → Ru
       grows = λ k g. record { fits = λ z. z.1.1; temps = omega arith; slots = omega arith };
       by = λ k g fits go m kept w.
           fits.0.by kept w
-          ∙ goes_ext (event q what.Return w) (λ _. v (length g.nodes) kept) (λ _. go (Returns Nothing)) (λ y u. fits.1.0.by kept u ∙ sym (m.returns Nothing u));
+          ∙ goes_ext (event q what.Return w) (λ _. v (length g.nodes) kept) (λ _. go (Returns Nothing))
+          (λ y u. fits.1.0.by kept u ∙ sym (m.returns Nothing u));
     }
     return_does q (Some e) = record {
-      grows = λ k g. grows_trans s p choice v (grows_out g) ((does s p choice v turn e).grows (Into Value g.temps (suc (length g.nodes))) (out g));
+      grows = λ k g. grows_trans s p choice v (grows_out g)
+          ((does s p choice v turn e).grows (Into Value g.temps (suc (length g.nodes))) (out g));
       by = λ k g fits go m kept w.
           (does s p choice v turn e).by (Into Value g.temps (suc (length g.nodes))) (out g) 0 (omega arith) (omega arith) fits kept
           (λ c. event q what.Return >>= λ _. go (Returns c))
@@ -97,7 +104,8 @@ module _ (s : Source) (p : Layout) (choice : List Bool) (v : ℕ → Kept → Ru
         grows_out g = record { fits = λ z. z.1.1; temps = omega arith; slots = omega arith }
 
   for_does : (turn : ℕ) (q : Pos) (f : Start) (c n : Option Exp) (x : Stm)
-      → ((t : ℕ) → Follows s p choice v (unroll_stm s.depth x (turn_of turn s.depth t)) (exec x (in_tree s p choice (turn_of turn s.depth t))))
+      → ((t : ℕ) → Follows s p choice v (unroll_stm s.depth x (turn_of turn s.depth t))
+      (exec x (in_tree s p choice (turn_of turn s.depth t))))
       → Follows s p choice v (unroll_stm s.depth (For q f c n x) turn) (exec (For q f c n x) (in_tree s p choice turn))
   for_does turn q f c n x bodies = record {
     grows = λ k g. grows_trans s p choice v (loop.grows k g) ((starts s p choice v turn f).grows (turned k g).0 (turned k g).1);
@@ -121,7 +129,8 @@ module _ (s : Source) (p : Layout) (choice : List Bool) (v : ℕ → Kept → Ru
           (λ t. unrolled.with_step (unroll_stm s.depth x (turn_of turn s.depth t)) (dropped_if n (turn_of turn s.depth t)))
           (λ t. exec x (in_tree s p choice (turn_of turn s.depth t)) >>= λ f. with_step n (in_tree s p choice (turn_of turn s.depth t)) f)
           (λ t. any_turn (tests_if s p choice v (turn_of turn (s.depth + 1) t) c q))
-          (λ t. step_does s p choice v turn (unroll_stm s.depth x (turn_of turn s.depth t)) (exec x (in_tree s p choice (turn_of turn s.depth t)))
+          (λ t. step_does s p choice v turn (unroll_stm s.depth x (turn_of turn s.depth t))
+          (exec x (in_tree s p choice (turn_of turn s.depth t)))
           (dropped_if n (turn_of turn s.depth t)) n (in_tree s p choice (turn_of turn s.depth t)) (bodies t)
           (any_then (drops_if s p choice v (turn_of turn s.depth t) n)))
 
@@ -134,7 +143,9 @@ module _ (s : Source) (p : Layout) (choice : List Bool) (v : ℕ → Kept → Ru
     stm_does (Decl ds) turn = then_does turn (declarators ds turn) _ (declares_all s p choice v turn ds)
     stm_does (Evaluate e) turn = then_does turn (dropped_if e turn) _ (drops_if s p choice v turn e)
     stm_does (If q e x) turn = if_does turn q e x (unroll_stm s.depth x turn) (stm_does x turn)
-    stm_does (IfElse q e x y) turn = if_else_does turn q e x y (unroll_stm s.depth x turn) (unroll_stm s.depth y turn) (stm_does x turn) (stm_does y turn)
+    stm_does (IfElse q e x y) turn =
+        if_else_does turn q e x y (unroll_stm s.depth x turn) (unroll_stm s.depth y turn) (stm_does x turn)
+        (stm_does y turn)
     stm_does (While q e x) turn =
         turns_do s p choice v turn s.depth 0 _ _ _ _
         (λ t. any_turn (tests s p choice v (turn_of turn (s.depth + 1) t) e q what.Loop)) (λ t. stm_does x (turn_of turn s.depth t))
@@ -148,7 +159,8 @@ module _ (s : Source) (p : Layout) (choice : List Bool) (v : ℕ → Kept → Ru
     stm_does (Goto q n) turn = record {
       grows = λ k g. grows_put s p choice v (Mark q (what.Goto n) (unrolled.look n k.labels k.lost)) g;
       by = λ k g fits go m kept w.
-          fits.0.by kept w ∙ goes_ext (event q (what.Goto n) w) (λ _. v (unrolled.look n k.labels k.lost) kept) (λ _. go (GoesTo n)) (λ y u. m.label n kept u);
+          fits.0.by kept w ∙ goes_ext (event q (what.Goto n) w) (λ _. v (unrolled.look n k.labels k.lost) kept)
+          (λ _. go (GoesTo n)) (λ y u. m.label n kept u);
     }
     stm_does Break turn = record { grows = λ k g. grows_refl s p choice v g; by = λ k g fits go m kept w. m.leave kept w }
     stm_does Continue turn = record { grows = λ k g. grows_refl s p choice v g; by = λ k g fits go m kept w. m.again kept w }
@@ -158,4 +170,5 @@ module _ (s : Source) (p : Layout) (choice : List Bool) (v : ℕ → Kept → Ru
     pub stms_open : (xs : Stms) (turn : ℕ) → Opens s p choice v (in_tree s p choice turn) (unroll_stms s.depth xs turn) xs
     stms_open NoStms turn = opens_nothing s p choice v (in_tree s p choice turn)
     stms_open (Stms' x xs) turn =
-        opens_item s p choice v (in_tree s p choice turn) x xs (unroll_stm s.depth x turn) (unroll_stms s.depth xs turn) (stm_does x turn) (stms_open xs turn)
+        opens_item s p choice v (in_tree s p choice turn) x xs (unroll_stm s.depth x turn) (unroll_stms s.depth xs turn)
+        (stm_does x turn) (stms_open xs turn)

@@ -44,7 +44,8 @@ module _ (s : Source) (p : Layout) (choice : List Bool) (v : ℕ → Kept → Ru
     pub by : (hit miss : ℕ) (g : Growing) → Fits s p choice v (m hit miss g).1.nodes → (rest : Bool → Run Cell)
         → GoesOn hit (rest true) → GoesOn miss (rest false) → GoesOn (m hit miss g).0 (test >>= rest)
 
-  chosen : (c : Bool) (hit miss : ℕ) (rest : Bool → Run Cell) → GoesOn hit (rest true) → GoesOn miss (rest false) → GoesOn (if c then hit else miss) (rest c)
+  chosen : (c : Bool) (hit miss : ℕ) (rest : Bool → Run Cell) → GoesOn hit (rest true) → GoesOn miss (rest false)
+      → GoesOn (if c then hit else miss) (rest c)
   chosen true hit miss rest h m = h
   chosen false hit miss rest h m = m
 
@@ -67,8 +68,10 @@ module _ (s : Source) (p : Layout) (choice : List Bool) (v : ℕ → Kept → Ru
         (record {
           goes = λ new c w' a told.
               chosen (is_true c) (length g.nodes) (suc (length g.nodes)) (with_event q x rest)
-              (λ k' u. ((grows_last hit miss g).fits fits).1.0.by k' u ∙ goes_ext (event q (x true) u) (λ _. v hit k') (λ _. rest true) (λ y u'. h k' u'))
-              (λ k' u. ((grows_last hit miss g).fits fits).0.by k' u ∙ goes_ext (event q (x false) u) (λ _. v miss k') (λ _. rest false) (λ y u'. m k' u'))
+              (λ k' u. ((grows_last hit miss g).fits fits).1.0.by k' u ∙ goes_ext (event q (x true) u) (λ _. v hit k')
+              (λ _. rest true) (λ y u'. h k' u'))
+              (λ k' u. ((grows_last hit miss g).fits fits).0.by k' u ∙ goes_ext (event q (x false) u) (λ _. v miss k')
+              (λ _. rest false) (λ y u'. m k' u'))
               new w';
         }) w
         ∙ sym (goes_assoc (eval e Value tree w) (λ c. event q (x (is_true c)) >>= λ _. done (is_true c)) rest);
@@ -84,13 +87,15 @@ module _ (s : Source) (p : Layout) (choice : List Bool) (v : ℕ → Kept → Ru
   tests_if (Some e) q = tests e q what.Loop
   tests_if None q = record {
     grows = λ hit miss g. grows_put s p choice v (Mark q (what.Loop true) hit) g;
-    by = λ hit miss g fits rest h m k w. fits.0.by k w ∙ goes_ext (event q (what.Loop true) w) (λ _. v hit k) (λ _. rest true) (λ y u. h k u);
+    by = λ hit miss g fits rest h m k w. fits.0.by k w ∙ goes_ext (event q (what.Loop true) w) (λ _. v hit k)
+        (λ _. rest true) (λ y u. h k u);
   }
 
   -- dropped values
   pub drops : (e : Exp) → Then (dropped (unroll e turn)) (eval e Value tree >>= λ x. done tt)
   drops e = record {
-    grows = λ next g. grows_trans s p choice v (grows_fresh s p choice v 1 g) ((does s p choice v turn e).grows (Into Value g.temps next) (fresh 1 g).1);
+    grows = λ next g. grows_trans s p choice v (grows_fresh s p choice v 1 g)
+        ((does s p choice v turn e).grows (Into Value g.temps next) (fresh 1 g).1);
     by = λ next g fits rest goes k w.
         (does s p choice v turn e).by (Into Value g.temps next) (fresh 1 g).1 0 (omega arith) (omega arith) fits k (λ _. rest)
         (record { goes = λ new c w' a told. goes new w' }) w
@@ -106,11 +111,14 @@ module _ (s : Source) (p : Layout) (choice : List Bool) (v : ℕ → Kept → Ru
       → initialise (local_at s p choice n) (One e) (reads s p choice k) w ≡ initialise (local_at s p choice n) (One e) tree w
   initial_same n e h k w =
       choose_ext (is_scalar (type_of e))
-      (eval e Value (reads s p choice k) >>= λ x. store (local_at s p choice n) x) (eval e Value tree >>= λ x. store (local_at s p choice n) x)
+      (eval e Value (reads s p choice k) >>= λ x. store (local_at s p choice n) x)
+      (eval e Value tree >>= λ x. store (local_at s p choice n) x)
       (eval e Place' (reads s p choice k) >>= λ x. copy (reads s p choice k) (place_of x) (local_at s p choice n))
       (eval e Place' tree >>= λ x. copy tree (place_of x) (local_at s p choice n)) w
-      (goes_cong _ _ (λ x. store (local_at s p choice n) x) (λ x. store (local_at s p choice n) x) (easy_same s p choice e h Value k turn w) (λ x u. refl))
-      (goes_cong _ _ (λ x. copy (reads s p choice k) (place_of x) (local_at s p choice n)) (λ x. copy tree (place_of x) (local_at s p choice n))
+      (goes_cong _ _ (λ x. store (local_at s p choice n) x) (λ x. store (local_at s p choice n) x)
+      (easy_same s p choice e h Value k turn w) (λ x u. refl))
+      (goes_cong _ _ (λ x. copy (reads s p choice k) (place_of x) (local_at s p choice n))
+      (λ x. copy tree (place_of x) (local_at s p choice n))
       (easy_same s p choice e h Place' k turn w) (λ x u. refl))
 
   abbrev hard_at : Bool → (n : ℕ) → Exp → (x next : ℕ) → Build ℕ
@@ -132,7 +140,8 @@ module _ (s : Source) (p : Layout) (choice : List Bool) (v : ℕ → Kept → Ru
   hard_sets true n e h = record {
     grows = λ next g. grows_trans s p choice v (grows_node next g) (grows_value next g);
     by = λ next g fits rest goes k w.
-        (does s p choice v turn e).by (Into Value g.temps (length g.nodes)) (put (Set n (Temp g.temps (type_of e)) next) (fresh 1 g).1).1 0 (omega arith) (omega arith) fits k
+        (does s p choice v turn e).by (Into Value g.temps (length g.nodes))
+        (put (Set n (Temp g.temps (type_of e)) next) (fresh 1 g).1).1 0 (omega arith) (omega arith) fits k
         (λ c. store (local_at s p choice n) c >>= λ _. rest)
         (record {
           goes = λ new c w' a told.
@@ -146,12 +155,16 @@ module _ (s : Source) (p : Layout) (choice : List Bool) (v : ℕ → Kept → Ru
       grows_node : (next : ℕ) (g : Growing) → Grows s p choice v g (put (Set n (Temp g.temps (type_of e)) next) (fresh 1 g).1).1
       grows_node next g = record { fits = λ z. z.1; temps = omega arith; slots = omega arith }
 
-      grows_value : (next : ℕ) (g : Growing) → Grows s p choice v (put (Set n (Temp g.temps (type_of e)) next) (fresh 1 g).1).1 (hard_set true n e next g).1
-      grows_value next g = (does s p choice v turn e).grows (Into Value g.temps (length g.nodes)) (put (Set n (Temp g.temps (type_of e)) next) (fresh 1 g).1).1
+      grows_value : (next : ℕ) (g : Growing) → Grows s p choice v
+          (put (Set n (Temp g.temps (type_of e)) next) (fresh 1 g).1).1 (hard_set true n e next g).1
+      grows_value next g =
+          (does s p choice v turn e).grows (Into Value g.temps (length g.nodes))
+          (put (Set n (Temp g.temps (type_of e)) next) (fresh 1 g).1).1
   hard_sets false n e h = record {
     grows = λ next g. grows_trans s p choice v (grows_node next g) (grows_value next g);
     by = λ next g fits rest goes k w.
-        (does s p choice v turn e).by (Into Place' g.temps (length g.nodes)) (put (Set n (TempPlace g.temps (type_of e)) next) (fresh 1 g).1).1 0 (omega arith) (omega arith) fits k
+        (does s p choice v turn e).by (Into Place' g.temps (length g.nodes))
+        (put (Set n (TempPlace g.temps (type_of e)) next) (fresh 1 g).1).1 0 (omega arith) (omega arith) fits k
         (λ c. copy tree (place_of c) (local_at s p choice n) >>= λ _. rest)
         (record {
           goes = λ new c w' a told.
@@ -165,10 +178,14 @@ module _ (s : Source) (p : Layout) (choice : List Bool) (v : ℕ → Kept → Ru
       grows_node : (next : ℕ) (g : Growing) → Grows s p choice v g (put (Set n (TempPlace g.temps (type_of e)) next) (fresh 1 g).1).1
       grows_node next g = record { fits = λ z. z.1; temps = omega arith; slots = omega arith }
 
-      grows_value : (next : ℕ) (g : Growing) → Grows s p choice v (put (Set n (TempPlace g.temps (type_of e)) next) (fresh 1 g).1).1 (hard_set false n e next g).1
-      grows_value next g = (does s p choice v turn e).grows (Into Place' g.temps (length g.nodes)) (put (Set n (TempPlace g.temps (type_of e)) next) (fresh 1 g).1).1
+      grows_value : (next : ℕ) (g : Growing) → Grows s p choice v
+          (put (Set n (TempPlace g.temps (type_of e)) next) (fresh 1 g).1).1 (hard_set false n e next g).1
+      grows_value next g =
+          (does s p choice v turn e).grows (Into Place' g.temps (length g.nodes))
+          (put (Set n (TempPlace g.temps (type_of e)) next) (fresh 1 g).1).1
 
-  set_part : (c : Bool) (n : ℕ) (e : Exp) → is_scalar (type_of e) ≡ c → Then (hard_set (is_scalar (type_of e)) n e) (initialise (local_at s p choice n) (One e) tree)
+  set_part : (c : Bool) (n : ℕ) (e : Exp) → is_scalar (type_of e) ≡ c → Then (hard_set (is_scalar (type_of e)) n e)
+      (initialise (local_at s p choice n) (One e) tree)
   set_part c n e h = subst (λ c. Then (λ next g. hard_set c n e next g) (hard_initial c n e)) (sym h) (hard_sets c n e h)
 
   easy_set : (n : ℕ) (e : Exp) → easy e ≡ true → Then (λ next. put (Set n e next)) (initialise (local_at s p choice n) (One e) tree)
@@ -181,9 +198,11 @@ module _ (s : Source) (p : Layout) (choice : List Bool) (v : ℕ → Kept → Ru
 
   set_by : (c : Bool) (n : ℕ) (e : Exp) → easy e ≡ c → Then (set_to n e (unroll e turn)) (initialise (local_at s p choice n) (One e) tree)
   set_by true n e h =
-      subst (λ c. Then (λ next. if c then put (Set n e next) else hard_set (is_scalar (type_of e)) n e next) (initialise (local_at s p choice n) (One e) tree)) (sym h) (easy_set n e h)
+      subst (λ c. Then (λ next. if c then put (Set n e next) else hard_set (is_scalar (type_of e)) n e next)
+      (initialise (local_at s p choice n) (One e) tree)) (sym h) (easy_set n e h)
   set_by false n e h =
-      subst (λ c. Then (λ next. if c then put (Set n e next) else hard_set (is_scalar (type_of e)) n e next) (initialise (local_at s p choice n) (One e) tree)) (sym h)
+      subst (λ c. Then (λ next. if c then put (Set n e next) else hard_set (is_scalar (type_of e)) n e next)
+      (initialise (local_at s p choice n) (One e) tree)) (sym h)
       (set_part (is_scalar (type_of e)) n e refl)
 
   -- The cells of a value.
@@ -197,15 +216,18 @@ module _ (s : Source) (p : Layout) (choice : List Bool) (v : ℕ → Kept → Ru
   cells_same e h k w =
       choose_ext (is_scalar (type_of e))
       (eval e Value (reads s p choice k) >>= λ x. done (x ∷ [])) (eval e Value tree >>= λ x. done (x ∷ []))
-      (eval e Place' (reads s p choice k) >>= λ x. load_all (cells_of p (place_of x))) (eval e Place' tree >>= λ x. load_all (cells_of p (place_of x))) w
+      (eval e Place' (reads s p choice k) >>= λ x. load_all (cells_of p (place_of x)))
+      (eval e Place' tree >>= λ x. load_all (cells_of p (place_of x))) w
       (goes_cong _ _ (λ x. done (x ∷ [])) (λ x. done (x ∷ [])) (easy_same s p choice e h Value k turn w) (λ x u. refl))
-      (goes_cong _ _ (λ x. load_all (cells_of p (place_of x))) (λ x. load_all (cells_of p (place_of x))) (easy_same s p choice e h Place' k turn w) (λ x u. refl))
+      (goes_cong _ _ (λ x. load_all (cells_of p (place_of x))) (λ x. load_all (cells_of p (place_of x)))
+      (easy_same s p choice e h Place' k turn w) (λ x u. refl))
 
   easy_cells : (e : Exp) → easy e ≡ true → KeepsCells (λ n next. put (KeepCells n e next)) (cells_given e tree)
   easy_cells e h = record {
     grows = λ n next g. grows_put s p choice v (KeepCells n e next) g;
     by = λ n next g fits k f goes w.
-        fits.0.by k w ∙ goes_cong _ _ (λ cs. v next (keep_cells n cs k)) f (cells_same e h k w) (λ cs u. goes (keep_cells n cs k) cs u refl);
+        fits.0.by k w ∙ goes_cong _ _ (λ cs. v next (keep_cells n cs k)) f (cells_same e h k w)
+        (λ cs u. goes (keep_cells n cs k) cs u refl);
   }
 
   abbrev cells_at : Bool → Exp → (n x next : ℕ) → Build ℕ
@@ -227,13 +249,15 @@ module _ (s : Source) (p : Layout) (choice : List Bool) (v : ℕ → Kept → Ru
   hard_keeps true e h = record {
     grows = λ n next g. grows_trans s p choice v (grows_node n next g) (grows_value n next g);
     by = λ n next g fits k f goes w.
-        (does s p choice v turn e).by (Into Value g.temps (length g.nodes)) (put (KeepCells n (Temp g.temps (type_of e)) next) (fresh 1 g).1).1 0 (omega arith) (omega arith) fits k
+        (does s p choice v turn e).by (Into Value g.temps (length g.nodes))
+        (put (KeepCells n (Temp g.temps (type_of e)) next) (fresh 1 g).1).1 0 (omega arith) (omega arith) fits k
         (λ c. f (c ∷ []))
         (record {
           goes = λ new c w' a told.
               ((grows_value n next g).fits fits).0.by new w'
               ∙ rw h (ap (λ d. v next (keep_cells n (d ∷ []) new) w') told)
-              ∙ goes (keep_cells n (c ∷ []) new) (c ∷ []) w' (ap (λ xs. (keep_cells n (c ∷ []) (record { temps = k.temps; slots = xs })).slots) a.slots);
+              ∙ goes (keep_cells n (c ∷ []) new) (c ∷ []) w'
+              (ap (λ xs. (keep_cells n (c ∷ []) (record { temps = k.temps; slots = xs })).slots) a.slots);
         }) w
         ∙ sym (goes_assoc (eval e Value tree w) (λ x. done (x ∷ [])) f);
   }
@@ -241,37 +265,51 @@ module _ (s : Source) (p : Layout) (choice : List Bool) (v : ℕ → Kept → Ru
       grows_node : (n next : ℕ) (g : Growing) → Grows s p choice v g (put (KeepCells n (Temp g.temps (type_of e)) next) (fresh 1 g).1).1
       grows_node n next g = record { fits = λ z. z.1; temps = omega arith; slots = omega arith }
 
-      grows_value : (n next : ℕ) (g : Growing) → Grows s p choice v (put (KeepCells n (Temp g.temps (type_of e)) next) (fresh 1 g).1).1 (hard_cells true e n next g).1
-      grows_value n next g = (does s p choice v turn e).grows (Into Value g.temps (length g.nodes)) (put (KeepCells n (Temp g.temps (type_of e)) next) (fresh 1 g).1).1
+      grows_value : (n next : ℕ) (g : Growing) → Grows s p choice v
+          (put (KeepCells n (Temp g.temps (type_of e)) next) (fresh 1 g).1).1 (hard_cells true e n next g).1
+      grows_value n next g =
+          (does s p choice v turn e).grows (Into Value g.temps (length g.nodes))
+          (put (KeepCells n (Temp g.temps (type_of e)) next) (fresh 1 g).1).1
   hard_keeps false e h = record {
     grows = λ n next g. grows_trans s p choice v (grows_node n next g) (grows_value n next g);
     by = λ n next g fits k f goes w.
-        (does s p choice v turn e).by (Into Place' g.temps (length g.nodes)) (put (KeepCells n (TempPlace g.temps (type_of e)) next) (fresh 1 g).1).1 0 (omega arith) (omega arith) fits k
+        (does s p choice v turn e).by (Into Place' g.temps (length g.nodes))
+        (put (KeepCells n (TempPlace g.temps (type_of e)) next) (fresh 1 g).1).1 0 (omega arith)
+        (omega arith) fits k
         (λ c. load_all (cells_of p (place_of c)) >>= f)
         (record {
           goes = λ new c w' a told.
               ((grows_value n next g).fits fits).0.by new w'
               ∙ rw h (ap (λ d. goes_on (load_all (cells_of p (place_of d)) w') (λ cs. v next (keep_cells n cs new))) told)
               ∙ goes_ext (load_all (cells_of p (place_of c)) w') (λ cs. v next (keep_cells n cs new)) f
-              (λ cs u. goes (keep_cells n cs new) cs u (ap (λ xs. (keep_cells n cs (record { temps = k.temps; slots = xs })).slots) a.slots));
+              (λ cs u. goes (keep_cells n cs new) cs u
+              (ap (λ xs. (keep_cells n cs (record { temps = k.temps; slots = xs })).slots) a.slots));
         }) w
         ∙ sym (goes_assoc (eval e Place' tree w) (λ x. load_all (cells_of p (place_of x))) f);
   }
     where
-      grows_node : (n next : ℕ) (g : Growing) → Grows s p choice v g (put (KeepCells n (TempPlace g.temps (type_of e)) next) (fresh 1 g).1).1
+      grows_node : (n next : ℕ) (g : Growing) → Grows s p choice v g
+          (put (KeepCells n (TempPlace g.temps (type_of e)) next) (fresh 1 g).1).1
       grows_node n next g = record { fits = λ z. z.1; temps = omega arith; slots = omega arith }
 
-      grows_value : (n next : ℕ) (g : Growing) → Grows s p choice v (put (KeepCells n (TempPlace g.temps (type_of e)) next) (fresh 1 g).1).1 (hard_cells false e n next g).1
-      grows_value n next g = (does s p choice v turn e).grows (Into Place' g.temps (length g.nodes)) (put (KeepCells n (TempPlace g.temps (type_of e)) next) (fresh 1 g).1).1
+      grows_value : (n next : ℕ) (g : Growing) → Grows s p choice v
+          (put (KeepCells n (TempPlace g.temps (type_of e)) next) (fresh 1 g).1).1 (hard_cells false e n next g).1
+      grows_value n next g =
+          (does s p choice v turn e).grows (Into Place' g.temps (length g.nodes))
+          (put (KeepCells n (TempPlace g.temps (type_of e)) next) (fresh 1 g).1).1
 
   cells_part : (c : Bool) (e : Exp) → is_scalar (type_of e) ≡ c → KeepsCells (hard_cells (is_scalar (type_of e)) e) (cells_given e tree)
   cells_part c e h = subst (λ c. KeepsCells (hard_cells c e) (cells_of_hard c e)) (sym h) (hard_keeps c e h)
 
   cells_by : (c : Bool) (e : Exp) → easy e ≡ c → KeepsCells (λ n next. cells_kept n e (unroll e turn) next) (cells_given e tree)
   cells_by true e h =
-      subst (λ c. KeepsCells (λ n next. if c then put (KeepCells n e next) else hard_cells (is_scalar (type_of e)) e n next) (cells_given e tree)) (sym h) (easy_cells e h)
+      subst (λ c. KeepsCells
+      (λ n next. if c then put (KeepCells n e next) else hard_cells (is_scalar (type_of e)) e n next)
+      (cells_given e tree)) (sym h) (easy_cells e h)
   cells_by false e h =
-      subst (λ c. KeepsCells (λ n next. if c then put (KeepCells n e next) else hard_cells (is_scalar (type_of e)) e n next) (cells_given e tree)) (sym h)
+      subst (λ c. KeepsCells
+      (λ n next. if c then put (KeepCells n e next) else hard_cells (is_scalar (type_of e)) e n next)
+      (cells_given e tree)) (sym h)
       (cells_part (is_scalar (type_of e)) e refl)
 
   -- All values in braces.
@@ -360,7 +398,9 @@ module _ (s : Source) (p : Layout) (choice : List Bool) (v : ℕ → Kept → Ru
 
   pub declares_all : (ds : List Dec) → Then (declarators ds turn) (exec.declarators ds tree)
   declares_all [] = skips
-  declares_all (d ∷ ds) = both (declared_by d.declared d.init turn) (declarators ds turn) (declarator d tree) (exec.declarators ds tree) (declares d.declared d.init) (declares_all ds)
+  declares_all (d ∷ ds) =
+      both (declared_by d.declared d.init turn) (declarators ds turn) (declarator d tree) (exec.declarators ds tree)
+      (declares d.declared d.init) (declares_all ds)
 
   pub starts : (f : Start) → Then (started f turn) (begin f tree)
   starts NoStart = skips

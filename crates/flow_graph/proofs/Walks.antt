@@ -116,11 +116,13 @@ module _ (s : Source) (p : Layout) (choice : List Bool) where
       → walk_from s p choice (suc first) (map (turned entry) ns) (entry - at) k w ≡ older ns at k w)
       → (at : ℕ) → at < length (n ∷ ns) → nat_eq at (length ns) ≡ b → (k : Kept) (w : World)
       → walk_from s p choice first (map (turned entry) (n ∷ ns)) (entry - at) k w ≡ older (n ∷ ns) at k w
-  turned_step true entry n ns first ord sizes behind at h e k w = turned_here entry n ns first ord sizes behind at (eqb-true at (length ns) e) k w
+  turned_step true entry n ns first ord sizes behind at h e k w =
+      turned_here entry n ns first ord sizes behind at (eqb-true at (length ns) e) k w
   turned_step false entry n ns first ord sizes behind at h e k w =
       turned_behind entry n ns first sizes behind at (less at (length ns) h (eqb-false at (length ns) e)) k w
 
-  turned_walk : (entry : ℕ) (ms : List Node) (first : ℕ) → Ordered ms → first + length ms ≡ entry + 1 → (at : ℕ) → at < length ms → (k : Kept) (w : World)
+  turned_walk : (entry : ℕ) (ms : List Node) (first : ℕ) → Ordered ms → first + length ms ≡ entry + 1 → (at : ℕ)
+      → at < length ms → (k : Kept) (w : World)
       → walk_from s p choice first (map (turned entry) ms) (entry - at) k w ≡ older ms at k w
   turned_walk entry [] first ord sizes at h k w = absurd (omega (arith, h))
   turned_walk entry (n ∷ ns) first ord sizes at h k w =
@@ -133,7 +135,8 @@ module _ (s : Source) (p : Layout) (choice : List Bool) where
   ordered_drop (suc j) [] ord = tt
   ordered_drop (suc j) (n ∷ ns) ord = ordered_drop j ns ord.1
 
-  older_drop : (j : ℕ) (ns : List Node) (at : ℕ) → at < length (drop j ns) → (k : Kept) (w : World) → older (drop j ns) at k w ≡ older ns at k w
+  older_drop : (j : ℕ) (ns : List Node) (at : ℕ) → at < length (drop j ns) → (k : Kept) (w : World) → older
+      (drop j ns) at k w ≡ older ns at k w
   older_drop zero ns at h k w = refl
   older_drop (suc j) [] at h k w = refl
   older_drop (suc j) (n ∷ ns) at h k w =
@@ -165,14 +168,17 @@ module _ (s : Source) (p : Layout) (choice : List Bool) where
   goes_behind entry first m (Update u want at old right t next) sizes h = (omega (arith, sizes, h), omega arith)
   goes_behind entry first m (Set n e next) sizes h = (omega (arith, sizes, h), omega arith)
   goes_behind entry first m (Fill n xs slots next) sizes h = (omega (arith, sizes, h), omega arith)
-  goes_behind entry first m (Branch t hit miss) sizes h = ((omega (arith, sizes, h.0), omega arith), (omega (arith, sizes, h.1), omega arith))
-  goes_behind entry first m (Choose t n hit miss) sizes h = ((omega (arith, sizes, h.0), omega arith), (omega (arith, sizes, h.1), omega arith))
+  goes_behind entry first m (Branch t hit miss) sizes h =
+      ((omega (arith, sizes, h.0), omega arith), (omega (arith, sizes, h.1), omega arith))
+  goes_behind entry first m (Choose t n hit miss) sizes h =
+      ((omega (arith, sizes, h.0), omega arith), (omega (arith, sizes, h.1), omega arith))
   goes_behind entry first m (Mark q x next) sizes h = (omega (arith, sizes, h), omega arith)
   goes_behind entry first m (MarkSwitch q t from next) sizes h = (omega (arith, sizes, h), omega arith)
   goes_behind entry first m (Exit from) sizes h = tt
   goes_behind entry first m (SetAside r) sizes h = tt
 
-  all_go_on : (entry first : ℕ) (ms : List Node) → Ordered ms → first + length ms ≡ entry + 1 → AllGoOn first (entry + 1) (map (turned entry) ms)
+  all_go_on : (entry first : ℕ) (ms : List Node) → Ordered ms → first + length ms ≡ entry + 1 → AllGoOn first
+      (entry + 1) (map (turned entry) ms)
   all_go_on entry first [] ord sizes = tt
   all_go_on entry first (n ∷ ns) ord sizes =
       (goes_behind entry first (length ns) n sizes ord.0, all_go_on entry (suc first) ns ord.1 (omega (arith, sizes)))
@@ -213,10 +219,13 @@ module _ (s : Source) (p : Layout) (choice : List Bool) where
   pub no_cycle : AllGoOn 0 (length (flow s).nodes) (flow s).nodes × (0 < length (flow s).nodes)
   no_cycle = (
     subst (λ count. AllGoOn 0 count (flow s).nodes) (sym count)
-        (all_go_on (grown s.depth s.body).0 0 (rest (grown s.depth s.body)) (ordered_drop (length (grown s.depth s.body).1.nodes - ((grown s.depth s.body).0 + 1)) (grown s.depth s.body).1.nodes (placed s.body).ordered)
+        (all_go_on (grown s.depth s.body).0 0 (rest (grown s.depth s.body))
+        (ordered_drop (length (grown s.depth s.body).1.nodes - ((grown s.depth s.body).0 + 1))
+        (grown s.depth s.body).1.nodes (placed s.body).ordered)
         (omega (arith, rest_length (grown s.depth s.body) (placed s.body).below))),
     omega (arith, count),
   )
     where
       count : length (flow s).nodes ≡ (grown s.depth s.body).0 + 1
-      count = length-map (rest (grown s.depth s.body)) (turned (grown s.depth s.body).0) ∙ rest_length (grown s.depth s.body) (placed s.body).below
+      count = length-map (rest (grown s.depth s.body)) (turned (grown s.depth s.body).0) ∙ rest_length
+          (grown s.depth s.body) (placed s.body).below

@@ -209,7 +209,8 @@ abbrev mutual
     first ← unroll_all es turn x at
     called (is_name f) (unroll f turn) first
   unroll (Field a n true t) turn = plainly (Field a n true t) (one Value (unroll a turn) (λ x. Field (Temp x (type_of a)) n true t))
-  unroll (Field a n false t) turn = plainly (Field a n false t) (one Place' (unroll a turn) (λ x. Field (TempPlace x (type_of a)) n false t))
+  unroll (Field a n false t) turn =
+      plainly (Field a n false t) (one Place' (unroll a turn) (λ x. Field (TempPlace x (type_of a)) n false t))
   unroll (Param n t) turn = kept (Param n t)
   unroll (Local n t) turn = kept (Local n t)
   unroll (Global n t) turn = kept (Global n t)
