@@ -18,8 +18,8 @@ use Rattle.sc_rules.specs.Conversions.{type_of}
 use Rattle.sc_statements.specs.Forms.{all_items, block_of, expression_of, if_of, if_else_of, while_of, do_of, optional, start_of, for_of, switch_of, label_of}
 use Rattle.sc_statements.specs.Choices.{choices_differ}
 use Rattle.sc_statements.specs.Statements.{scalar, switched, statement, case_of, jump, return_as}
-use Rattle.sc_check.specs.Here.{Here}
-use Rattle.sc_check.specs.Typing.{typing, valued}
+use Rattle.sc_typing.specs.Here.{Here}
+use Rattle.sc_typing.specs.Typing.{typing, valued}
 use Rattle.sc_check.specs.Declarations.{declaration}
 
 -- What stands round a statement.

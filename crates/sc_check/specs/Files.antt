@@ -24,9 +24,10 @@ use Rattle.sc_declare.specs.Storage.{has_local}
 use Rattle.sc_declare.specs.Functions.{signature_if, signature_at, declare_function_if, local_function}
 use Rattle.sc_files.specs.Functions.{few_params, skip_pos, finish_function}
 use Rattle.sc_files.specs.Notes.{noted_in, begin_file}
-use Rattle.sc_check.specs.Here.{Here}
-use Rattle.sc_check.specs.Shapes.{Own, Heading}
-use Rattle.sc_check.specs.Typing.{heading}
+use Rattle.sc_typing.specs.Here.{Here}
+use Rattle.sc_typing.specs.declared.shapes.Own.{Own}
+use Rattle.sc_typing.specs.Shapes.{Heading}
+use Rattle.sc_typing.specs.Typing.{heading}
 use Rattle.sc_check.specs.Declarations.{name_of, declaration}
 use Rattle.sc_check.specs.Bodies.{Inside, stating}
 use Rattle.sc_jumps.specs.Jumps.{jumps, jumps_of}
@@ -66,7 +67,7 @@ module _ (here : Here) where
     _ ← local_function here.file name is_local
     _ ← holds_or (not own.variadic) (unsupported_at u.Variadic at)
     _ ← few_params at (length own.params)
-    _ ← open_scope own.scope
+    _ ← open_scope (record { names = own.scope.names; tags = own.scope.tags })
     s ← body_in (result_type t) at b
     _ ← close_scope
     finish_function name at own.params (result_type t) s
