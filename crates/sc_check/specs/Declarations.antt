@@ -25,11 +25,9 @@ use Rattle.sc_declare.specs.declared.linkage.Linked.{Linked}
 use Rattle.sc_declare.specs.Storage.{has_typedef, has_extern, has_static, has_local}
 use Rattle.sc_declare.specs.Locals.{declare_local, lengthen}
 use Rattle.sc_declare.specs.Declarators.{function_declared, typedef_declared, declare_global_if, extern_declared}
-use Rattle.sc_typing.specs.Here.{Here}
-use Rattle.sc_typing.specs.declared.shapes.Own.{Own}
-use Rattle.sc_typing.specs.declared.shapes.Shape.{Shape}
-use Rattle.sc_typing.specs.Shapes.{Declaring}
-use Rattle.sc_typing.specs.Typing.{declaring, naming}
+use Rattle.sc_check.specs.Here.{Here}
+use Rattle.sc_check.specs.Shapes.{Own, Shape, Declaring}
+use Rattle.sc_check.specs.Typing.{declaring, naming}
 use Rattle.sc_check.specs.Initialisers.{initialiser, elements_set}
 use Rattle.sc_check.specs.Lengths.{completed_type}
 

@@ -27,9 +27,9 @@ use Rattle.sc_rules.specs.declared.walk.Walk.{Walk}
 use Rattle.sc_rules.specs.Walks.{Check, ◌>>=◌, done, given, both, unsupported}
 use Rattle.sc_rules.specs.Conversions.{type_of, value, converted}
 use Rattle.sc_unary.specs.Members.{Body, body_of, is_there, is_unnamed}
-use Rattle.sc_typing.specs.Here.{Here}
-use Rattle.sc_typing.specs.Shapes.{Typing}
-use Rattle.sc_typing.specs.Typing.{typing, valued}
+use Rattle.sc_check.specs.Here.{Here}
+use Rattle.sc_check.specs.Shapes.{Typing}
+use Rattle.sc_check.specs.Typing.{typing, valued}
 
 -- the value of an item in braces, where it is an expression without designators
 abbrev pub expression_in : List Designator → Init-F Init InitItem → Option Expr

@@ -1,3 +1,6 @@
+pub mod Here
+pub mod Shapes
+pub mod Typing
 pub mod Initialisers
 pub mod Lengths
 pub mod Declarations

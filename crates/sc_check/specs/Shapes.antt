@@ -6,13 +6,25 @@ use Rattle.sc_tree.specs.declared.ctype.CType.{CType}
 use Rattle.sc_tree.specs.declared.expr.Place.{Place}
 use Rattle.sc_typed.specs.declared.expr.TExpr.{TExpr}
 use Rattle.sc_typed.specs.declared.program.FieldDef.{FieldDef}
-use Rattle.sc_rules.specs.Walks.{Check}
-use Rattle.sc_typing.specs.declared.shapes.Shape.{Shape}
+use Rattle.sc_rules.specs.Walks.{Check, Scope}
+use Rattle.sc_declare.specs.declared.functions.Parameter.{Parameter}
 
 -- an expression: the name that it is with its place, where it is a bare one, and the step
 pub record Typing : Type 0 where
   pub name : Option (NameId × Place)
   pub run : Check (Option TExpr)
+
+-- the parameters of the function that a declarator declares: those that stand directly round its name
+pub record Own : Type 0 where
+  pub params : List Parameter
+  pub scope : Scope
+  pub variadic : Bool
+  pub brackets : Bool
+
+-- what a declarator makes of a type
+pub record Shape : Type 0 where
+  pub ctype : Option CType
+  pub own : Option Own
 
 -- A declarator: its name, whether it is the bare name, and the step from the type that its specifiers name.
 -- Faults in it stand at the place handed in.

@@ -1,4 +1,0 @@
-pub mod Operands
-pub mod Names
-pub mod Declarators
-pub mod Fields

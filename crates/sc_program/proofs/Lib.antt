@@ -1,5 +1,0 @@
-pub mod Booleans
-pub mod Numbers
-pub mod BodyTable
-pub mod RecordTable
-pub mod Insert

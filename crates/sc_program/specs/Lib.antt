@@ -1,6 +1,0 @@
-pub mod Firsts
-pub mod Places
-pub mod Bodies
-pub mod Globals
-pub mod Tables
-pub mod Types

@@ -1,4 +1,0 @@
-pub mod Forms
-pub mod Choices
-pub mod Seen
-pub mod Statements

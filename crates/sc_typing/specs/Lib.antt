@@ -1,4 +1,0 @@
-pub mod Here
-pub mod Tables
-pub mod Shapes
-pub mod Typing
