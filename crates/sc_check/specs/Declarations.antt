@@ -13,22 +13,24 @@ use Rattle.sc_typed.specs.declared.stmt.Declared.{Declared}
 use Rattle.sc_typed.specs.declared.stmt.Declared.TheVariants as declares
 use Rattle.sc_typed.specs.declared.stmt.TDeclarator.{TDeclarator}
 use Rattle.sc_typed.specs.declared.stmt.TInit.{TInit}
-use Rattle.sc_typed.specs.Types.{is_function}
-use Rattle.sc_rules.specs.declared.walk.GlobalKey.{GlobalKey}
 use Rattle.sc_rules.specs.Faults.{unsupported_at}
 use Rattle.sc_rules.specs.Walks.{Check, ◌>>=◌, done}
 use Rattle.sc_unary.specs.Members.{is_there}
 use Rattle.sc_names.specs.Notes.{note_unless}
-use Rattle.sc_names.specs.Structs.{object_at, size_now}
+use Rattle.sc_names.specs.Structs.{size_now}
 use Rattle.sc_declare.specs.declared.functions.Parameter.{Parameter}
 use Rattle.sc_declare.specs.declared.linkage.Linked.{Linked}
 use Rattle.sc_declare.specs.Storage.{has_typedef, has_extern, has_static, has_local}
 use Rattle.sc_declare.specs.Locals.{declare_local, lengthen}
 use Rattle.sc_declare.specs.Declarators.{function_declared, typedef_declared, declare_global_if, extern_declared}
-use Rattle.sc_check.specs.Here.{Here}
-use Rattle.sc_check.specs.Shapes.{Own, Shape, Declaring}
-use Rattle.sc_check.specs.Typing.{declaring, naming}
-use Rattle.sc_check.specs.Initialisers.{initialiser, elements_set}
+use Rattle.sc_fill.specs.Initialisers.{elements_set}
+use Rattle.sc_files.specs.Variables.{linked_in, object_if, is_function_of}
+use Rattle.sc_typing.specs.Here.{Here}
+use Rattle.sc_typing.specs.declared.shapes.Own.{Own}
+use Rattle.sc_typing.specs.declared.shapes.Shape.{Shape}
+use Rattle.sc_typing.specs.Shapes.{Declaring}
+use Rattle.sc_typing.specs.Typing.{declaring, naming}
+use Rattle.sc_check.specs.Initialisers.{initialiser}
 use Rattle.sc_check.specs.Lengths.{completed_type}
 
 -- what stands for the name of a declarator that has none; in a declaration each has one
@@ -41,23 +43,11 @@ name_of (Some n) = n
 
 module _ (here : Here) where
   -- a declaration of a variable with linkage; its global has the type that all files give it, once that is known
-  abbrev pub linked_key : NameId → GlobalKey
-  linked_key name = record { name = name; file = if here.is_local name.at then Some here.file else None }
-
   abbrev pub type_over_all : NameId → Option CType
   type_over_all name = if here.settled then here.global_type name.at else None
 
   abbrev pub linked_if : NameId → Pos → (is_static : Bool) → Option CType → Option Linked
-  linked_if name at is_static None = None
-  linked_if name at is_static (Some t) =
-      Some (record {
-        file = here.file;
-        key = linked_key name;
-        pos = at;
-        ctype = t;
-        over_all = type_over_all name;
-        is_static = is_static;
-      })
+  linked_if name at is_static t = linked_in here.file (here.is_local name.at) (type_over_all name) name at is_static t
 
   -- Locals.
 
@@ -112,15 +102,11 @@ module _ (here : Here) where
   completed_if x None = done None
   completed_if x (Some t) = completed_type here x t >>= λ s. done (Some s)
 
-  abbrev pub object_if : Bool → Pos → Option CType → Check Bool
-  object_if true at (Some t) = object_at here.widths at t
-  object_if _ at _ = done true
-
   -- a variable at file scope: one without `extern` is an object
   abbrev pub file_variable : List Storage → NameId → Pos → Option Init → Option CType → Check TDeclarator
   file_variable ss name at x t = do
     s ← completed_if x t
-    _ ← object_if (not (has_extern ss)) at s
+    _ ← object_if here.widths (not (has_extern ss)) at s
     n ← declare_global_if (linked_if name at (has_static ss) s)
     done (declarator_of name at (declares.Global n) None)
 
@@ -131,16 +117,11 @@ module _ (here : Here) where
       then extern_declared name at (has_static ss) (linked_if name at false t)
       else local_declared ss name at x t
 
-  -- whether a function is declared: by its type, or, where that has a fault, by its declarator
-  abbrev pub is_function_of : Option CType → Option Own → Bool
-  is_function_of None own = is_there own
-  is_function_of (Some t) own = is_function t
-
   abbrev pub declared_as : (at_file : Bool) → List Storage → NameId → Pos → Option Init → Shape → Check TDeclarator
   declared_as at_file ss name at x s =
       if at_file && has_typedef ss
       then typedef_declared name at s.ctype
-      else (if is_function_of s.ctype s.own
+      else (if is_function_of s.ctype (is_there s.own)
       then function_declared here.file (at_file && has_local ss) name at s.ctype (params_if s.own)
       else variable_declared at_file ss name at x s.ctype)
 

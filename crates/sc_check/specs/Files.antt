@@ -1,14 +1,11 @@
 -- One file (C11 6.9): its declarations and functions in their order. A declaration that is refused leaves a note
 -- and nothing else; a function that is refused keeps its name, and what its head declares.
-use Rattle.std.specs.Prelude.{ℕ, nat_lt, Bool, true, false, not, Option, Some, None, List, [], ◌∷◌, ◌++◌, take, length, slice_set}
+use Rattle.std.specs.Prelude.{Bool, true, false, not, Option, Some, None, List, [], ◌∷◌, ◌++◌, length}
 use Rattle.sc_base.specs.declared.pos.Pos.{Pos}
 use Rattle.sc_base.specs.declared.pos.NameId.{NameId}
 use Rattle.sc_base.specs.declared.skip.Skip.{Skip}
-use Rattle.sc_base.specs.declared.skip.Skip.TheVariants as skip
-use Rattle.sc_base.specs.declared.skip.LimitKind.TheVariants as limit
 use Rattle.sc_base.specs.declared.skip.Unsupported.TheVariants as u
 use Rattle.sc_tree.specs.declared.ctype.CType.{CType}
-use Rattle.sc_tree.specs.declared.ctype.CType.TheVariants as ty
 use Rattle.sc_tree.specs.declared.ctype.Signature.{Signature}
 use Rattle.sc_tree.specs.declared.expr.Head.{Head, out-Head}
 use Rattle.sc_tree.specs.declared.expr.Specs.{out-Specs}
@@ -19,39 +16,23 @@ use Rattle.sc_tree.specs.declared.unit.FileDecl.TheVariants as file_decl
 use Rattle.sc_tree.specs.declared.unit.Body.{Body}
 use Rattle.sc_tree.specs.declared.unit.Body.TheVariants as body
 use Rattle.sc_typed.specs.declared.program.Function.{Function}
-use Rattle.sc_typed.specs.declared.program.Param.{Param}
-use Rattle.sc_typed.specs.declared.program.StructDef.{StructDef}
-use Rattle.sc_typed.specs.declared.program.TBody.TheVariants as tbody
 use Rattle.sc_typed.specs.declared.stmt.TStmt.{TStmt}
-use Rattle.sc_typed.specs.Extents.{struct_at}
-use Rattle.scopes.specs.Frames.{kept, forgotten, no_frames}
-use Rattle.sc_rules.specs.declared.walk.Walk.{Walk}
-use Rattle.sc_rules.specs.declared.walk.Fault.{Fault}
 use Rattle.sc_rules.specs.Faults.{unsupported_at}
 use Rattle.sc_rules.specs.Walks.{Check, ◌>>=◌, done, fault, holds_or, open_scope, close_scope}
 use Rattle.sc_calls.specs.Calls.{result_of}
-use Rattle.sc_declare.specs.declared.functions.Parameter.{Parameter}
 use Rattle.sc_declare.specs.Storage.{has_local}
 use Rattle.sc_declare.specs.Functions.{signature_if, signature_at, declare_function_if, local_function}
-use Rattle.sc_check.specs.Here.{Here}
-use Rattle.sc_check.specs.Shapes.{Own, Heading}
-use Rattle.sc_check.specs.Typing.{heading}
+use Rattle.sc_files.specs.Functions.{few_params, skip_pos, finish_function}
+use Rattle.sc_files.specs.Notes.{noted_in, begin_file}
+use Rattle.sc_typing.specs.Here.{Here}
+use Rattle.sc_typing.specs.declared.shapes.Own.{Own}
+use Rattle.sc_typing.specs.Shapes.{Heading}
+use Rattle.sc_typing.specs.Typing.{heading}
 use Rattle.sc_check.specs.Declarations.{name_of, declaration}
 use Rattle.sc_check.specs.Bodies.{Inside, stating}
 use Rattle.sc_jumps.specs.Jumps.{jumps, jumps_of}
 
 -- Functions.
-
--- a function has at most 8 parameters
-abbrev pub few_params : Pos → ℕ → Check Bool
-few_params at n = holds_or (nat_lt n 9) (record { pos = at; skip = skip.Limit limit.Params n })
-
--- where a skip of the grammar stands
-abbrev pub skip_pos : Pos → Skip → Pos
-skip_pos at (skip.Grammar pos) = pos
-skip_pos at (skip.Unsupported kind pos) = pos
-skip_pos at (skip.IllTyped kind pos) = pos
-skip_pos at (skip.Limit kind n) = at
 
 abbrev pub no_own : Own
 no_own = record { params = []; scope = record { names = []; tags = [] }; variadic = false; brackets = true }
@@ -67,36 +48,8 @@ result_if (Some s) = Some (result_of s)
 abbrev pub result_type : Option CType → Option CType
 result_type t = result_if (signature_if t)
 
-abbrev pub type_or_void : Option CType → CType
-type_or_void None = ty.Void
-type_or_void (Some t) = t
-
-abbrev pub name_or : Option NameId → NameId
-name_or None = record { at = 0 }
-name_or (Some n) = n
-
-abbrev pub params_of : List Parameter → List Param
-params_of [] = []
-params_of (p ∷ ps) = record { name = name_or p.name; ctype = type_or_void p.ctype } ∷ params_of ps
-
 abbrev pub inside : Option CType → Inside
 inside t = record { result = t; loop = false; leaves = false; switch = None }
-
--- a function whose first fault is known: with one it is skipped
-abbrev pub function_of : NameId → Pos → List Parameter → Option CType → List Param → Option TStmt → Option Fault → Function
-function_of name at ps t locals s (Some f) =
-    record { name = name; pos = at; params = []; result = ty.Void; locals = []; body = tbody.Skipped f.skip }
-function_of name at ps t locals None None =
-    record { name = name; pos = at; params = []; result = ty.Void; locals = []; body = tbody.Skipped (skip.Grammar at) }
-function_of name at ps t locals (Some s) None =
-    record { name = name; pos = at; params = params_of ps; result = type_or_void t; locals = locals; body = tbody.Tree s }
-
--- what was found in a function; its locals and its first fault are done with
-abbrev pub finish_function : NameId → Pos → List Parameter → Option CType → Option TStmt → Check Function
-finish_function name at ps t s w = (
-  function_of name at ps t w.locals s w.first,
-  record w { names = kept w.names; tags = kept w.tags; completed = []; locals = []; first = None },
-)
 
 module _ (here : Here) where
   -- The outermost block of a body has the scope of the parameters (C11 6.2.1, 4).
@@ -114,7 +67,7 @@ module _ (here : Here) where
     _ ← local_function here.file name is_local
     _ ← holds_or (not own.variadic) (unsupported_at u.Variadic at)
     _ ← few_params at (length own.params)
-    _ ← open_scope own.scope
+    _ ← open_scope (record { names = own.scope.names; tags = own.scope.tags })
     s ← body_in (result_type t) at b
     _ ← close_scope
     finish_function name at own.params (result_type t) s
@@ -129,32 +82,6 @@ module _ (here : Here) where
       function_named (heading here h) (has_local (out-Specs (out-Head h).specs).storage) b (name_of (heading here h).name)
 
 -- Declarations at file scope.
-
-abbrev pub incomplete_at : List ℕ → List StructDef → List StructDef
-incomplete_at [] structs = structs
-incomplete_at (n ∷ ns) structs =
-    incomplete_at ns (slice_set structs n (record (struct_at structs n) { fields = None; extent = None }))
-
--- What a declaration declared stays. One with a fault leaves its first fault as a note: its names go, the structs
--- that it completed are incomplete again, and its globals are none.
-abbrev pub noted : (globals records : ℕ) → Option Fault → List Skip → Walk → List Skip × Walk
-noted globals records None notes w =
-    (notes, record w { names = kept w.names; tags = kept w.tags; completed = []; first = None })
-noted globals records (Some f) notes w = (
-  notes ++ f.skip ∷ [],
-  record w {
-    names = forgotten w.names;
-    tags = forgotten w.tags;
-    structs = incomplete_at w.completed w.structs;
-    completed = [];
-    globals = take globals w.globals;
-    records = take records w.records;
-    first = None;
-  },
-)
-
-abbrev pub noted_in : (globals records : ℕ) → List Skip → Walk → List Skip × Walk
-noted_in globals records notes w = noted globals records w.first notes w
 
 abbrev pub file_declaration : Here → Decl → List Skip → Check (List Skip)
 file_declaration here d notes w = noted_in (length w.globals) (length w.records) notes (declaration here true d w).1
@@ -177,10 +104,6 @@ segments_in here m [] = done m
 segments_in here m (s ∷ ss) = do
   n ← segment_in here m s
   segments_in here n ss
-
--- a file begins without names
-abbrev pub begin_file : Check (Unit {0})
-begin_file w = (tt, record w { names = no_frames; tags = no_frames })
 
 abbrev pub file_in : Here → Made → List Segment → Check Made
 file_in here m ss = do

@@ -28,9 +28,11 @@ use Rattle.sc_typed.specs.Constants.{constant}
 use Rattle.sc_rules.specs.declared.walk.Walk.{Walk}
 use Rattle.sc_rules.specs.Walks.{Check, ◌>>=◌, done, given}
 use Rattle.sc_unary.specs.Members.{Body, body_of, is_called, is_there}
-use Rattle.sc_check.specs.Here.{Here}
-use Rattle.sc_check.specs.Typing.{typing, valued, in_range, bytes_of}
-use Rattle.sc_check.specs.Initialisers.{is_char_array, members_given, is_char_kind, char_layer}
+use Rattle.sc_typing.specs.Here.{Here}
+use Rattle.sc_parts.specs.Names.{bytes_of}
+use Rattle.sc_parts.specs.Declarators.{in_range}
+use Rattle.sc_typing.specs.Typing.{typing, valued}
+use Rattle.sc_fill.specs.Parts.{is_char_array, members_given}
 
 -- A way to a part of an object: at each level the number of the part, the outermost first.
 abbrev pub Way : Type 0

@@ -1,6 +1,3 @@
-pub mod Here
-pub mod Shapes
-pub mod Typing
 pub mod Initialisers
 pub mod Lengths
 pub mod Declarations

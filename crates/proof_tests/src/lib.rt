@@ -1,0 +1,12 @@
+//! The tests in which solver and checker of certificates meet: what the solver logs is accepted, and what a slow
+//! checker, written from the definition, says of certificates with one change is what `rup_check` says.
+#![tactic(auto)]
+
+#[cfg(test)]
+mod changed;
+#[cfg(test)]
+mod formulas;
+#[cfg(test)]
+mod refuted;
+#[cfg(test)]
+mod slow;

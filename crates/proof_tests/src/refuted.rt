@@ -1,0 +1,166 @@
+//! What the solver refutes is accepted: every formula of three clauses over three variables, and pigeons.
+
+ghost use Rattle.std.specs.Prelude.{◌<◌, ◌≤◌};
+
+use crate::formulas::{Formula, judge, refutation};
+use rup_check::Checked;
+use sat_base::{Clause, ClauseList, Lit, OutOfMemory};
+use std::alloc::Global;
+use std::process::Abort;
+use std::test::Fail;
+
+/// There are so many clauses over three variables in which no variable stands twice.
+const CLAUSES: usize = 27;
+
+/// Whether the solver refutes the formula; if it does, the checker accepts its certificate.
+fn is_refuted(rt: &impl Abort, alloc: Global, formula: &Formula) -> Result<bool, OutOfMemory> {
+    match refutation(rt, alloc, formula)? {
+        None => Ok(false),
+        Some(steps) => {
+            let checked = judge(rt, alloc, formula, &steps)?;
+            assert_eq!(rt; checked, Checked::Yes);
+            Ok(true)
+        }
+    }
+}
+
+/// The clause of a number: its digits in base 3 say of each variable whether it stands there, and with which sign.
+fn clause_of(alloc: Global, number: usize) -> Result<Clause, OutOfMemory> {
+    let mut lits = Vec::new(alloc);
+    let mut rest = number;
+    for var in 0..3 {
+        if rest % 3 != 0 {
+            lits.push(Lit {
+                var,
+                neg: rest % 3 == 2,
+            })?;
+        }
+        rest /= 3;
+    }
+    Clause::of(alloc, &lits)
+}
+
+/// The formula of the clauses of these numbers.
+fn formula_of(alloc: Global, numbers: &[usize]) -> Result<Formula, OutOfMemory> {
+    let mut clauses = ClauseList::new(alloc);
+    for number in numbers {
+        clauses.push(clause_of(alloc, *number)?)?;
+    }
+    Ok(Formula { vars: 3, clauses })
+}
+
+/// How many of the formulas with these first two clauses are refuted.
+fn refuted_with(
+    rt: &impl Abort,
+    alloc: Global,
+    one: usize,
+    two: usize,
+) -> Result<u32, OutOfMemory> {
+    let mut count: u32 = 0;
+    for three in two..CLAUSES {
+        let formula = formula_of(alloc, &[one, two, three])?;
+        if is_refuted(rt, alloc, &formula)? {
+            count = count.saturating_add(1);
+        }
+    }
+    Ok(count)
+}
+
+/// How many of the formulas with this first clause are refuted.
+fn refuted_from(rt: &impl Abort, alloc: Global, one: usize) -> Result<u32, OutOfMemory> {
+    let mut count: u32 = 0;
+    for two in one..CLAUSES {
+        count = count.saturating_add(refuted_with(rt, alloc, one, two)?);
+    }
+    Ok(count)
+}
+
+/// How many formulas of three clauses are refuted. The order of clauses does not matter, so the numbers rise.
+fn refuted(rt: &impl Abort, alloc: Global) -> Result<u32, OutOfMemory> {
+    let mut count: u32 = 0;
+    for one in 0..CLAUSES {
+        count = count.saturating_add(refuted_from(rt, alloc, one)?);
+    }
+    Ok(count)
+}
+
+/// Of 3,654 formulas 480 have no model: counted by a program that tries all eight assignments of each.
+#[test]
+fn three_clauses_over_three_variables(rt: HostRuntime) -> Result<(), Fail> {
+    assert_eq!(rt; refuted(&rt, rt.alloc())?, 480);
+    Ok(())
+}
+
+const PIGEONS: usize = 5;
+
+const HOLES: usize = 4;
+
+/// The literal that says that this pigeon is in this hole, or that it is not.
+fn inside(pigeon: usize, hole: usize, neg: bool) -> Lit
+    requires pigeon { pigeon < PIGEONS }
+    requires hole { hole < HOLES }
+{
+    Lit {
+        var: HOLES * pigeon + hole,
+        neg,
+    }
+}
+
+/// The pigeon is in some hole.
+fn some_hole(alloc: Global, pigeon: usize) -> Result<Clause, OutOfMemory>
+    requires { pigeon < PIGEONS }
+{
+    let lits = [
+        inside(pigeon, 0, false),
+        inside(pigeon, 1, false),
+        inside(pigeon, 2, false),
+        inside(pigeon, 3, false),
+    ];
+    Clause::of(alloc, &lits)
+}
+
+/// No two of the pigeons up to this one are in this hole.
+fn at_most_one(
+    clauses: &mut ClauseList,
+    alloc: Global,
+    pigeon: usize,
+    hole: usize,
+) -> Result<(), OutOfMemory>
+    requires pigeon { pigeon < PIGEONS }
+    requires hole { hole < HOLES }
+{
+    for other in 0..pigeon {
+        let lits = [inside(pigeon, hole, true), inside(other, hole, true)];
+        clauses.push(Clause::of(alloc, &lits)?)?;
+    }
+    Ok(())
+}
+
+fn in_each_hole(clauses: &mut ClauseList, alloc: Global, pigeon: usize) -> Result<(), OutOfMemory>
+    requires { pigeon < PIGEONS }
+{
+    for hole in 0..HOLES {
+        at_most_one(clauses, alloc, pigeon, hole)?;
+    }
+    Ok(())
+}
+
+/// Each of five pigeons is in one of four holes, and no two in one.
+fn pigeons(alloc: Global) -> Result<Formula, OutOfMemory> {
+    let mut clauses = ClauseList::new(alloc);
+    for pigeon in 0..PIGEONS {
+        clauses.push(some_hole(alloc, pigeon)?)?;
+        in_each_hole(&mut clauses, alloc, pigeon)?;
+    }
+    Ok(Formula {
+        vars: PIGEONS * HOLES,
+        clauses,
+    })
+}
+
+#[test]
+fn five_pigeons_do_not_fit_into_four_holes(rt: HostRuntime) -> Result<(), Fail> {
+    let formula = pigeons(rt.alloc())?;
+    assert!(rt; is_refuted(&rt, rt.alloc(), &formula)?);
+    Ok(())
+}

@@ -1,0 +1,116 @@
+// Declarations at file scope (C11 6.9): what one declared stays, or goes and leaves a note.
+
+ghost use Rattle.std.specs.Prelude.{◌≡◌, take, slice_set, OnOk};
+ghost use Rattle.sc_typed.specs.Extents.{struct_at};
+ghost use Rattle.sc_declare.specs.Numbers.{keys_of};
+ghost use Rattle.sc_files.specs.Notes as spec;
+
+use crate::scope::{forget, keep};
+use sc_base::{List, OutOfMemory, Skip};
+use sc_declare::GlobalNumbers;
+use sc_rules::Walk;
+use sc_typed::StructDef;
+use std::alloc::Global;
+use std::mem;
+
+// The first so many items.
+fn truncate<T: Drop>(alloc: Global, items: &mut List<T>, count: usize)
+    ensures { items.new ≡ take count items.old }
+{
+    let mut all = mem::replace(items, List::new(alloc)).into_vec();
+    all.truncate(count);
+    *items = List::from_vec(all);
+}
+
+// Makes the struct with that number incomplete, if there is one.
+fn make_incomplete(structs: &mut Vec<StructDef>, number: usize)
+    ensures { structs.new.items ≡ slice_set structs.old.items number (spec.incomplete (struct_at structs.old.items number)) }
+{
+    if number < structs.len() {
+        let union = structs[number].union;
+        structs[number] = StructDef {
+            union,
+            fields: None,
+            extent: None,
+        };
+    }
+}
+
+// Makes the structs of those numbers incomplete.
+fn incomplete_at(alloc: Global, structs: &mut List<StructDef>, numbers: &[u32])
+    ensures { structs.new ≡ spec.incomplete_at numbers.now structs.old }
+{
+    let mut all = mem::replace(structs, List::new(alloc)).into_vec();
+    for number in numbers {
+        make_incomplete(&mut all, *number as usize);
+    }
+    *structs = List::from_vec(all);
+}
+
+// Takes back what a declaration with a fault declared.
+fn take_back(
+    alloc: Global,
+    walk: &mut Walk,
+    numbers: &mut GlobalNumbers,
+    globals: usize,
+    records: usize,
+) -> Result<(), OutOfMemory>
+    requires { numbers.old ≡ keys_of walk.old.globals }
+    ensures taken { OnOk result (walk.new ≡ spec.taken_back globals records walk.old) }
+    ensures tied { OnOk result (numbers.new ≡ keys_of walk.new.globals) }
+{
+    forget(&mut walk.names)?;
+    forget(&mut walk.tags)?;
+    let completed = mem::replace(&mut walk.completed, List::new(alloc));
+    incomplete_at(alloc, &mut walk.structs, completed.as_slice());
+    truncate(alloc, &mut walk.globals, globals);
+    truncate(alloc, &mut walk.records, records);
+    numbers.truncate(globals);
+    walk.first = None;
+    Ok(())
+}
+
+// Keeps what a declaration without a fault declared.
+fn keep_walk(alloc: Global, walk: &mut Walk) -> Result<(), OutOfMemory>
+    ensures { OnOk result (walk.new ≡ spec.kept_walk walk.old) }
+{
+    keep(&mut walk.names)?;
+    keep(&mut walk.tags)?;
+    walk.completed = List::new(alloc);
+    walk.first = None;
+    Ok(())
+}
+
+/// Ends a declaration at file scope, before which the walk had so many globals and records. Without a fault what it
+/// declared stays. Else its first fault is put behind the notes, and all that it declared goes.
+///
+/// `numbers` has the numbers of the globals of `walk`, before and after. Where memory is refused none of the three is of
+/// further use.
+pub fn end_declaration(
+    alloc: Global,
+    walk: &mut Walk,
+    numbers: &mut GlobalNumbers,
+    globals: usize,
+    records: usize,
+    notes: &mut List<Skip>,
+) -> Result<(), OutOfMemory>
+    requires { numbers.old ≡ keys_of walk.old.globals }
+    ensures noted { OnOk result (spec.noted_in globals records notes.old walk.old ≡ (notes.new, walk.new)) }
+    ensures tied { OnOk result (numbers.new ≡ keys_of walk.new.globals) }
+{
+    match walk.first {
+        None => keep_walk(alloc, walk),
+        Some(fault) => {
+            notes.push(fault.skip)?;
+            take_back(alloc, walk, numbers, globals, records)
+        }
+    }
+}
+
+/// Begins a file: no name is declared. It takes no memory.
+pub fn begin_file(walk: &mut Walk)
+    ensures { spec.begin_file walk.old ≡ (tt, walk.new) }
+{
+    walk.names.clear();
+    walk.tags.clear();
+}

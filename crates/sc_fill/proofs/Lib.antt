@@ -1,0 +1,4 @@
+pub mod Deeper
+pub mod Front
+pub mod Values
+pub mod Elements

@@ -1,0 +1,4 @@
+pub mod Operands
+pub mod Names
+pub mod Declarators
+pub mod Fields

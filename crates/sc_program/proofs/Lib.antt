@@ -1,0 +1,5 @@
+pub mod Booleans
+pub mod Numbers
+pub mod BodyTable
+pub mod RecordTable
+pub mod Insert

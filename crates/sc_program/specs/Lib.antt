@@ -1,0 +1,6 @@
+pub mod Firsts
+pub mod Places
+pub mod Bodies
+pub mod Globals
+pub mod Tables
+pub mod Types

@@ -1,0 +1,4 @@
+pub mod Here
+pub mod Tables
+pub mod Shapes
+pub mod Typing
