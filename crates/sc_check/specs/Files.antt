@@ -28,8 +28,8 @@ use Rattle.sc_typing.specs.Here.{Here}
 use Rattle.sc_typing.specs.declared.shapes.Own.{Own}
 use Rattle.sc_typing.specs.Shapes.{Heading}
 use Rattle.sc_typing.specs.Typing.{heading}
-use Rattle.sc_check.specs.Declarations.{name_of, declaration}
-use Rattle.sc_check.specs.Bodies.{Inside, stating}
+use Rattle.sc_declarations.specs.Declarations.{name_of, declaration}
+use Rattle.sc_bodies.specs.Bodies.{Inside, stating}
 use Rattle.sc_jumps.specs.Jumps.{jumps, jumps_of}
 
 -- Functions.

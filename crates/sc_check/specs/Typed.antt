@@ -24,7 +24,7 @@ use Rattle.sc_program.specs.Bodies.{first_clash, body_named, is_too_many}
 use Rattle.sc_program.specs.Globals.{is_local_global, type_over_all}
 use Rattle.sc_typing.specs.Here.{Here}
 use Rattle.sc_typing.specs.Typing.{heading}
-use Rattle.sc_check.specs.Declarations.{name_of}
+use Rattle.sc_declarations.specs.Declarations.{name_of}
 use Rattle.sc_check.specs.Files.{Made, file_in}
 
 -- What is given: the texts of the names, the names of the files, and their trees.

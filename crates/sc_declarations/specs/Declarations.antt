@@ -30,8 +30,8 @@ use Rattle.sc_typing.specs.declared.shapes.Own.{Own}
 use Rattle.sc_typing.specs.declared.shapes.Shape.{Shape}
 use Rattle.sc_typing.specs.Shapes.{Declaring}
 use Rattle.sc_typing.specs.Typing.{declaring, naming}
-use Rattle.sc_check.specs.Initialisers.{initialiser}
-use Rattle.sc_check.specs.Lengths.{completed_type}
+use Rattle.sc_declarations.specs.Initialisers.{initialiser}
+use Rattle.sc_lengths.specs.Lengths.{completed_type}
 
 -- what stands for the name of a declarator that has none; in a declaration each has one
 abbrev pub no_name : NameId × Pos

@@ -20,7 +20,7 @@ use Rattle.sc_statements.specs.Choices.{choices_differ}
 use Rattle.sc_statements.specs.Statements.{scalar, switched, statement, case_of, jump, return_as}
 use Rattle.sc_typing.specs.Here.{Here}
 use Rattle.sc_typing.specs.Typing.{typing, valued}
-use Rattle.sc_check.specs.Declarations.{declaration}
+use Rattle.sc_declarations.specs.Declarations.{declaration}
 
 -- What stands round a statement.
 pub record Inside : Type 0 where
