@@ -1,0 +1,9 @@
+pub mod Steps
+pub mod Places
+pub mod Values
+pub mod Stores
+pub mod Paths
+pub mod Calls
+pub mod Expressions
+pub mod Statements
+pub mod Entry

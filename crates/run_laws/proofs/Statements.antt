@@ -1,0 +1,287 @@
+-- Statements, and whole runs.
+use Rattle.std.proofs.Common.{◌≡◌, ℕ, zero, suc, ◌+◌, ◌*◌, Bool, true, false, List, [], ◌∷◌, length}
+use Rattle.std.specs.Prelude.{Option, Some, None, nat_eq, if◌then◌else◌}
+use Rattle.std.specs.List.{AllByRecursion}
+use Rattle.sc_base.specs.declared.pos.Pos.{Pos}
+use Rattle.sc_base.specs.declared.pos.NameId.{NameId}
+use Rattle.sc_typed.specs.declared.stmt.Declared.{Declared}
+use Rattle.sc_typed.specs.declared.stmt.Declared.TheVariants as declared
+use Rattle.sc_typed.specs.declared.stmt.InitStep.{InitStep}
+use Rattle.sc_typed.specs.declared.stmt.InitStep.TheVariants as into
+use Rattle.run_store.specs.Concrete.{Cell, Number, Pointer, Nothing, blank}
+use Rattle.sum_rows.specs.declared.path.Step.TheVariants as step
+use Rattle.sum_rows.specs.declared.report.What.{What}
+use Rattle.sum_rows.specs.declared.report.What.TheVariants as what
+use Rattle.sc_world.specs.declared.run.Origin.TheVariants as origin
+use Rattle.sc_world.specs.declared.run.Reason.TheVariants as reason
+use Rattle.sc_world.specs.Tree.{Exp, type_of, Given, Init, NoInit, One, Braces, Dec, Start, NoStart, Begin, Declare, Stm, Block, Decl, Evaluate, If, IfElse, While, Do, For, Switch, Case, Default, Goto, Break, Continue, Return, Label, Stms, NoStms, Stms'}
+use Rattle.sc_world.specs.Source.{Source}
+use Rattle.sc_world.specs.Layout.{Layout, location, location_of, part}
+use Rattle.sc_world.specs.World.{World, Run, ◌>>=◌, done, aside, Env, is_true, number_of, kind_of_type}
+use Rattle.sc_world.specs.Eval.{Value, Place', eval, place_of, cells_of}
+use Rattle.sc_world.specs.Exec.{Flow, Next, Breaks, Continues, GoesTo, Returns, Seek, Here, AtLabel, AtCase, AtDefault, found, left, goes_on_in, chosen_item, out_of_switch, in_turn, condition, after_turn, turns, again, do_turns, name_of_member, member_part, part_into, part_if, part_along, part_at, is_scalar, cells_given, all_given, clear, set_part, set_parts, initialise, declared_as, declarator, declarators, evaluate_if, begin, condition_if, switch_event, while_by, do_by, with_step, for_by, return_value, switch_by, exec, exec_all, end_of, result_or, finished}
+use Rattle.run_laws.proofs.Steps.{Whatever, Leads, chain, gives, stops, either, IsPlace, Inside, Rules}
+use Rattle.run_laws.proofs.Places.{IfPlace, ArePlaces, AreInside, part_place, origin_place, blank_inside, nothing_inside, cells_places}
+use Rattle.run_laws.proofs.Values.{tree, stores, tells, loads_all, stores_all, copies}
+use Rattle.run_laws.proofs.Expressions.{evaluates}
+
+module _ (s : Source) (p : Layout) (choice : List Bool) (temps : List Cell) (P : World → Type 0) (r : Rules s p temps P) where
+  abbrev here : ℕ → Env
+  here t = tree s p choice temps P r t
+
+  abbrev Marks : Run (Unit {0}) → Type 0
+  Marks m = Leads P Whatever m
+
+  abbrev Asks : Run Bool → Type 0
+  Asks m = Leads P Whatever m
+
+  -- what a statement hands over: a value that is returned points into the layout
+  pub FlowInside : Flow → Type 0
+  FlowInside (Returns c) = Inside p c
+  FlowInside _ = Unit {0}
+
+  abbrev Flows : Run Flow → Type 0
+  Flows m = Leads P FlowInside m
+
+  -- Conditions.
+
+  asks : (q : Pos) (x : Bool → What) (e : Exp) (t : ℕ) → Asks (condition q x e (here t))
+  asks q x e t =
+      chain P (evaluates s p choice temps P r e Value t)
+      (λ v _. chain P (tells s p choice temps P r q (x (is_true v))) (λ _ _. gives P {a = is_true v} tt))
+
+  asks_if : (q : Pos) (e : Option Exp) (t : ℕ) → Asks (condition_if q e (here t))
+  asks_if q None t = chain P (tells s p choice temps P r q (what.Loop true)) (λ _ _. gives P {a = true} tt)
+  asks_if q (Some e) t = asks q what.Loop e t
+
+  -- Initialisers.
+
+  member_place : (at : ℕ) (n : Option NameId) → IfPlace p (member_part p at n)
+  member_place at None = tt
+  member_place at (Some n) = part_place p at (step.Field n)
+
+  into_place : (t at : ℕ) (x : InitStep) → IfPlace p (part_into (here t) at x)
+  into_place t at (into.Field n) = member_place at (name_of_member s (location p at).type n)
+  into_place t at (into.Elem n) = part_place p at (step.Elem n)
+
+  if_place : (o : Option ℕ) (f : ℕ → Option ℕ) → IfPlace p o → ((at : ℕ) → IsPlace p at → IfPlace p (f at)) → IfPlace p (part_if o f)
+  if_place None f h hf = tt
+  if_place (Some at) f h hf = hf at h
+
+  along_place : (t : ℕ) (xs : List InitStep) (at : ℕ) → IsPlace p at → IfPlace p (part_along (here t) xs at)
+  along_place t [] at h = h
+  along_place t (x ∷ xs) at h =
+      if_place (part_into (here t) at x) (part_along (here t) xs) (into_place t at x) (λ k hk. along_place t xs k hk)
+
+  cells : (e : Exp) (t : ℕ) → Leads P (AreInside p) (cells_given e (here t))
+  cells e t =
+      either P (is_scalar (type_of e)) (chain P (evaluates s p choice temps P r e Value t) (λ v hv. gives P {a = v ∷ []} (hv, tt)))
+      (chain P (evaluates s p choice temps P r e Place' t) (λ q _. loads_all s p choice temps P r (cells_of p (place_of q))))
+
+  abbrev AllInside : List (List Cell) → Type 0
+  AllInside cs = AllByRecursion (AreInside p) cs
+
+  all_cells : (xs : List Given) (t : ℕ) → Leads P AllInside (all_given xs (here t))
+  all_cells [] t = gives P {a = []} tt
+  all_cells (x ∷ xs) t =
+      chain P (cells x.value t) (λ c hc. chain P (all_cells xs t) (λ cs hs. gives P {a = c ∷ cs} (hc, hs)))
+
+  clears : (t : ℕ) (ks : List ℕ) → ArePlaces p ks → Marks (clear (here t) ks)
+  clears t [] h = gives P tt
+  clears t (k ∷ ks) h =
+      chain P
+      (stores s p choice temps P r k (blank (kind_of_type s (location p k).type)) h.0 (blank_inside p (kind_of_type s (location p k).type)))
+      (λ _ _. clears t ks h.1)
+
+  sets_part : (t : ℕ) (o : Option ℕ) (cs : List Cell) → AreInside p cs → Marks (set_part (here t) o cs)
+  sets_part t None cs h = gives P tt
+  sets_part t (Some at) cs h = stores_all s p choice temps P r (cells_of p at) cs (cells_places p at) h
+
+  sets_parts : (t at : ℕ) (xs : List Given) (cs : List (List Cell)) → AllInside cs → Marks (set_parts (here t) at xs cs)
+  sets_parts t at [] cs h = gives P tt
+  sets_parts t at (x ∷ xs) [] h = gives P tt
+  sets_parts t at (x ∷ xs) (c ∷ cs) h =
+      chain P (sets_part t (part_at (here t) at x.way) c h.0) (λ _ _. sets_parts t at xs cs h.1)
+
+  initialises : (at : ℕ) (x : Init) (t : ℕ) → IsPlace p at → Marks (initialise at x (here t))
+  initialises at NoInit t h = gives P tt
+  initialises at (One e) t h =
+      either P (is_scalar (type_of e))
+      (chain P (evaluates s p choice temps P r e Value t) (λ v hv. stores s p choice temps P r at v h hv))
+      (chain P (evaluates s p choice temps P r e Place' t) (λ q _. copies s p choice temps P r t (place_of q) at))
+  initialises at (Braces xs) t h =
+      chain P (all_cells xs t)
+      (λ cs hs. chain P (clears t (cells_of p at) (cells_places p at)) (λ _ _. sets_parts t at xs cs hs))
+
+  declares_as : (d : Declared) (x : Init) (t : ℕ) → Marks (declared_as d x (here t))
+  declares_as (declared.Local n) x t = initialises (location_of p (origin.Local n)) x t (origin_place p (origin.Local n))
+  declares_as (declared.Global n) x t = gives P tt
+  declares_as declared.Function x t = gives P tt
+
+  declares : (ds : List Dec) (t : ℕ) → Marks (declarators ds (here t))
+  declares [] t = gives P tt
+  declares (d ∷ ds) t = chain P (declares_as d.declared d.init t) (λ _ _. declares ds t)
+
+  evaluates_if : (e : Option Exp) (t : ℕ) → Marks (evaluate_if e (here t))
+  evaluates_if None t = gives P tt
+  evaluates_if (Some e) t = chain P (evaluates s p choice temps P r e Value t) (λ _ _. gives P tt)
+
+  begins : (x : Start) (t : ℕ) → Marks (begin x (here t))
+  begins NoStart t = gives P tt
+  begins (Begin e) t = evaluates_if (Some e) t
+  begins (Declare ds) t = declares ds t
+
+  -- Loops.
+
+  behind_turn : (f : Flow) (more : Run Flow) → FlowInside f → Flows more → Flows (after_turn f more)
+  unfolding FlowInside
+  behind_turn Next more h l = l
+  behind_turn Continues more h l = l
+  behind_turn Breaks more h l = gives P {a = Next} tt
+  behind_turn (GoesTo n) more h l = gives P {a = GoesTo n} tt
+  behind_turn (Returns c) more h l = gives P {a = Returns c} h
+
+  next_inside : FlowInside Next
+  unfolding FlowInside
+  next_inside = tt
+
+  takes_turns : (k t : ℕ) (test : ℕ → Run Bool) (body : ℕ → Run Flow) → ((n : ℕ) → Asks (test n)) → ((n : ℕ) → Flows (body n))
+      → Flows (turns k t test body)
+  takes_turns zero t test body ht hb =
+      chain P (ht t) (λ b _. either P b (stops P) (gives P {a = Next} next_inside))
+  takes_turns (suc more) t test body ht hb =
+      chain P (ht t)
+      (λ b _. either P b
+      (chain P (hb t) (λ f hf. behind_turn f (turns more (t + 1) test body) hf (takes_turns more (t + 1) test body ht hb)))
+      (gives P {a = Next} next_inside))
+
+  goes_again : (b : Bool) (k : ℕ) (more : Run Flow) → Flows more → Flows (again b k more)
+  goes_again false k more l = gives P {a = Next} next_inside
+  goes_again true zero more l = stops P
+  goes_again true (suc k) more l = l
+
+  takes_do_turns : (k t : ℕ) (test : ℕ → Run Bool) (body : ℕ → Run Flow) → ((n : ℕ) → Asks (test n)) → ((n : ℕ) → Flows (body n))
+      → Flows (do_turns k t test body)
+  takes_do_turns zero t test body ht hb = stops P
+  takes_do_turns (suc more) t test body ht hb =
+      chain P (hb t)
+      (λ f hf. behind_turn f (test t >>= λ b. again b more (do_turns more (t + 1) test body)) hf
+      (chain P (ht t) (λ b _. goes_again b more (do_turns more (t + 1) test body) (takes_do_turns more (t + 1) test body ht hb))))
+
+  steps_behind : (n : Option Exp) (t : ℕ) (f : Flow) → FlowInside f → Flows (with_step n (here t) f)
+  unfolding FlowInside
+  steps_behind n t Next h = chain P (evaluates_if n t) (λ _ _. gives P {a = Next} tt)
+  steps_behind n t Continues h = chain P (evaluates_if n t) (λ _ _. gives P {a = Next} tt)
+  steps_behind n t Breaks h = gives P {a = Breaks} tt
+  steps_behind n t (GoesTo m) h = gives P {a = GoesTo m} tt
+  steps_behind n t (Returns c) h = gives P {a = Returns c} h
+
+  -- Statements.
+
+  returns : (q : Pos) (e : Option Exp) (t : ℕ) → Flows (return_value q e (here t))
+  unfolding FlowInside
+  returns q None t = chain P (tells s p choice temps P r q what.Return) (λ _ _. gives P {a = Returns Nothing} (nothing_inside p))
+  returns q (Some e) t =
+      chain P (evaluates s p choice temps P r e Value t)
+      (λ v hv. chain P (tells s p choice temps P r q what.Return) (λ _ _. gives P {a = Returns v} hv))
+
+  leaves_switch : (f : Flow) → FlowInside f → FlowInside (out_of_switch f)
+  unfolding FlowInside
+  leaves_switch Breaks h = tt
+  leaves_switch Next h = tt
+  leaves_switch Continues h = tt
+  leaves_switch (GoesTo n) h = tt
+  leaves_switch (Returns c) h = h
+
+  switches : (o : Option Seek) (items : Seek → Run Flow) → ((k : Seek) → Flows (items k)) → Flows (switch_by o items)
+  switches None items l = gives P {a = Next} next_inside
+  switches (Some k) items l = chain P (l k) (λ f hf. gives P {a = out_of_switch f} (leaves_switch f hf))
+
+  goes_in : (f : Flow) (rest : Seek → Run Flow) → FlowInside f → ((k : Seek) → Flows (rest k)) → Flows (goes_on_in f rest)
+  unfolding FlowInside
+  goes_in Next rest h l = l Here
+  goes_in (GoesTo n) rest h l = l (AtLabel n)
+  goes_in Breaks rest h l = gives P {a = Breaks} tt
+  goes_in Continues rest h l = gives P {a = Continues} tt
+  goes_in (Returns c) rest h l = gives P {a = Returns c} h
+
+  left_inside : (k : Seek) → FlowInside (left k)
+  unfolding FlowInside
+  left_inside Here = tt
+  left_inside (AtLabel n) = tt
+  left_inside (AtCase n) = tt
+  left_inside AtDefault = tt
+
+  plain : (f : Flow) → FlowInside f → Flows (done f)
+  plain f h = gives P {a = f} h
+
+  breaks_inside : FlowInside Breaks
+  unfolding FlowInside
+  breaks_inside = tt
+
+  continues_inside : FlowInside Continues
+  unfolding FlowInside
+  continues_inside = tt
+
+  goto_inside : (n : NameId) → FlowInside (GoesTo n)
+  unfolding FlowInside
+  goto_inside n = tt
+
+  mutual
+    pub executes : (x : Stm) (t : ℕ) → Flows (exec x (here t))
+    executes (Block xs end) t = executes_all xs Here t
+    executes (Decl ds) t = chain P (declares ds t) (λ _ _. plain Next next_inside)
+    executes (Evaluate e) t = chain P (evaluates_if e t) (λ _ _. plain Next next_inside)
+    executes (If q e x) t = chain P (asks q what.If e t) (λ b _. either P b (executes x t) (plain Next next_inside))
+    executes (IfElse q e x y) t = chain P (asks q what.If e t) (λ b _. either P b (executes x t) (executes y t))
+    executes (While q e x) t =
+        takes_turns s.depth 0 (λ n. condition q what.Loop e (in_turn (here t) (s.depth + 1) n)) (λ n. exec x (in_turn (here t) s.depth n))
+        (λ n. asks q what.Loop e (t * (s.depth + 1) + n)) (λ n. executes x (t * s.depth + n))
+    executes (Do q x e) t =
+        takes_do_turns s.depth 0 (λ n. condition q what.Loop e (in_turn (here t) s.depth n)) (λ n. exec x (in_turn (here t) s.depth n))
+        (λ n. asks q what.Loop e (t * s.depth + n)) (λ n. executes x (t * s.depth + n))
+    executes (For q f c n x) t =
+        chain P (begins f t)
+        (λ _ _. takes_turns s.depth 0 (λ k. condition_if q c (in_turn (here t) (s.depth + 1) k))
+        (λ k. exec x (in_turn (here t) s.depth k) >>= λ g. with_step n (in_turn (here t) s.depth k) g)
+        (λ k. asks_if q c (t * (s.depth + 1) + k))
+        (λ k. chain P (executes x (t * s.depth + k)) (λ g hg. steps_behind n (t * s.depth + k) g hg)))
+    executes (Switch q e xs) t =
+        chain P (evaluates s p choice temps P r e Value t)
+        (λ v _. chain P (tells s p choice temps P r q (switch_event (here t) (type_of e) v))
+        (λ _ _. switches (chosen_item (number_of v) xs) (λ k. exec_all xs k (here t)) (λ k. executes_all xs k t)))
+    executes (Case n e) t = plain Next next_inside
+    executes Default t = plain Next next_inside
+    executes (Goto q n) t = chain P (tells s p choice temps P r q (what.Goto n)) (λ _ _. plain (GoesTo n) (goto_inside n))
+    executes Break t = plain Breaks breaks_inside
+    executes Continue t = plain Continues continues_inside
+    executes (Return q e) t = returns q e t
+    executes (Label n x) t = executes x t
+
+    pub executes_all : (xs : Stms) (k : Seek) (t : ℕ) → Flows (exec_all xs k (here t))
+    executes_all NoStms k t = plain (left k) (left_inside k)
+    executes_all (Stms' x rest) k t =
+        either P (found k x)
+        (chain P (executes x t) (λ f hf. goes_in f (λ again. exec_all rest again (here t)) hf (λ again. executes_all rest again t)))
+        (executes_all rest k t)
+
+  result_inside : (c : Cell) → Inside p c → Inside p (result_or s c)
+  result_inside Nothing h = blank_inside p (kind_of_type s (Some s.result))
+  result_inside (Number w n) h = h
+  result_inside (Pointer t) h = h
+
+  falls_off : Leads P (Inside p) (finished s Next)
+  falls_off =
+      chain P (tells s p choice temps P r (end_of s.body) what.End) (λ _ _. gives P (result_inside Nothing (nothing_inside p)))
+
+  finishes : (f : Flow) → FlowInside f → Leads P (Inside p) (finished s f)
+  unfolding FlowInside
+  finishes (Returns c) h = gives P (result_inside c h)
+  finishes Next h = falls_off
+  finishes Breaks h = falls_off
+  finishes Continues h = falls_off
+  finishes (GoesTo n) h = falls_off
+
+  -- a whole run, from a world with the property
+  pub runs : Leads P (Inside p) (exec s.body (here 0) >>= finished s)
+  runs = chain P (executes s.body 0) (λ f hf. finishes f hf)

@@ -1,0 +1,34 @@
+// What holds of the store of every run.
+
+ghost use Rattle.std.specs.Prelude.{ℕ, ◌<◌, List, Bool, IfOk, length};
+ghost use Rattle.fsm_spec.specs.Table.{IsWhole};
+ghost use Rattle.sc_world.specs.Source.{Source};
+ghost use Rattle.sc_world.specs.Layout.{Layout};
+ghost use Rattle.sc_world.specs.World as world;
+ghost use Rattle.sc_world.specs.World.{World, Env};
+ghost use Rattle.sc_world.specs.Tree.{Exp, Stm};
+ghost use Rattle.sc_world.specs.Eval as eval;
+ghost use Rattle.sc_world.specs.Exec as exec;
+ghost use Rattle.run_laws.specs.Keeps.{Keeps};
+ghost use Rattle.run_laws.specs.Proper.{IsClosed, KeepsInside, PointsInside, IsProper};
+
+/// The store is proper at entry and after every expression and every statement, whatever they give and however they
+/// end, and so at the end of a run: no pointer leads out of the layout, each cell is of the kind that the type of its
+/// location has, and each location is in a state of the machine, or in any state where callers do not know it. What
+/// expressions and functions give points into the layout, too. This is asked of no program: only of the layout that its
+/// objects be locations, and of the machine that its targets be states.
+pub fn worlds_stay_proper()
+    ensures entry { (s : Source) (p : Layout) (choice : List Bool) → IsWhole s.machine → IsClosed p
+        → IsProper s p (world.entry_world s p choice) }
+    ensures expressions { (env : Env) (e : Exp) (want : eval.Want) → IsWhole env.source.machine → IsClosed env.layout
+        → KeepsInside env → Keeps (IsProper env.source env.layout) (eval.eval e want env) }
+    ensures statements { (env : Env) (x : Stm) → IsWhole env.source.machine → IsClosed env.layout
+        → KeepsInside env → Keeps (IsProper env.source env.layout) (exec.exec x env) }
+    ensures runs { (s : Source) (p : Layout) (choice : List Bool) → IsWhole s.machine → IsClosed p
+        → IsProper s p (exec.run s p choice).1 }
+    ensures values { (env : Env) (e : Exp) (want : eval.Want) (w : World) → IsWhole env.source.machine
+        → IsClosed env.layout → KeepsInside env → 0 < length env.layout.locations
+        → IsProper env.source env.layout w → IfOk (eval.eval e want env w).0 (PointsInside env.layout) }
+    ensures results { (s : Source) (p : Layout) (choice : List Bool) → IsWhole s.machine → IsClosed p
+        → 0 < length p.locations → IfOk (exec.run s p choice).0 (PointsInside p) }
+{}

@@ -1,0 +1,7 @@
+//! Laws on the worlds of runs: what holds of the store at entry and after every step. Each law is the clause of a
+//! function that does nothing.
+#![tactic(auto)]
+
+mod laws;
+
+pub use laws::worlds_stay_proper;
