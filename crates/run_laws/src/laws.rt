@@ -1,16 +1,22 @@
 // What holds of the store of every run.
 
-ghost use Rattle.std.specs.Prelude.{ℕ, ◌<◌, List, Bool, IfOk, length};
+ghost use Rattle.std.specs.Prelude.{◌≡◌, ℕ, ◌<◌, List, Bool, true, IfOk, length};
 ghost use Rattle.fsm_spec.specs.Table.{IsWhole};
 ghost use Rattle.sc_world.specs.Source.{Source};
-ghost use Rattle.sc_world.specs.Layout.{Layout};
+ghost use Rattle.sc_world.specs.Layout.{Layout, location, is_outer};
 ghost use Rattle.sc_world.specs.World as world;
 ghost use Rattle.sc_world.specs.World.{World, Env};
 ghost use Rattle.sc_world.specs.Tree.{Exp, Stm};
 ghost use Rattle.sc_world.specs.Eval as eval;
 ghost use Rattle.sc_world.specs.Exec as exec;
+ghost use Rattle.sc_world.specs.Paths.{Texts};
+ghost use Rattle.sc_world.specs.Shows as query;
+ghost use Rattle.sc_world.specs.Verdict as verdict;
+ghost use Rattle.world_laws.specs.Runs.{HasAllRowsOfRuns};
 ghost use Rattle.run_laws.specs.Keeps.{Keeps};
 ghost use Rattle.run_laws.specs.Proper.{IsClosed, KeepsInside, PointsInside, IsProper};
+
+use world_laws::rows_are_those_of_runs;
 
 /// The store is proper at entry and after every expression and every statement, whatever they give and however they
 /// end, and so at the end of a run: no pointer leads out of the layout, each cell is of the kind that the type of its
@@ -32,3 +38,13 @@ pub fn worlds_stay_proper()
     ensures results { (s : Source) (p : Layout) (choice : List Bool) → IsWhole s.machine → IsClosed p
         → 0 < length p.locations → IfOk (exec.run s p choice).0 (PointsInside p) }
 {}
+
+/// The rows of a location that callers know are exactly those that the run of some choice of the defined length has.
+pub fn rows_of_locations_are_those_of_runs()
+    ensures { (s : Source) (x : Texts) (at : ℕ) → IsWhole s.machine → IsClosed x.layout
+        → is_outer (location x.layout at) ≡ true
+        → HasAllRowsOfRuns s x (query.Locks at) (verdict.lock_rows s x (verdict.answers s x) at) }
+{
+    worlds_stay_proper();
+    rows_are_those_of_runs();
+}
