@@ -8,3 +8,5 @@ pub mod Expressions
 pub mod Statements
 pub mod Entry
 pub mod Rows
+pub mod Laying
+pub mod LaidOut

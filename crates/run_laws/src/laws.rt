@@ -1,9 +1,10 @@
-// What holds of the store of every run.
+// What holds of the layout of every function and of the store of every run.
 
 ghost use Rattle.std.specs.Prelude.{◌≡◌, ℕ, ◌<◌, List, Bool, true, IfOk, length};
 ghost use Rattle.fsm_spec.specs.Table.{IsWhole};
 ghost use Rattle.sc_world.specs.Source.{Source};
 ghost use Rattle.sc_world.specs.Layout.{Layout, location, is_outer};
+ghost use Rattle.sc_world.specs.Places.{places};
 ghost use Rattle.sc_world.specs.World as world;
 ghost use Rattle.sc_world.specs.World.{World, Env};
 ghost use Rattle.sc_world.specs.Tree.{Exp, Stm};
@@ -17,6 +18,11 @@ ghost use Rattle.run_laws.specs.Keeps.{Keeps};
 ghost use Rattle.run_laws.specs.Proper.{IsClosed, KeepsInside, PointsInside, IsProper};
 
 use world_laws::rows_are_those_of_runs;
+
+/// The objects that the layout of a function names are among its locations.
+pub fn layouts_are_closed()
+    ensures { (s : Source) → IfOk (places s) IsClosed }
+{}
 
 /// The store is proper at entry and after every expression and every statement, whatever they give and however they
 /// end, and so at the end of a run: no pointer leads out of the layout, each cell is of the kind that the type of its
