@@ -25,7 +25,7 @@ use Rattle.sc_world.specs.World.{World, Error, Inner, Run, ◌>>=◌, done, Env,
 use Rattle.sc_world.specs.Known.{Locked, Outed, Written, locks, outs, writes, count_items, is_lock, is_param, is_out_item, meet_twice, Given, given_int, given_pointer, given_nothing, given_by, given_number, state_after, from_state, lock_stands, locks_stand, params_stand, param_spot, out_stands, exit_rows, stands, row, set_states, mark_if, out_state, out_cell, set_out_as, set_outs, written_cell, same_kind, set_written, set_writes, free_at, free, may_free, escape_at, escape, param_state, param_effect, param_acts, params_act, spot_behind, first_error, error_stands, Acting, effects, rows_stand, acts_as, Failing, errs, acts_unless, acts, known}
 use Rattle.sc_world.specs.Eval.{first_arg, fails, target_from, zero_of, goes_to, operation, locked, tried, try, mark_object, allocate, escape_all, escaped_object, unknown, release, known_by, act, call}
 use Rattle.sc_world.specs.Eval as eval
-use Rattle.run_laws.proofs.Steps.{Whatever, Leads, chain, gives, stops, either, requires, weaker, IsPlace, Inside, Rules}
+use Rattle.run_laws.proofs.Steps.{Whatever, Leads, chain, gives, stops, either, either_as, requires, weaker, IsPlace, Inside, Rules}
 use Rattle.run_laws.proofs.Places.{IfPlace, AreInside, at_index, place_named, null_inside, number_inside, nothing_inside, target_inside, if_inside}
 use Rattle.run_laws.proofs.Values.{tree, stores, marks, asks, tells, state_asked, state_set, reaches, first_arg_inside}
 use Rattle.run_laws.proofs.Paths.{arg_inside, finds_locks, OutInside, finds_outs, WrittenInside, finds_writes}
@@ -176,96 +176,111 @@ module _ (s : Source) (p : Layout) (choice : List Bool) (temps : List Cell) (P :
     pub writes : AllByRecursion (WrittenInside s p choice temps P r) a.writes
     pub object : IfPlace p a.occurrence.object
 
-  GivenInside : Option Given → Type 0
-  GivenInside None = Unit {0}
-  GivenInside (Some g) = Inside p g.value
+  -- what is given as a value, if anything
+  abbrev pub IfGiven : (Cell → Type 0) → Option Given → Type 0
+  IfGiven Q None = Unit {0}
+  IfGiven Q (Some g) = Q g.value
 
-  pointer_given : (n : ℕ) (o : Option ℕ) → IfPlace p o → GivenInside (given_pointer n o)
-  unfolding GivenInside
-  pointer_given zero o h = null_inside p
-  pointer_given (suc zero) o h = target_inside p o h
-  pointer_given (suc (suc zero)) o h = target_inside p o h
-  pointer_given (suc (suc (suc n))) o h = tt
+  pub pointer_given : (Q : Cell → Type 0) (n : ℕ) (o : Option ℕ) → Q null → Q (target_or_null o) → IfGiven Q (given_pointer n o)
+  pointer_given Q zero o h i = h
+  pointer_given Q (suc zero) o h i = i
+  pointer_given Q (suc (suc zero)) o h i = i
+  pointer_given Q (suc (suc (suc n))) o h i = tt
 
-  if_given : (b : Bool) (g h : Option Given) → GivenInside g → GivenInside h → GivenInside (if b then g else h)
-  if_given true g h i j = i
-  if_given false g h i j = j
+  if_given : (Q : Cell → Type 0) (b : Bool) (g h : Option Given) → (b ≡ true → IfGiven Q g) → (b ≡ false → IfGiven Q h)
+      → IfGiven Q (if b then g else h)
+  if_given Q true g h i j = i refl
+  if_given Q false g h i j = j refl
 
-  what_given : (t : ℕ) (o : Occurrence) (y : Ty) → IfPlace p o.object → GivenInside (given_by (here t) o y)
-  unfolding GivenInside
-  what_given t o y h =
-      if_given (is_integer y) (Some (given_int (int_bits s.widths y) (number_at choice o.bit (int_bits s.widths y))))
+  -- what the choice may give as a result of that type, and what an unknown call gives
+  pub record Results (Q : Cell → Type 0) (y : Ty) (o : Option ℕ) : Type 0 where
+    pub number : is_integer y ≡ true → (n : ℕ) → Q (Number (int_bits s.widths y) n)
+    pub null : is_pointer y ≡ true → Q null
+    pub object : is_pointer y ≡ true → Q (target_or_null o)
+    pub nothing : is_integer y ≡ false → is_pointer y ≡ false → Q Nothing
+
+  what_given : (Q : Cell → Type 0) (t : ℕ) (o : Occurrence) (y : Ty) → Results Q y o.object → IfGiven Q (given_by (here t) o y)
+  what_given Q t o y h =
+      if_given Q (is_integer y) (Some (given_int (int_bits s.widths y) (number_at choice o.bit (int_bits s.widths y))))
       (if is_pointer y then given_pointer (number_at choice o.bit 2) o.object else Some given_nothing)
-      (number_inside p (int_bits s.widths y) (number_at choice o.bit (int_bits s.widths y)))
-      (if_given (is_pointer y) (given_pointer (number_at choice o.bit 2) o.object) (Some given_nothing)
-      (pointer_given (number_at choice o.bit 2) o.object h) (nothing_inside p))
+      (λ e. h.number e (number_at choice o.bit (int_bits s.widths y)))
+      (λ e. if_given Q (is_pointer y) (given_pointer (number_at choice o.bit 2) o.object) (Some given_nothing)
+      (λ f. pointer_given Q (number_at choice o.bit 2) o.object (h.null f) (h.object f)) (λ f. h.nothing e f))
 
-  takes_effect : (t : ℕ) (a : Acting) (g : Given) (ks : List ℕ) → ActsInside a → Inside p g.value → Named ks → Does (effects (here t) a g ks)
-  takes_effect t a g ks h hg hk =
+  takes_effect : (Q : Cell → Type 0) (t : ℕ) (a : Acting) (g : Given) (ks : List ℕ) → ActsInside a → Q g.value → Named ks
+      → Leads P Q (effects (here t) a g ks)
+  takes_effect Q t a g ks h hg hk =
       chain P (sets_states t ks a.locks hk)
       (λ _ _. chain P (sets_outs t a.outs h.outs)
       (λ _ _. chain P (sets_writes t a.writes h.writes)
       (λ _ _. chain P (params_done t a.args (param_spot a) a.summary.items)
       (λ _ _. chain P (marks_if g.object g.kind) (λ _ _. gives P hg)))))
 
-  acts_given : (t : ℕ) (a : Acting) (g : Option Given) → ActsInside a → GivenInside g → Does (acts_as (here t) a g)
-  unfolding GivenInside
-  acts_given t a None h hg = stops P
-  acts_given t a (Some g) h hg =
+  acts_given : (Q : Cell → Type 0) (t : ℕ) (a : Acting) (g : Option Given) → ActsInside a → IfGiven Q g
+      → Leads P Q (acts_as (here t) a g)
+  acts_given Q t a None h hg = stops P
+  acts_given Q t a (Some g) h hg =
       chain P (rows_asked t a g)
       (λ b _. chain P (requires P b reason.NoRow)
-      (λ _ _. takes_effect t a g (map (state_after (here t)) a.locks) h hg (all_named t a.locks)))
+      (λ _ _. takes_effect Q t a g (map (state_after (here t)) a.locks) h hg (all_named t a.locks)))
 
-  errs_there : (t : ℕ) (f : Failing) (a : Acting) (l : Locked) → ((at : ℕ) → Does (f at)) → Does (errs (here t) f a l)
-  errs_there t f a l hf =
+  errs_there : (Q : Cell → Type 0) (t : ℕ) (f : Failing) (a : Acting) (l : Locked) → ((at : ℕ) → Leads P Q (f at))
+      → Leads P Q (errs (here t) f a l)
+  errs_there Q t f a l hf =
       chain P (state_asked s p choice temps P r t l.at)
       (λ k _. chain P (requires P (error_stands a.given k l) reason.NoRow)
       (λ _ _. chain P (marks s p choice temps P r l.at flag.Touched) (λ _ _. hf l.at)))
 
-  acts_or_errs : (t : ℕ) (f : Failing) (y : Ty) (a : Acting) (o : Option Locked) → ActsInside a → ((at : ℕ) → Does (f at))
-      → Does (acts_unless (here t) f y a o)
-  acts_or_errs t f y a (Some l) h hf = errs_there t f a l hf
-  acts_or_errs t f y a None h hf =
-      acts_given t a (given_by (here t) a.occurrence y) h (what_given t a.occurrence y h.object)
+  acts_or_errs : (Q : Cell → Type 0) (t : ℕ) (f : Failing) (y : Ty) (a : Acting) (o : Option Locked) → ActsInside a
+      → Results Q y a.occurrence.object → ((at : ℕ) → Leads P Q (f at)) → Leads P Q (acts_unless (here t) f y a o)
+  acts_or_errs Q t f y a (Some l) h hr hf = errs_there Q t f a l hf
+  acts_or_errs Q t f y a None h hr hf =
+      acts_given Q t a (given_by (here t) a.occurrence y) h (what_given Q t a.occurrence y hr)
 
-  acts_inside : (t : ℕ) (f : Failing) (y : Ty) (a : Acting) → ActsInside a → ((at : ℕ) → Does (f at)) → Does (acts (here t) f y a)
-  acts_inside t f y a h hf =
+  acts_inside : (Q : Cell → Type 0) (t : ℕ) (f : Failing) (y : Ty) (a : Acting) → ActsInside a → Results Q y a.occurrence.object
+      → ((at : ℕ) → Leads P Q (f at)) → Leads P Q (acts (here t) f y a)
+  acts_inside Q t f y a h hr hf =
       chain P (requires P (not (meet_twice (map (λ l. l.at) a.locks) || meet_twice (map (λ o. o.at) a.outs))) reason.Alias)
-      (λ _ _. acts_or_errs t f y a (first_error (here t) a.locks) h hf)
+      (λ _ _. acts_or_errs Q t f y a (first_error (here t) a.locks) h hr hf)
 
-  knows : (t : ℕ) (f : Failing) (o : Occurrence) (y : Ty) (sum : Summary) (vs : List Cell) → IfPlace p o.object → AreInside p vs
-      → ((at : ℕ) → Does (f at)) → Does (known (here t) f o y sum vs)
-  knows t f o y sum vs ho hs hf =
+  knows : (Q : Cell → Type 0) (t : ℕ) (f : Failing) (o : Occurrence) (y : Ty) (sum : Summary) (vs : List Cell) → IfPlace p o.object
+      → AreInside p vs → Results Q y o.object → ((at : ℕ) → Leads P Q (f at)) → Leads P Q (known (here t) f o y sum vs)
+  knows Q t f o y sum vs ho hs hr hf =
       chain P (finds_locks s p choice temps P r t vs hs o.spot sum.items)
       (λ ls _. chain P
       (finds_outs s p choice temps P r t vs hs (o.spot + (count_items is_lock sum.items + count_items is_param sum.items)) sum.items)
       (λ os hos. chain P
       (finds_writes s p choice temps P r t vs hs sum.items
       (o.spot + (count_items is_lock sum.items + (count_items is_param sum.items + count_items is_out_item sum.items))) sum.writes)
-      (λ ws hws. acts_inside t f y
+      (λ ws hws. acts_inside Q t f y
       (record { summary = sum; occurrence = o; args = vs; given = given_number vs; locks = ls; outs = os; writes = ws })
-      (record { args = hs; outs = hos; writes = hws; object = ho }) hf)))
+      (record { args = hs; outs = hos; writes = hws; object = ho }) hr hf)))
 
   -- Other calls.
 
-  fails_at : (t : ℕ) (q : Pos) (at : ℕ) → Does (fails (here t) q at)
-  fails_at t q at =
+  fails_at : (Q : Cell → Type 0) (t : ℕ) (q : Pos) (at : ℕ) → Leads P Q (fails (here t) q at)
+  fails_at Q t q at =
       chain P (tells s p choice temps P r q (what.Bad at))
       (λ _ _. stops P {e = if is_outer (location p at) then Error at else Inner at})
 
-  zero_inside : (t : ℕ) (y : Ty) → Inside p (zero_of (here t) y)
-  zero_inside t y =
-      if_inside p (is_integer y) (Number (int_bits s.widths y) 0) Nothing (number_inside p (int_bits s.widths y) 0) (nothing_inside p)
+  pub zero_has : (Q : Cell → Type 0) (t : ℕ) (y : Ty) → (is_integer y ≡ true → Q (Number (int_bits s.widths y) 0))
+      → (is_integer y ≡ false → Q Nothing) → Q (zero_of (here t) y)
+  zero_has Q t y h i = if_has (is_integer y) h i
+    where
+      if_has : (b : Bool) → (b ≡ true → Q (Number (int_bits s.widths y) 0)) → (b ≡ false → Q Nothing)
+          → Q (if b then Number (int_bits s.widths y) 0 else Nothing)
+      if_has true h i = h refl
+      if_has false h i = i refl
 
   IfState : Option ℕ → Type 0
   IfState None = Unit {0}
   IfState (Some k) = k < states s
 
-  goes_there : (t : ℕ) (q : Pos) (y : Ty) (at : ℕ) (o : Option ℕ) → IfState o → Does (goes_to (here t) q y at o)
+  goes_there : (Q : Cell → Type 0) (t : ℕ) (q : Pos) (y : Ty) (at : ℕ) (o : Option ℕ) → IfState o → Q (zero_of (here t) y)
+      → Leads P Q (goes_to (here t) q y at o)
   unfolding IfState
-  goes_there t q y at None h = fails_at t q at
-  goes_there t q y at (Some k) h =
-      chain P (state_set s p choice temps P r t at k h) (λ _ _. gives P (zero_inside t y))
+  goes_there Q t q y at None h hz = fails_at Q t q at
+  goes_there Q t q y at (Some k) h hz = chain P (state_set s p choice temps P r t at k h) (λ _ _. gives P hz)
 
   state_if : (o : Option ℕ) → ((k : ℕ) → o ≡ Some k → k < states s) → IfState o
   unfolding IfState
@@ -282,63 +297,80 @@ module _ (s : Source) (p : Layout) (choice : List Bool) (temps : List Cell) (P :
       (state_if (on_any s.machine n) (r.whole.any_in_range n))
       (state_if (state_from s.machine n k) (r.whole.in_range n k))
 
-  operates_on : (t : ℕ) (q : Pos) (y : Ty) (n : ℕ) (c : Cell) → Inside p c → Does (operation (here t) q y n c)
-  operates_on t q y n c h =
+  pub operates_on : (Q : Cell → Type 0) (t : ℕ) (q : Pos) (y : Ty) (n : ℕ) (c : Cell) → Inside p c → Q (zero_of (here t) y)
+      → Leads P Q (operation (here t) q y n c)
+  operates_on Q t q y n c h hz =
       chain P (reaches s p choice temps P r t c h)
       (λ at _. chain P (marks s p choice temps P r at flag.Touched)
       (λ _ _. chain P (state_asked s p choice temps P r t at)
-      (λ k _. goes_there t q y at (target_from (here t) n k) (target_state t n k))))
+      (λ k _. goes_there Q t q y at (target_from (here t) n k) (target_state t n k) hz)))
 
-  tries_by : (t : ℕ) (y : Ty) (a b at : ℕ) (can : Bool) → Does (tried (here t) y a b at can)
-  tries_by t y a b at true =
-      chain P (state_set s p choice temps P r t at locked (omega (arith, r.whole.least_states)))
-      (λ _ _. gives P (number_inside p (int_bits s.widths y) a))
-  tries_by t y a b at false = gives P (number_inside p (int_bits s.widths y) b)
+  tries_by : (Q : Cell → Type 0) (t : ℕ) (y : Ty) (a b at : ℕ) (can : Bool) → ((n : ℕ) → Q (Number (int_bits s.widths y) n))
+      → Leads P Q (tried (here t) y a b at can)
+  tries_by Q t y a b at true hq =
+      chain P (state_set s p choice temps P r t at locked (omega (arith, r.whole.least_states))) (λ _ _. gives P (hq a))
+  tries_by Q t y a b at false hq = gives P (hq b)
 
-  tries : (t : ℕ) (y : Ty) (o : Occurrence) (a b : ℕ) (c : Cell) → Inside p c → Does (try (here t) y o a b c)
-  tries t y o a b c h =
+  pub tries : (Q : Cell → Type 0) (t : ℕ) (y : Ty) (o : Occurrence) (a b : ℕ) (c : Cell) → Inside p c
+      → ((n : ℕ) → Q (Number (int_bits s.widths y) n)) → Leads P Q (try (here t) y o a b c)
+  tries Q t y o a b c h hq =
       chain P (reaches s p choice temps P r t c h)
       (λ at _. chain P (marks s p choice temps P r at flag.Touched)
       (λ _ _. chain P (state_asked s p choice temps P r t at)
-      (λ k _. tries_by t y a b at (not (nat_eq k locked) && bit_at choice o.bit))))
+      (λ k _. tries_by Q t y a b at (not (nat_eq k locked) && bit_at choice o.bit) hq)))
 
   marks_object : (o : Option ℕ) → Marks (mark_object o)
   marks_object None = gives P tt
   marks_object (Some at) = marks s p choice temps P r at flag.Allocated
 
-  allocates : (t : ℕ) (o : Occurrence) → IfPlace p o.object → Does (allocate (here t) o)
-  allocates t o h =
-      either P (bit_at choice o.bit) (chain P (marks_object o.object) (λ _ _. gives P (target_inside p o.object h)))
-      (gives P (null_inside p))
+  pub allocates : (Q : Cell → Type 0) (t : ℕ) (o : Occurrence) → Q (target_or_null o.object) → Q null → Leads P Q (allocate (here t) o)
+  allocates Q t o h i =
+      either P (bit_at choice o.bit) (chain P (marks_object o.object) (λ _ _. gives P h)) (gives P i)
 
   escapes_all : (t : ℕ) (vs : List Cell) → Marks (escape_all (here t) vs)
   escapes_all t [] = gives P tt
   escapes_all t (v ∷ vs) = chain P (escapes t v) (λ _ _. escapes_all t vs)
 
-  unknowns : (t : ℕ) (o : Occurrence) (y : Ty) (vs : List Cell) → IfPlace p o.object → Does (unknown (here t) o y vs)
-  unknowns t o y vs h =
+  pub unknowns : (Q : Cell → Type 0) (t : ℕ) (o : Occurrence) (y : Ty) (vs : List Cell) → Results Q y o.object
+      → Leads P Q (unknown (here t) o y vs)
+  unknowns Q t o y vs h =
       chain P (escapes_all t vs)
-      (λ _ _. either P (is_integer y) (gives P (number_inside p (int_bits s.widths y) (number_at choice o.bit (int_bits s.widths y))))
-      (either P (is_pointer y)
-      (either P (bit_at choice o.bit)
-      (chain P (escapes t (target_or_null o.object)) (λ _ _. gives P (target_inside p o.object h))) (gives P (null_inside p)))
-      (gives P (nothing_inside p))))
+      (λ _ _. either_as P (is_integer y) (λ e. gives P (h.number e (number_at choice o.bit (int_bits s.widths y))))
+      (λ e. either_as P (is_pointer y)
+      (λ f. either P (bit_at choice o.bit)
+      (chain P (escapes t (target_or_null o.object)) (λ _ _. gives P (h.object f))) (gives P (h.null f)))
+      (λ f. gives P (h.nothing e f))))
 
-  knows_by : (t : ℕ) (q : Pos) (y : Ty) (o : Occurrence) (vs : List Cell) (sum : Option Summary) → IfPlace p o.object → AreInside p vs
-      → Does (known_by (here t) q y o vs sum)
-  knows_by t q y o vs None ho hs = unknowns t o y vs ho
-  knows_by t q y o vs (Some sum) ho hs = knows t (fails (here t) q) o y sum vs ho hs (fails_at t q)
+  pub knows_by : (Q : Cell → Type 0) (t : ℕ) (q : Pos) (y : Ty) (o : Occurrence) (vs : List Cell) (sum : Option Summary)
+      → IfPlace p o.object → AreInside p vs → Results Q y o.object → Leads P Q (known_by (here t) q y o vs sum)
+  knows_by Q t q y o vs None ho hs hr = unknowns Q t o y vs hr
+  knows_by Q t q y o vs (Some sum) ho hs hr = knows Q t (fails (here t) q) o y sum vs ho hs hr (fails_at Q t q)
+
+  -- every result that may be given points into the layout
+  results_inside : (y : Ty) (o : Option ℕ) → IfPlace p o → Results (Inside p) y o
+  results_inside y o h = record {
+    number = λ _ n. number_inside p (int_bits s.widths y) n;
+    null = λ _. null_inside p;
+    object = λ _. target_inside p o h;
+    nothing = λ _ _. nothing_inside p;
+  }
+
+  zero_inside : (t : ℕ) (y : Ty) → Inside p (zero_of (here t) y)
+  zero_inside t y = zero_has (Inside p) t y (λ _. number_inside p (int_bits s.widths y) 0) (λ _. nothing_inside p)
 
   does_act : (t : ℕ) (q : Pos) (y : Ty) (o : Occurrence) (vs : List Cell) (e : Effect) → IfPlace p o.object → AreInside p vs
       → Does (act (here t) q y o vs e)
-  does_act t q y o vs (Operation n) ho hs = operates_on t q y n (first_arg vs) (first_arg_inside s p choice temps P r vs hs)
-  does_act t q y o vs (Try a b) ho hs = tries t y o a b (first_arg vs) (first_arg_inside s p choice temps P r vs hs)
-  does_act t q y o vs (Allocate zeroed) ho hs = allocates t o ho
+  does_act t q y o vs (Operation n) ho hs =
+      operates_on (Inside p) t q y n (first_arg vs) (first_arg_inside s p choice temps P r vs hs) (zero_inside t y)
+  does_act t q y o vs (Try a b) ho hs =
+      tries (Inside p) t y o a b (first_arg vs) (first_arg_inside s p choice temps P r vs hs)
+      (λ n. number_inside p (int_bits s.widths y) n)
+  does_act t q y o vs (Allocate zeroed) ho hs = allocates (Inside p) t o (target_inside p o.object ho) (null_inside p)
   does_act t q y o vs Release ho hs = chain P (frees t (first_arg vs)) (λ _ _. gives P (nothing_inside p))
   does_act t q y o vs Ends ho hs = stops P
   does_act t q y o vs Expect ho hs = gives P (first_arg_inside s p choice temps P r vs hs)
-  does_act t q y o vs (Known k) ho hs = knows_by t q y o vs (sum_at s k) ho hs
-  does_act t q y o vs Unknown ho hs = unknowns t o y vs ho
+  does_act t q y o vs (Known k) ho hs = knows_by (Inside p) t q y o vs (sum_at s k) ho hs (results_inside y o.object ho)
+  does_act t q y o vs Unknown ho hs = unknowns (Inside p) t o y vs (results_inside y o.object ho)
 
   pub calls : (t : ℕ) (x : Place) (f : Exp) (y : Ty) (c : Placed) (vs : List Cell) → AreInside p vs → Does (call (here t) x f y c vs)
   calls t x f y c vs hs =

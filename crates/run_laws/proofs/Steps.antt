@@ -1,5 +1,5 @@
 -- Steps that lead from worlds with a property to worlds with it, and what they give then.
-use Rattle.std.proofs.Common.{◌≡◌, ℕ, suc, ◌+◌, ◌-◌, ◌≤◌, ◌<◌, Bool, true, false, List, [], ◌∷◌, ◌++◌, length}
+use Rattle.std.proofs.Common.{◌≡◌, ℕ, suc, ◌+◌, ◌-◌, ◌≤◌, ◌<◌, Bool, true, false, List, [], ◌∷◌, ◌++◌, length, refl}
 use Rattle.std.specs.Prelude.{Result, Ok, Err, IfOk, slice_index_or, if◌then◌else◌}
 use Rattle.fsm_spec.specs.Table.{IsWhole}
 use Rattle.run_store.specs.declared.Flag.{Flag}
@@ -41,6 +41,24 @@ module _ (P : World → Type 0) where
   pub either : {A : Type 0} {Q : A → Type 0} {m m' : Run A} (b : Bool) → Leads Q m → Leads Q m' → Leads Q (if b then m else m')
   either true l l' = l
   either false l l' = l'
+
+  -- either step, each where the test says so
+  pub either_as : {A : Type 0} {Q : A → Type 0} {m m' : Run A} (b : Bool) → (b ≡ true → Leads Q m) → (b ≡ false → Leads Q m')
+      → Leads Q (if b then m else m')
+  either_as true l l' = l refl
+  either_as false l l' = l' refl
+
+  -- where the run goes on the test holds
+  pub holds : (b : Bool) (r : Reason) → Leads (λ _. b ≡ true) (unless b r)
+  holds true r = gives refl
+  holds false r = stops
+
+  both_after : {A : Type 0} (Q R : A → Type 0) (r : Result A Ended × World) → After Q r → After R r → After (λ a. Q a × R a) r
+  both_after Q R (Ok a, w) h i = (h.0, (h.1, i.1))
+  both_after Q R (Err e, w) h i = h
+
+  pub both : {A : Type 0} {Q R : A → Type 0} {m : Run A} → Leads Q m → Leads R m → Leads (λ a. Q a × R a) m
+  both {Q = Q} {R = R} {m = m} l k = record { by = λ w h. both_after Q R (m w) (l.by w h) (k.by w h) }
 
   pub requires : (b : Bool) (r : Reason) → Leads Whatever (unless b r)
   requires true r = gives tt
