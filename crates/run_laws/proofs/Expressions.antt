@@ -24,7 +24,7 @@ module _ (s : Source) (p : Layout) (choice : List Bool) (temps : List Cell) (P :
   Does m = Leads P (Inside p) m
 
   -- what stands in an expression
-  abbrev Evaluates : Evaluator → ℕ → Type 0
+  abbrev pub Evaluates : Evaluator → ℕ → Type 0
   Evaluates a t = (want : Want) → Does (a want (here t))
 
   assigns : (t : ℕ) (want : Want) (y : Ty) (q v : Cell) → Inside p q → Inside p v → Does (assign_value (here t) want y q v)
@@ -35,7 +35,7 @@ module _ (s : Source) (p : Layout) (choice : List Bool) (temps : List Cell) (P :
   assigns_struct : (t : ℕ) (q v : Cell) → Inside p q → Does (assign_struct (here t) q v)
   assigns_struct t q v hq = chain P (copies s p choice temps P r t (place_of v) (place_of q)) (λ _ _. gives P hq)
 
-  combines : (t : ℕ) (o : BinaryOp) (works y : Ty) (old v : Cell) → Does (combined (here t) o works y old v)
+  pub combines : (t : ℕ) (o : BinaryOp) (works y : Ty) (old v : Cell) → Does (combined (here t) o works y old v)
   combines t o works y old v =
       chain P (operates s p choice temps P r t o works works (convert (here t) y works old) v)
       (λ c h. gives P (converted s p choice temps P r t works y c h))
@@ -54,7 +54,7 @@ module _ (s : Source) (p : Layout) (choice : List Bool) (temps : List Cell) (P :
       either P (is_array u) (chain P (ha Place') (λ c h. gives P (first_inside s p choice temps P r t c h)))
       (chain P (ha Value) (λ c h. gives P (converted s p choice temps P r t u y c h)))
 
-  calls_callee : (b : Bool) (f : Evaluator) (t : ℕ) → Evaluates f t → Leads P Whatever (callee b f (here t))
+  pub calls_callee : (b : Bool) (f : Evaluator) (t : ℕ) → Evaluates f t → Leads P Whatever (callee b f (here t))
   calls_callee true f t hf = gives P tt
   calls_callee false f t hf = weaker P (λ _ _. tt) (hf Value)
 

@@ -10,3 +10,5 @@ pub mod Entry
 pub mod Rows
 pub mod Laying
 pub mod LaidOut
+pub mod Types
+pub mod Typed

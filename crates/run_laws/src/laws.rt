@@ -7,7 +7,7 @@ ghost use Rattle.sc_world.specs.Layout.{Layout, location, is_outer};
 ghost use Rattle.sc_world.specs.Places.{places};
 ghost use Rattle.sc_world.specs.World as world;
 ghost use Rattle.sc_world.specs.World.{World, Env};
-ghost use Rattle.sc_world.specs.Tree.{Exp, Stm};
+ghost use Rattle.sc_world.specs.Tree.{Exp, Stm, type_of};
 ghost use Rattle.sc_world.specs.Eval as eval;
 ghost use Rattle.sc_world.specs.Exec as exec;
 ghost use Rattle.sc_world.specs.Paths.{Texts};
@@ -16,6 +16,7 @@ ghost use Rattle.sc_world.specs.Verdict as verdict;
 ghost use Rattle.world_laws.specs.Runs.{HasAllRowsOfRuns};
 ghost use Rattle.run_laws.specs.Keeps.{Keeps};
 ghost use Rattle.run_laws.specs.Proper.{IsClosed, KeepsInside, PointsInside, IsProper};
+ghost use Rattle.run_laws.specs.Fits.{Fits, IsValueOf, IsPlaceOf};
 
 use world_laws::rows_are_those_of_runs;
 
@@ -54,3 +55,15 @@ pub fn rows_of_locations_are_those_of_runs()
     worlds_stay_proper();
     rows_are_those_of_runs();
 }
+
+/// From a proper world an expression that fits the layout gives a value of its type; and where its place is wanted, a
+/// pointer to a location of its type, or to the stub of a string or a function. So no number stands where a pointer is
+/// wanted, and no operator gets an operand that it does not take.
+pub fn values_are_of_their_types()
+    ensures values { (env : Env) (e : Exp) (w : World) → IsWhole env.source.machine → IsClosed env.layout
+        → KeepsInside env → Fits env.layout eval.Value e → IsProper env.source env.layout w
+        → IfOk (eval.eval e eval.Value env w).0 (IsValueOf env.source (type_of e)) }
+    ensures places { (env : Env) (e : Exp) (w : World) → IsWhole env.source.machine → IsClosed env.layout
+        → KeepsInside env → Fits env.layout eval.Place' e → IsProper env.source env.layout w
+        → IfOk (eval.eval e eval.Place' env w).0 (IsPlaceOf env.layout (type_of e)) }
+{}
