@@ -12,3 +12,4 @@ pub mod Laying
 pub mod LaidOut
 pub mod Types
 pub mod Typed
+pub mod Returned

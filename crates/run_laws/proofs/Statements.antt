@@ -25,7 +25,7 @@ use Rattle.run_laws.proofs.Places.{IfPlace, ArePlaces, AreInside, part_place, or
 use Rattle.run_laws.proofs.Values.{tree, stores, tells, loads_all, stores_all, copies}
 use Rattle.run_laws.proofs.Expressions.{evaluates}
 
-module _ (s : Source) (p : Layout) (choice : List Bool) (temps : List Cell) (P : World → Type 0) (r : Rules s p temps P) where
+module _ (s : Source) (p : Layout) (choice : List Bool) (temps : List Cell) (P : World → Type 0) (r : Rules s p temps P) (F : Cell → Type 0) where
   abbrev here : ℕ → Env
   here t = tree s p choice temps P r t
 
@@ -35,13 +35,13 @@ module _ (s : Source) (p : Layout) (choice : List Bool) (temps : List Cell) (P :
   abbrev Asks : Run Bool → Type 0
   Asks m = Leads P Whatever m
 
-  -- what a statement hands over: a value that is returned points into the layout
-  pub FlowInside : Flow → Type 0
-  FlowInside (Returns c) = Inside p c
-  FlowInside _ = Unit {0}
+  -- what a statement hands over, where a value that is returned has F
+  pub FlowHas : Flow → Type 0
+  FlowHas (Returns c) = F c
+  FlowHas _ = Unit {0}
 
   abbrev Flows : Run Flow → Type 0
-  Flows m = Leads P FlowInside m
+  Flows m = Leads P FlowHas m
 
   -- Conditions.
 
@@ -133,16 +133,16 @@ module _ (s : Source) (p : Layout) (choice : List Bool) (temps : List Cell) (P :
 
   -- Loops.
 
-  behind_turn : (f : Flow) (more : Run Flow) → FlowInside f → Flows more → Flows (after_turn f more)
-  unfolding FlowInside
+  behind_turn : (f : Flow) (more : Run Flow) → FlowHas f → Flows more → Flows (after_turn f more)
+  unfolding FlowHas
   behind_turn Next more h l = l
   behind_turn Continues more h l = l
   behind_turn Breaks more h l = gives P {a = Next} tt
   behind_turn (GoesTo n) more h l = gives P {a = GoesTo n} tt
   behind_turn (Returns c) more h l = gives P {a = Returns c} h
 
-  next_inside : FlowInside Next
-  unfolding FlowInside
+  next_inside : FlowHas Next
+  unfolding FlowHas
   next_inside = tt
 
   takes_turns : (k t : ℕ) (test : ℕ → Run Bool) (body : ℕ → Run Flow) → ((n : ℕ) → Asks (test n)) → ((n : ℕ) → Flows (body n))
@@ -168,8 +168,8 @@ module _ (s : Source) (p : Layout) (choice : List Bool) (temps : List Cell) (P :
       (λ f hf. behind_turn f (test t >>= λ b. again b more (do_turns more (t + 1) test body)) hf
       (chain P (ht t) (λ b _. goes_again b more (do_turns more (t + 1) test body) (takes_do_turns more (t + 1) test body ht hb))))
 
-  steps_behind : (n : Option Exp) (t : ℕ) (f : Flow) → FlowInside f → Flows (with_step n (here t) f)
-  unfolding FlowInside
+  steps_behind : (n : Option Exp) (t : ℕ) (f : Flow) → FlowHas f → Flows (with_step n (here t) f)
+  unfolding FlowHas
   steps_behind n t Next h = chain P (evaluates_if n t) (λ _ _. gives P {a = Next} tt)
   steps_behind n t Continues h = chain P (evaluates_if n t) (λ _ _. gives P {a = Next} tt)
   steps_behind n t Breaks h = gives P {a = Breaks} tt
@@ -178,15 +178,39 @@ module _ (s : Source) (p : Layout) (choice : List Bool) (temps : List Cell) (P :
 
   -- Statements.
 
-  returns : (q : Pos) (e : Option Exp) (t : ℕ) → Flows (return_value q e (here t))
-  unfolding FlowInside
-  returns q None t = chain P (tells s p choice temps P r q what.Return) (λ _ _. gives P {a = Returns Nothing} (nothing_inside p))
-  returns q (Some e) t =
-      chain P (evaluates s p choice temps P r e Value t)
+  -- what is returned, if anything, has F
+  abbrev pub GivesIf : Option Exp → ℕ → Type 0
+  GivesIf None t = Unit {0}
+  GivesIf (Some e) t = Leads P F (eval e Value (here t))
+
+  pub returns : (q : Pos) (e : Option Exp) (t : ℕ) → F Nothing → GivesIf e t
+      → Flows (return_value q e (here t))
+  unfolding FlowHas
+  returns q None t none l = chain P (tells s p choice temps P r q what.Return) (λ _ _. gives P {a = Returns Nothing} none)
+  returns q (Some e) t none l =
+      chain P l
       (λ v hv. chain P (tells s p choice temps P r q what.Return) (λ _ _. gives P {a = Returns v} hv))
 
-  leaves_switch : (f : Flow) → FlowInside f → FlowInside (out_of_switch f)
-  unfolding FlowInside
+  -- each `return` of a statement gives what has F
+  abbrev mutual
+    pub Gives : Stm → Type 0
+    Gives (Block xs end) = AllGive xs
+    Gives (If q e x) = Gives x
+    Gives (IfElse q e x y) = Gives x × Gives y
+    Gives (While q e x) = Gives x
+    Gives (Do q x e) = Gives x
+    Gives (For q f c n x) = Gives x
+    Gives (Switch q e xs) = AllGive xs
+    Gives (Return q e) = (t : ℕ) → Flows (return_value q e (here t))
+    Gives (Label n x) = Gives x
+    Gives _ = Unit {0}
+
+    pub AllGive : Stms → Type 0
+    AllGive NoStms = Unit {0}
+    AllGive (Stms' x xs) = Gives x × AllGive xs
+
+  leaves_switch : (f : Flow) → FlowHas f → FlowHas (out_of_switch f)
+  unfolding FlowHas
   leaves_switch Breaks h = tt
   leaves_switch Next h = tt
   leaves_switch Continues h = tt
@@ -197,91 +221,129 @@ module _ (s : Source) (p : Layout) (choice : List Bool) (temps : List Cell) (P :
   switches None items l = gives P {a = Next} next_inside
   switches (Some k) items l = chain P (l k) (λ f hf. gives P {a = out_of_switch f} (leaves_switch f hf))
 
-  goes_in : (f : Flow) (rest : Seek → Run Flow) → FlowInside f → ((k : Seek) → Flows (rest k)) → Flows (goes_on_in f rest)
-  unfolding FlowInside
+  goes_in : (f : Flow) (rest : Seek → Run Flow) → FlowHas f → ((k : Seek) → Flows (rest k)) → Flows (goes_on_in f rest)
+  unfolding FlowHas
   goes_in Next rest h l = l Here
   goes_in (GoesTo n) rest h l = l (AtLabel n)
   goes_in Breaks rest h l = gives P {a = Breaks} tt
   goes_in Continues rest h l = gives P {a = Continues} tt
   goes_in (Returns c) rest h l = gives P {a = Returns c} h
 
-  left_inside : (k : Seek) → FlowInside (left k)
-  unfolding FlowInside
+  left_inside : (k : Seek) → FlowHas (left k)
+  unfolding FlowHas
   left_inside Here = tt
   left_inside (AtLabel n) = tt
   left_inside (AtCase n) = tt
   left_inside AtDefault = tt
 
-  plain : (f : Flow) → FlowInside f → Flows (done f)
+  plain : (f : Flow) → FlowHas f → Flows (done f)
   plain f h = gives P {a = f} h
 
-  breaks_inside : FlowInside Breaks
-  unfolding FlowInside
+  breaks_inside : FlowHas Breaks
+  unfolding FlowHas
   breaks_inside = tt
 
-  continues_inside : FlowInside Continues
-  unfolding FlowInside
+  continues_inside : FlowHas Continues
+  unfolding FlowHas
   continues_inside = tt
 
-  goto_inside : (n : NameId) → FlowInside (GoesTo n)
-  unfolding FlowInside
+  goto_inside : (n : NameId) → FlowHas (GoesTo n)
+  unfolding FlowHas
   goto_inside n = tt
 
   mutual
-    pub executes : (x : Stm) (t : ℕ) → Flows (exec x (here t))
-    executes (Block xs end) t = executes_all xs Here t
-    executes (Decl ds) t = chain P (declares ds t) (λ _ _. plain Next next_inside)
-    executes (Evaluate e) t = chain P (evaluates_if e t) (λ _ _. plain Next next_inside)
-    executes (If q e x) t = chain P (asks q what.If e t) (λ b _. either P b (executes x t) (plain Next next_inside))
-    executes (IfElse q e x y) t = chain P (asks q what.If e t) (λ b _. either P b (executes x t) (executes y t))
-    executes (While q e x) t =
+    pub executes : (x : Stm) → Gives x → (t : ℕ) → Flows (exec x (here t))
+    executes (Block xs end) g t = executes_all xs g Here t
+    executes (Decl ds) g t = chain P (declares ds t) (λ _ _. plain Next next_inside)
+    executes (Evaluate e) g t = chain P (evaluates_if e t) (λ _ _. plain Next next_inside)
+    executes (If q e x) g t = chain P (asks q what.If e t) (λ b _. either P b (executes x g t) (plain Next next_inside))
+    executes (IfElse q e x y) g t = chain P (asks q what.If e t) (λ b _. either P b (executes x g.0 t) (executes y g.1 t))
+    executes (While q e x) g t =
         takes_turns s.depth 0 (λ n. condition q what.Loop e (in_turn (here t) (s.depth + 1) n)) (λ n. exec x (in_turn (here t) s.depth n))
-        (λ n. asks q what.Loop e (t * (s.depth + 1) + n)) (λ n. executes x (t * s.depth + n))
-    executes (Do q x e) t =
+        (λ n. asks q what.Loop e (t * (s.depth + 1) + n)) (λ n. executes x g (t * s.depth + n))
+    executes (Do q x e) g t =
         takes_do_turns s.depth 0 (λ n. condition q what.Loop e (in_turn (here t) s.depth n)) (λ n. exec x (in_turn (here t) s.depth n))
-        (λ n. asks q what.Loop e (t * s.depth + n)) (λ n. executes x (t * s.depth + n))
-    executes (For q f c n x) t =
+        (λ n. asks q what.Loop e (t * s.depth + n)) (λ n. executes x g (t * s.depth + n))
+    executes (For q f c n x) g t =
         chain P (begins f t)
         (λ _ _. takes_turns s.depth 0 (λ k. condition_if q c (in_turn (here t) (s.depth + 1) k))
-        (λ k. exec x (in_turn (here t) s.depth k) >>= λ g. with_step n (in_turn (here t) s.depth k) g)
+        (λ k. exec x (in_turn (here t) s.depth k) >>= λ y. with_step n (in_turn (here t) s.depth k) y)
         (λ k. asks_if q c (t * (s.depth + 1) + k))
-        (λ k. chain P (executes x (t * s.depth + k)) (λ g hg. steps_behind n (t * s.depth + k) g hg)))
-    executes (Switch q e xs) t =
+        (λ k. chain P (executes x g (t * s.depth + k)) (λ y hy. steps_behind n (t * s.depth + k) y hy)))
+    executes (Switch q e xs) g t =
         chain P (evaluates s p choice temps P r e Value t)
         (λ v _. chain P (tells s p choice temps P r q (switch_event (here t) (type_of e) v))
-        (λ _ _. switches (chosen_item (number_of v) xs) (λ k. exec_all xs k (here t)) (λ k. executes_all xs k t)))
-    executes (Case n e) t = plain Next next_inside
-    executes Default t = plain Next next_inside
-    executes (Goto q n) t = chain P (tells s p choice temps P r q (what.Goto n)) (λ _ _. plain (GoesTo n) (goto_inside n))
-    executes Break t = plain Breaks breaks_inside
-    executes Continue t = plain Continues continues_inside
-    executes (Return q e) t = returns q e t
-    executes (Label n x) t = executes x t
+        (λ _ _. switches (chosen_item (number_of v) xs) (λ k. exec_all xs k (here t)) (λ k. executes_all xs g k t)))
+    executes (Case n e) g t = plain Next next_inside
+    executes Default g t = plain Next next_inside
+    executes (Goto q n) g t = chain P (tells s p choice temps P r q (what.Goto n)) (λ _ _. plain (GoesTo n) (goto_inside n))
+    executes Break g t = plain Breaks breaks_inside
+    executes Continue g t = plain Continues continues_inside
+    executes (Return q e) g t = g t
+    executes (Label n x) g t = executes x g t
 
-    pub executes_all : (xs : Stms) (k : Seek) (t : ℕ) → Flows (exec_all xs k (here t))
-    executes_all NoStms k t = plain (left k) (left_inside k)
-    executes_all (Stms' x rest) k t =
+    pub executes_all : (xs : Stms) → AllGive xs → (k : Seek) (t : ℕ) → Flows (exec_all xs k (here t))
+    executes_all NoStms g k t = plain (left k) (left_inside k)
+    executes_all (Stms' x rest) g k t =
         either P (found k x)
-        (chain P (executes x t) (λ f hf. goes_in f (λ again. exec_all rest again (here t)) hf (λ again. executes_all rest again t)))
-        (executes_all rest k t)
+        (chain P (executes x g.0 t)
+        (λ f hf. goes_in f (λ again. exec_all rest again (here t)) hf (λ again. executes_all rest g.1 again t)))
+        (executes_all rest g.1 k t)
+
+  -- the result of a whole run, from a world with the property
+  module _ (G : Cell → Type 0) (nothing : G (result_or s Nothing)) (so : (c : Cell) → F c → G (result_or s c)) where
+    falls_off : Leads P G (finished s Next)
+    falls_off = chain P (tells s p choice temps P r (end_of s.body) what.End) (λ _ _. gives P nothing)
+
+    finishes : (f : Flow) → FlowHas f → Leads P G (finished s f)
+    unfolding FlowHas
+    finishes (Returns c) h = gives P (so c h)
+    finishes Next h = falls_off
+    finishes Breaks h = falls_off
+    finishes Continues h = falls_off
+    finishes (GoesTo n) h = falls_off
+
+    pub runs : Gives s.body → Leads P G (exec s.body (here 0) >>= finished s)
+    runs g = chain P (executes s.body g 0) (λ f hf. finishes f hf)
+
+module _ (s : Source) (p : Layout) (choice : List Bool) (temps : List Cell) (P : World → Type 0) (r : Rules s p temps P) where
+  return_inside : (e : Option Exp) (t : ℕ) → GivesIf s p choice temps P r (Inside p) e t
+  return_inside None t = tt
+  return_inside (Some e) t = evaluates s p choice temps P r e Value t
+
+  mutual
+    -- every value that is returned points into the layout
+    pub gives_inside : (x : Stm) → Gives s p choice temps P r (Inside p) x
+    gives_inside (Block xs end) = all_give_inside xs
+    gives_inside (If q e x) = gives_inside x
+    gives_inside (IfElse q e x y) = (gives_inside x, gives_inside y)
+    gives_inside (While q e x) = gives_inside x
+    gives_inside (Do q x e) = gives_inside x
+    gives_inside (For q f c n x) = gives_inside x
+    gives_inside (Switch q e xs) = all_give_inside xs
+    gives_inside (Return q e) = λ t.
+        returns s p choice temps P r (Inside p) q e t (nothing_inside p) (return_inside e t)
+    gives_inside (Label n x) = gives_inside x
+    gives_inside (Decl ds) = tt
+    gives_inside (Evaluate e) = tt
+    gives_inside (Case n e) = tt
+    gives_inside Default = tt
+    gives_inside (Goto q n) = tt
+    gives_inside Break = tt
+    gives_inside Continue = tt
+
+    pub all_give_inside : (xs : Stms) → AllGive s p choice temps P r (Inside p) xs
+    all_give_inside NoStms = tt
+    all_give_inside (Stms' x xs) = (gives_inside x, all_give_inside xs)
 
   result_inside : (c : Cell) → Inside p c → Inside p (result_or s c)
   result_inside Nothing h = blank_inside p (kind_of_type s (Some s.result))
   result_inside (Number w n) h = h
   result_inside (Pointer t) h = h
 
-  falls_off : Leads P (Inside p) (finished s Next)
-  falls_off =
-      chain P (tells s p choice temps P r (end_of s.body) what.End) (λ _ _. gives P (result_inside Nothing (nothing_inside p)))
+  pub executes_inside : (x : Stm) (t : ℕ) → Leads P (FlowHas s p choice temps P r (Inside p)) (exec x (tree s p choice temps P r t))
+  executes_inside x t = executes s p choice temps P r (Inside p) x (gives_inside x) t
 
-  finishes : (f : Flow) → FlowInside f → Leads P (Inside p) (finished s f)
-  unfolding FlowInside
-  finishes (Returns c) h = gives P (result_inside c h)
-  finishes Next h = falls_off
-  finishes Breaks h = falls_off
-  finishes Continues h = falls_off
-  finishes (GoesTo n) h = falls_off
-
-  -- a whole run, from a world with the property
-  pub runs : Leads P (Inside p) (exec s.body (here 0) >>= finished s)
-  runs = chain P (executes s.body 0) (λ f hf. finishes f hf)
+  pub runs_inside : Leads P (Inside p) (exec s.body (tree s p choice temps P r 0) >>= finished s)
+  runs_inside =
+      runs s p choice temps P r (Inside p) (Inside p) (result_inside Nothing (nothing_inside p)) result_inside (gives_inside s.body)

@@ -80,6 +80,12 @@ cell_kind s (Some u) (Func t known ts variadic) h i = false-true i
 cell_kind s (Some u) (Opaque k) h i = false-true i
 cell_kind s (Some _) _ h i = false-true h
 
+pub own_kind_of : (s : Source) (t : Ty) → is_scalar t ≡ true → kind_of_type s (Some t) ≡ value_kind s t
+own_kind_of s Bool' i = refl
+own_kind_of s (Int k) i = refl
+own_kind_of s (Ptr t) i = refl
+own_kind_of s _ i = false-true i
+
 there_in : (ls : List Location) (at : ℕ) (t : Ty) → has_type (slice_index_or ls at nowhere) t ≡ true → at < length ls
 there_in [] at t h = false-true h
 there_in (l ∷ ls) zero t h = omega arith

@@ -1,3 +1,4 @@
 pub mod Fits
+pub mod Functions
 pub mod Keeps
 pub mod Proper

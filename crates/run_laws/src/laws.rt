@@ -1,6 +1,6 @@
 // What holds of the layout of every function and of the store of every run.
 
-ghost use Rattle.std.specs.Prelude.{◌≡◌, ℕ, ◌<◌, List, Bool, true, IfOk, length};
+ghost use Rattle.std.specs.Prelude.{◌≡◌, ℕ, ◌<◌, List, Bool, true, IfOk, Ok, length};
 ghost use Rattle.fsm_spec.specs.Table.{IsWhole};
 ghost use Rattle.sc_world.specs.Source.{Source};
 ghost use Rattle.sc_world.specs.Layout.{Layout, location, is_outer};
@@ -17,6 +17,7 @@ ghost use Rattle.world_laws.specs.Runs.{HasAllRowsOfRuns};
 ghost use Rattle.run_laws.specs.Keeps.{Keeps};
 ghost use Rattle.run_laws.specs.Proper.{IsClosed, KeepsInside, PointsInside, IsProper};
 ghost use Rattle.run_laws.specs.Fits.{Fits, IsValueOf, IsPlaceOf};
+ghost use Rattle.run_laws.specs.Functions.{FunctionFits};
 
 use world_laws::rows_are_those_of_runs;
 
@@ -48,10 +49,14 @@ pub fn worlds_stay_proper()
 
 /// The rows of a location that callers know are exactly those that the run of some choice of the defined length has.
 pub fn rows_of_locations_are_those_of_runs()
-    ensures { (s : Source) (x : Texts) (at : ℕ) → IsWhole s.machine → IsClosed x.layout
+    ensures laid { (s : Source) (x : Texts) (at : ℕ) → IsWhole s.machine → places s ≡ Ok x.layout
+        → is_outer (location x.layout at) ≡ true
+        → HasAllRowsOfRuns s x (query.Locks at) (verdict.lock_rows s x (verdict.answers s x) at) }
+    ensures closed { (s : Source) (x : Texts) (at : ℕ) → IsWhole s.machine → IsClosed x.layout
         → is_outer (location x.layout at) ≡ true
         → HasAllRowsOfRuns s x (query.Locks at) (verdict.lock_rows s x (verdict.answers s x) at) }
 {
+    layouts_are_closed();
     worlds_stay_proper();
     rows_are_those_of_runs();
 }
@@ -66,4 +71,10 @@ pub fn values_are_of_their_types()
     ensures places { (env : Env) (e : Exp) (w : World) → IsWhole env.source.machine → IsClosed env.layout
         → KeepsInside env → Fits env.layout eval.Place' e → IsProper env.source env.layout w
         → IfOk (eval.eval e eval.Place' env w).0 (IsPlaceOf env.layout (type_of e)) }
+{}
+
+/// The result of a run of a function that fits is a value of the type of its result.
+pub fn results_are_of_their_types()
+    ensures { (s : Source) (p : Layout) (choice : List Bool) → IsWhole s.machine → IsClosed p → FunctionFits s p
+        → IfOk (exec.run s p choice).0 (IsValueOf s s.result) }
 {}

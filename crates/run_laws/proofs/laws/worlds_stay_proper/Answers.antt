@@ -9,7 +9,7 @@ use Rattle.run_laws.proofs.Places.{inside_points}
 use Rattle.run_laws.proofs.Stores.{proper_rules, no_temps}
 use Rattle.run_laws.proofs.Entry.{entry_proper}
 use Rattle.run_laws.proofs.Expressions.{evaluates}
-use Rattle.run_laws.proofs.Statements.{FlowInside, executes, runs}
+use Rattle.run_laws.proofs.Statements.{FlowHas, executes_inside, runs_inside}
 use Rattle.run_laws.proofs.laws.worlds_stay_proper.Goals as goal
 
 pub returns-clause-entry : goal.returns-clause-entry
@@ -24,15 +24,15 @@ returns-clause-expressions c env e want whole closed inside w h =
 pub returns-clause-statements : goal.returns-clause-statements
 returns-clause-statements c env x whole closed inside w h =
     world_kept (IsProper env.source env.layout)
-    (FlowInside env.source env.layout env.choice env.temps (IsProper env.source env.layout)
-    (proper_rules env.source env.layout env.temps whole closed inside)) (exec.exec x env)
-    (executes env.source env.layout env.choice env.temps (IsProper env.source env.layout)
+    (FlowHas env.source env.layout env.choice env.temps (IsProper env.source env.layout)
+    (proper_rules env.source env.layout env.temps whole closed inside) (Inside env.layout)) (exec.exec x env)
+    (executes_inside env.source env.layout env.choice env.temps (IsProper env.source env.layout)
     (proper_rules env.source env.layout env.temps whole closed inside) x env.turn) w h
 
 pub returns-clause-runs : goal.returns-clause-runs
 returns-clause-runs c s p choice whole closed =
     world_kept (IsProper s p) (Inside p) (exec.exec s.body (exec.env_of s p choice) >>= exec.finished s)
-    (runs s p choice [] (IsProper s p) (proper_rules s p [] whole closed (no_temps p)))
+    (runs_inside s p choice [] (IsProper s p) (proper_rules s p [] whole closed (no_temps p)))
     (entry_world s p choice) (entry_proper s choice p whole closed)
 
 pub returns-clause-values : goal.returns-clause-values
@@ -46,5 +46,5 @@ pub returns-clause-results : goal.returns-clause-results
 returns-clause-results c s p choice whole closed some =
     value_given (IsProper s p) (Inside p) (PointsInside p) (λ d hd. inside_points p d some hd)
     (exec.exec s.body (exec.env_of s p choice) >>= exec.finished s)
-    (runs s p choice [] (IsProper s p) (proper_rules s p [] whole closed (no_temps p)))
+    (runs_inside s p choice [] (IsProper s p) (proper_rules s p [] whole closed (no_temps p)))
     (entry_world s p choice) (entry_proper s choice p whole closed)
