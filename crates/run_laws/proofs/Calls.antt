@@ -2,17 +2,15 @@
 use Rattle.std.proofs.Common.{◌≡◌, ℕ, zero, suc, ◌+◌, ◌-◌, ◌≤◌, ◌<◌, Bool, true, false, not, ◌||◌, ◌&&◌, List, [], ◌∷◌, map, length, refl, arith}
 use Rattle.std.specs.Prelude.{Option, Some, None, nat_eq, nat_lt, slice_index_or, if◌then◌else◌}
 use Rattle.std.specs.List.{AllByRecursion, list_all}
-use Rattle.std.proofs.lemmas.Bool.{true≢false}
 use Rattle.sc_base.specs.declared.pos.Pos.{Pos}
 use Rattle.sc_tree.specs.declared.expr.Place.{Place}
-use Rattle.fsm_spec.specs.Table.{target_of as state_from, on_any, state_of_number, bits_of_states}
+use Rattle.fsm_spec.specs.Table.{target_of as state_from, on_any, bits_of_states}
 use Rattle.run_store.specs.declared.Flag.TheVariants as flag
-use Rattle.run_store.specs.Concrete.{Cell, Number, Pointer, Nothing}
+use Rattle.run_store.specs.Concrete.{Cell, Number, Nothing}
 use Rattle.sum_rows.specs.declared.report.What.TheVariants as what
 use Rattle.sum_rows.specs.declared.row.Item.{Item}
 use Rattle.sum_rows.specs.declared.row.Item.TheVariants as item
 use Rattle.sum_rows.specs.declared.row.ItemRows.{ItemRows}
-use Rattle.sum_rows.specs.declared.row.Row.{Row}
 use Rattle.sum_rows.specs.declared.row.State.{State}
 use Rattle.sum_rows.specs.declared.row.State.TheVariants as state
 use Rattle.sum_rows.specs.declared.row.Gives.{Gives}
@@ -21,14 +19,13 @@ use Rattle.sc_world.specs.declared.run.Reason.TheVariants as reason
 use Rattle.sc_world.specs.Tree.{Ty, is_integer, is_pointer, int_bits, Exp}
 use Rattle.sc_world.specs.Source.{Source, Effect, Operation, Try, Allocate, Release, Ends, Expect, Known, Unknown, called_name, sum_at}
 use Rattle.sc_world.specs.Layout.{Layout, Occurrence, Placed, location, is_outer, occurrence_at, spot_at}
-use Rattle.sc_world.specs.World.{World, Error, Inner, Run, ◌>>=◌, done, Env, bit_at, number_at, any, null, target_of, target_or_null, root_of, kind_of_type, states, mark, state_of, unless}
-use Rattle.sc_world.specs.Known.{Locked, Outed, Written, locks, outs, writes, count_items, is_lock, is_param, is_out_item, meet_twice, Given, given_int, given_pointer, given_nothing, given_by, given_number, state_after, from_state, lock_stands, locks_stand, params_stand, param_spot, out_stands, exit_rows, stands, row, set_states, mark_if, out_state, out_cell, set_out_as, set_outs, written_cell, same_kind, set_written, set_writes, free_at, free, may_free, escape_at, escape, param_state, param_effect, param_acts, params_act, spot_behind, first_error, error_stands, Acting, effects, rows_stand, acts_as, Failing, errs, acts_unless, acts, known}
-use Rattle.sc_world.specs.Eval.{first_arg, fails, target_from, zero_of, goes_to, operation, locked, tried, try, mark_object, allocate, escape_all, escaped_object, unknown, release, known_by, act, call}
-use Rattle.sc_world.specs.Eval as eval
-use Rattle.run_laws.proofs.Steps.{Whatever, Leads, chain, gives, stops, either, either_as, requires, weaker, IsPlace, Inside, Rules}
-use Rattle.run_laws.proofs.Places.{IfPlace, AreInside, at_index, place_named, null_inside, number_inside, nothing_inside, target_inside, if_inside}
+use Rattle.sc_world.specs.World.{World, Error, Inner, Run, Env, bit_at, number_at, any, null, target_of, target_or_null, root_of, states}
+use Rattle.sc_world.specs.Known.{Locked, Outed, Written, count_items, is_lock, is_param, is_out_item, meet_twice, Given, given_int, given_pointer, given_nothing, given_by, given_number, state_after, from_state, lock_stands, locks_stand, params_stand, param_spot, out_stands, exit_rows, stands, row, set_states, mark_if, out_state, out_cell, set_out_as, set_outs, written_cell, set_written, set_writes, free_at, free, may_free, escape_at, escape, param_state, param_effect, param_acts, params_act, spot_behind, first_error, error_stands, Acting, effects, rows_stand, acts_as, Failing, errs, acts_unless, acts, known}
+use Rattle.sc_world.specs.Eval.{first_arg, fails, target_from, zero_of, goes_to, operation, locked, tried, try, mark_object, allocate, escape_all, unknown, known_by, act, call}
+use Rattle.run_laws.proofs.Steps.{Whatever, Leads, chain, gives, stops, either, either_as, requires, Inside, Rules}
+use Rattle.run_laws.proofs.Places.{IfPlace, AreInside, place_named, null_inside, number_inside, nothing_inside, target_inside, if_inside}
 use Rattle.run_laws.proofs.Values.{tree, stores, marks, asks, tells, state_asked, state_set, reaches, first_arg_inside}
-use Rattle.run_laws.proofs.Paths.{arg_inside, finds_locks, OutInside, finds_outs, WrittenInside, finds_writes}
+use Rattle.run_laws.proofs.Paths.{finds_locks, OutInside, finds_outs, WrittenInside, finds_writes}
 
 -- a number of bits names a state
 pub number_names : (b : Bool) (k n : ℕ) → 0 < k → nat_lt n k ≡ b → (if b then n else (k - 1)) < k

@@ -1,14 +1,14 @@
 -- The world at entry is proper.
-use Rattle.std.proofs.Common.{◌≡◌, ℕ, zero, suc, ◌+◌, ◌≤◌, ◌<◌, Bool, true, false, List, [], ◌∷◌, ◌++◌, map, length, refl, sym, ap, subst, ◌∙◌, arith}
+use Rattle.std.proofs.Common.{◌≡◌, ℕ, zero, suc, ◌+◌, ◌≤◌, ◌<◌, Bool, true, false, List, [], ◌∷◌, ◌++◌, map, length, refl, sym, ap, ◌∙◌, arith}
 use Rattle.std.specs.Prelude.{Option, Some, None, IfSome, slice_index_or, if◌then◌else◌}
 use Rattle.std.specs.List.{AllByRecursion}
 use Rattle.std.proofs.lemmas.Bool.{true≢false}
 use Rattle.fsm_spec.specs.Table.{IsWhole, bits_of_states}
-use Rattle.run_store.specs.Concrete.{Cell, Number, Pointer, Nothing, Kind, Numbers, Pointers, NoCell, Place, kind_of, blank, nth_cell}
+use Rattle.run_store.specs.Concrete.{Cell, Number, Kind, Numbers, Pointers, NoCell, Place, kind_of, blank, nth_cell}
 use Rattle.sc_world.specs.Source.{Source}
-use Rattle.sc_world.specs.Layout.{Layout, Location, location, is_outer, is_there, nowhere}
-use Rattle.sc_world.specs.World.{World, bit_at, number_at, null, target_of, target_or_null, kind_of_type, chosen_cell, entry_value, entry_cell, states, entry_state_at, entry_place, state_place, state_width, entry_world}
-use Rattle.run_laws.specs.Proper.{IsClosed, IsState, IsProper}
+use Rattle.sc_world.specs.Layout.{Layout, Location, location, is_there, nowhere}
+use Rattle.sc_world.specs.World.{bit_at, number_at, null, target_of, target_or_null, kind_of_type, entry_value, entry_cell, states, entry_state_at, entry_place, state_place, state_width, entry_world}
+use Rattle.run_laws.specs.Proper.{IsClosed, IsProper}
 use Rattle.run_laws.proofs.Calls.{number_names}
 
 all_at : {X : Type 0} (Q : X → Type 0) (d : X) (xs : List X) → ((k : ℕ) → Q (slice_index_or xs k d)) → AllByRecursion Q xs

@@ -1,18 +1,18 @@
 -- Expressions.
-use Rattle.std.proofs.Common.{◌≡◌, ℕ, Bool, true, false, not, List, [], ◌∷◌, length}
+use Rattle.std.proofs.Common.{ℕ, Bool, true, false, not, List, [], ◌∷◌}
 use Rattle.std.specs.Prelude.{Option, Some, None, nat_eq, slice_index_or, if◌then◌else◌}
 use Rattle.sc_tree.specs.declared.op.BinaryOp.{BinaryOp}
 use Rattle.sc_tree.specs.declared.op.UnaryOp.TheVariants as sign
-use Rattle.run_store.specs.Concrete.{Cell, Number as Num, Pointer, Nothing}
+use Rattle.run_store.specs.Concrete.{Cell, Nothing}
 use Rattle.sc_world.specs.declared.run.Origin.TheVariants as origin
 use Rattle.sc_world.specs.declared.run.Reason.TheVariants as reason
-use Rattle.sc_world.specs.Tree.{Ty, is_integer, is_pointer, is_array, int_bits, target_or_void, Exp, Comma, Assign, Cond, Binary, Cast, Unary, PreInc, PostInc, SizeofExpr, SizeofType, Index, Call, Field, Param, Local, Global, Function, Number, Str, Convert, Temp, TempPlace, Exps, NoExps, Exps', type_of}
+use Rattle.sc_world.specs.Tree.{Ty, is_array, int_bits, target_or_void, Exp, Comma, Assign, Cond, Binary, Cast, Unary, PreInc, PostInc, SizeofExpr, SizeofType, Index, Call, Field, Param, Local, Global, Function, Number, Str, Convert, Temp, TempPlace, Exps, NoExps, Exps', type_of}
 use Rattle.sc_world.specs.Source.{Source}
 use Rattle.sc_world.specs.Layout.{Layout, location_of, site_at}
 use Rattle.sc_world.specs.World.{World, Run, ◌>>=◌, done, Env, is_true, number_of}
 use Rattle.sc_world.specs.Eval.{Want, Value, Place', place_of, convert, truth_cell, assign_value, assign_struct, combined, needs_right, is_logical, Evaluator, convert_of, assign_by, callee, is_name, eval, eval_all}
-use Rattle.run_laws.proofs.Steps.{Whatever, Leads, chain, gives, stops, either, requires, weaker, IsPlace, Inside, Rules}
-use Rattle.run_laws.proofs.Places.{AreInside, origin_place, null_inside, number_inside, nothing_inside, pointer_inside, place_inside}
+use Rattle.run_laws.proofs.Steps.{Whatever, Leads, chain, gives, either, requires, weaker, Inside, Rules}
+use Rattle.run_laws.proofs.Places.{AreInside, origin_place, number_inside, pointer_inside, place_inside}
 use Rattle.run_laws.proofs.Values.{tree, loads, stores, dereferences, wants, wants_kept, converted, operates, signs, counts, copies, members, elements, first_inside}
 use Rattle.run_laws.proofs.Calls.{calls}
 

@@ -1,8 +1,7 @@
 -- The layout of a function is closed.
-use Rattle.std.proofs.Common.{◌≡◌, ℕ, zero, suc, ◌+◌, ◌-◌, ◌≤◌, ◌<◌, Bool, true, false, ◌&&◌, List, [], ◌∷◌, length, nat_eq, refl, sym, subst, arith}
-use Rattle.std.specs.Prelude.{Option, Some, None, IfSome, IfOk, Result, Ok, Err, if◌then◌else◌}
+use Rattle.std.proofs.Common.{ℕ, zero, suc, ◌+◌, ◌-◌, ◌<◌, Bool, true, false, ◌&&◌, List, [], ◌∷◌, nat_eq, arith}
+use Rattle.std.specs.Prelude.{Option, Some, None, IfOk, Ok, Err}
 use Rattle.sc_base.specs.declared.pos.NameId.{NameId}
-use Rattle.sc_base.specs.declared.skip.LimitKind.{LimitKind}
 use Rattle.sc_base.specs.declared.skip.LimitKind.TheVariants as limit
 use Rattle.sum_rows.specs.declared.path.Step.TheVariants as step
 use Rattle.sum_rows.specs.declared.row.Item.{Item}
@@ -13,16 +12,16 @@ use Rattle.sum_rows.specs.declared.row.Write.{Write}
 use Rattle.sc_world.specs.declared.run.Origin.{Origin}
 use Rattle.sc_world.specs.declared.run.Origin.TheVariants as origin
 use Rattle.sc_world.specs.Tree.{Ty, is_pointer, target_or_void}
-use Rattle.sc_world.specs.Build.{Built, ◌>>=◌, done}
+use Rattle.sc_world.specs.Build.{Built}
 use Rattle.sc_world.specs.Source.{Source, Member, Signature, Effect, Operation, Try, Allocate, Release, Ends, Expect, Known, Unknown, sum_at}
 use Rattle.sc_world.specs.Gather.{Site, Found, gather_function, nothing_found}
-use Rattle.sc_world.specs.Layout.{Layout, Location, Occurrence, no_layout}
+use Rattle.sc_world.specs.Layout.{Layout, Location, no_layout}
 use Rattle.sc_world.specs.Objects.{Chosen, CellsAndStates, Ground as Setting, Laying, root_or, add, stub, Layer, elements, member_named, members, Parts, NoParts, Elements, Members, parts_of, lay_parts, parts, object, whole, Behind, Object, Stub, set_target, follow_cell, follow_at, follow_all, follow_range, type_or_void, lay_params, lay_global, lay_globals, lay_locals, lay_literals, levels, gives_cells, gives_states, cell_bits, state_bits}
 use Rattle.sc_world.specs.Objects as objects
-use Rattle.sc_world.specs.Occurrences.{stubs_behind, call_object, object_if, occur_once, occur, occur_all, cell_at, cell_if, cells_from, object_cells, result_bits, spot_of, state_spot, state_spots, param_spot, param_spots, param_type, out_object, out_spot, out_spots, pointer_spot, write_spot, write_spots, known_spots, known_callee, effect_bits, call_bits, number_site, number_turns, number_all, is_out_path, is_zeroed}
+use Rattle.sc_world.specs.Occurrences.{stubs_behind, call_object, object_if, occur_once, occur, occur_all, cell_at, cells_from, object_cells, result_bits, spot_of, state_spot, state_spots, param_spot, param_spots, param_type, out_object, out_spot, out_spots, pointer_spot, write_spot, write_spots, known_spots, known_callee, effect_bits, number_site, number_turns, number_all, is_out_path, is_zeroed}
 use Rattle.sc_world.specs.Places.{lay_out, laid, places_of, places}
 use Rattle.run_laws.specs.Proper.{IsClosed}
-use Rattle.run_laws.proofs.Laying.{IsBelow, below_more, Names, closed_from, After, Lays, Whatever, There, chain, gives, refuses, either, nexts, counts, takes, takes_if, pushes, looks, puts, pushes_occurrence, counts_occurrences, pushes_spot, counts_spots, looks_occurrence, puts_occurrence}
+use Rattle.run_laws.proofs.Laying.{IsBelow, below_more, closed_from, After, Lays, Whatever, There, chain, gives, refuses, either, nexts, counts, takes, takes_if, pushes, looks, puts, pushes_occurrence, counts_occurrences, pushes_spot, counts_spots, looks_occurrence, puts_occurrence}
 
 module _ (g : Setting) where
   abbrev Does : ℕ → Laying (Unit {0}) → Type 0

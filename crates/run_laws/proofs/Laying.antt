@@ -1,11 +1,11 @@
 -- Steps that lay out locations, calls and spots: the objects that a layout names stay among its locations.
-use Rattle.std.proofs.Common.{◌≡◌, ℕ, zero, suc, ◌+◌, ◌-◌, ◌≤◌, ◌<◌, Bool, true, false, List, [], ◌∷◌, ◌++◌, length, refl, sym, ap, subst, ◌∙◌, arith}
-use Rattle.std.specs.Prelude.{Option, Some, None, IfSome, Ok, Err, nat_lt, slice_index_or, slice_set, if◌then◌else◌}
+use Rattle.std.proofs.Common.{◌≡◌, ℕ, zero, suc, ◌≤◌, ◌<◌, Bool, true, false, List, [], ◌∷◌, ◌++◌, length, refl, ap, arith}
+use Rattle.std.specs.Prelude.{Option, Some, None, IfSome, Ok, Err, nat_lt, slice_set, if◌then◌else◌}
 use Rattle.std.specs.List.{AllByRecursion}
 use Rattle.sc_base.specs.declared.skip.LimitKind.{LimitKind}
 use Rattle.sc_base.specs.declared.skip.LimitKind.TheVariants as limit
 use Rattle.sc_world.specs.Build.{Built, goes_on, ◌>>=◌, done, refused}
-use Rattle.sc_world.specs.Layout.{Layout, Location, Occurrence, Spot, location, nowhere, no_occurrence, no_spot, spot_at}
+use Rattle.sc_world.specs.Layout.{Layout, Location, Occurrence, nowhere, no_occurrence, no_spot}
 use Rattle.sc_world.specs.Objects.{Laying, most_locations, next, count, take_bits, push, put_at, location_now, bits_if}
 use Rattle.sc_world.specs.Occurrences.{push_occurrence, occurrences_now, push_spot, spots_now, occurrence_now, put_occurrence}
 use Rattle.run_laws.specs.Proper.{IsClosed}
@@ -137,8 +137,7 @@ pushes b l none = record {
   by = λ p le h.
       let grown : length (p.locations ++ l ∷ []) ≡ suc (length p.locations) = length_pushed p.locations l in
       let less : length p.locations ≤ length (p.locations ++ l ∷ []) = omega (arith, grown) in
-      let more = names_more (length p.locations) (length (p.locations ++ l ∷ [])) less p h in
-      (
+      let more = names_more (length p.locations) (length (p.locations ++ l ∷ [])) less p h in (
         less,
         record {
           targets =
@@ -165,8 +164,7 @@ puts b at l below = record {
   by = λ p le h.
       let same : length (slice_set p.locations at l) ≡ length p.locations = length_set p.locations at l in
       let enough : length p.locations ≤ length (slice_set p.locations at l) = omega (arith, same) in
-      let more = names_more (length p.locations) (length (slice_set p.locations at l)) enough p h in
-      (
+      let more = names_more (length p.locations) (length (slice_set p.locations at l)) enough p h in (
         enough,
         record {
           targets =

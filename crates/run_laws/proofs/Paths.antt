@@ -1,9 +1,9 @@
 -- Paths of summaries in the store of the caller, and the items of a known call.
-use Rattle.std.proofs.Common.{◌≡◌, ℕ, zero, suc, ◌+◌, ◌-◌, ◌≤◌, ◌<◌, Bool, true, false, List, [], ◌∷◌, length, arith}
-use Rattle.std.specs.Prelude.{Option, Some, None, nat_eq, slice_index_or, if◌then◌else◌}
+use Rattle.std.proofs.Common.{ℕ, zero, suc, ◌+◌, ◌-◌, ◌≤◌, Bool, true, false, List, [], ◌∷◌, length, arith}
+use Rattle.std.specs.Prelude.{Option, Some, None, slice_index_or, if◌then◌else◌}
 use Rattle.std.specs.List.{AllByRecursion}
 use Rattle.run_store.specs.declared.Flag.TheVariants as flag
-use Rattle.run_store.specs.Concrete.{Cell, Nothing}
+use Rattle.run_store.specs.Concrete.{Cell}
 use Rattle.sum_rows.specs.declared.path.Path.{Path}
 use Rattle.sum_rows.specs.declared.path.Root.{Root}
 use Rattle.sum_rows.specs.declared.path.Root.TheVariants as root
@@ -16,11 +16,11 @@ use Rattle.sum_rows.specs.declared.row.Row.{Row}
 use Rattle.sum_rows.specs.declared.row.Write.{Write}
 use Rattle.sc_world.specs.declared.run.Origin.TheVariants as origin
 use Rattle.sc_world.specs.Source.{Source}
-use Rattle.sc_world.specs.Layout.{Layout, Spot, location, is_stub, is_pointer_cell, part, spot_at}
+use Rattle.sc_world.specs.Layout.{Layout, location, is_stub, is_pointer_cell, part, spot_at}
 use Rattle.sc_world.specs.Occurrences.{is_out_path}
 use Rattle.sc_world.specs.World.{World, Run, null, target_of, root_of}
-use Rattle.sc_world.specs.Known.{usable, Come, At, Holds, pointed, stepped, at_end, onwards, follow, begin, follow_path, Locked, with_locked, locked_item, is_lock, spot_behind, locks, Outed, with_out, is_out_item, pointer_cell_if, out_item, outs, Written, with_written, writes}
-use Rattle.run_laws.proofs.Steps.{Whatever, Leads, chain, gives, stops, either, requires, weaker, IsPlace, Inside, Rules}
+use Rattle.sc_world.specs.Known.{usable, Come, At, Holds, pointed, stepped, at_end, onwards, follow, begin, follow_path, locked_item, is_lock, spot_behind, locks, Outed, with_out, is_out_item, pointer_cell_if, out_item, outs, Written, with_written, writes}
+use Rattle.run_laws.proofs.Steps.{Whatever, Leads, chain, gives, either, weaker, IsPlace, Inside, Rules}
 use Rattle.run_laws.proofs.Places.{IfPlace, AreInside, at_index, part_place, origin_place, place_named, null_inside}
 use Rattle.run_laws.proofs.Values.{tree, loads, asks}
 

@@ -1,13 +1,13 @@
 -- Numbers of locations: those that a layout names and those that are looked for in it.
-use Rattle.std.proofs.Common.{◌≡◌, ℕ, zero, suc, ◌+◌, ◌-◌, ◌≤◌, ◌<◌, Bool, true, false, cond, List, [], ◌∷◌, length, subst, refl, arith}
+use Rattle.std.proofs.Common.{ℕ, zero, suc, ◌+◌, ◌≤◌, ◌<◌, Bool, true, false, List, [], ◌∷◌, length, subst, arith}
 use Rattle.std.specs.Prelude.{Option, Some, None, IfSome, slice_index_or, if◌then◌else◌}
 use Rattle.std.specs.List.{AllByRecursion, range_with_len}
-use Rattle.run_store.specs.Concrete.{Cell, Number, Pointer, Nothing, Kind, Numbers, Pointers, NoCell, blank}
+use Rattle.run_store.specs.Concrete.{Cell, Number, Nothing, Kind, Numbers, Pointers, NoCell, blank}
 use Rattle.sum_rows.specs.declared.path.Step.{Step}
 use Rattle.sc_world.specs.declared.run.Origin.{Origin}
-use Rattle.sc_world.specs.Layout.{Layout, Location, location, location_of, same_origin, is_part_of, part, first_where, is_cell, or_zero}
+use Rattle.sc_world.specs.Layout.{Layout, Location, location_of, same_origin, is_part_of, part, first_where, or_zero}
 use Rattle.sc_world.specs.World.{pointer_to, null, target_of, target_or_null}
-use Rattle.sc_world.specs.Eval.{place_of, cells_among, cells_of, is_within, or_itself}
+use Rattle.sc_world.specs.Eval.{place_of, cells_among, cells_of, or_itself}
 use Rattle.run_laws.proofs.Steps.{IsPlace, Inside}
 
 abbrev pub IfBelow : ℕ → Option ℕ → Type 0

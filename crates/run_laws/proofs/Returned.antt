@@ -1,25 +1,25 @@
 -- Functions that fit give values of the type of their result.
-use Rattle.std.proofs.Common.{◌≡◌, ℕ, ◌≤◌, Bool, true, false, ◌||◌, List, [], ◌∷◌, length, refl, sym, ap, subst, ◌∙◌, ⊎_elim}
-use Rattle.std.proofs.lemmas.Bool.{true≢false, or_cases}
-use Rattle.std.specs.Prelude.{Option, Some, None, slice_index_or, if◌then◌else◌}
+use Rattle.std.proofs.Common.{◌≡◌, ℕ, ◌≤◌, Bool, true, false, ◌||◌, List, length, refl, subst, ◌∙◌}
+use Rattle.std.proofs.lemmas.Bool.{true≢false}
+use Rattle.std.specs.Prelude.{Option, Some, None, slice_index_or}
 use Rattle.sc_base.specs.declared.pos.Pos.{Pos}
 use Rattle.fsm_spec.specs.Table.{IsWhole}
-use Rattle.run_store.specs.Concrete.{Cell, Number, Pointer, Nothing, Kind, kind_of, blank}
-use Rattle.sc_world.specs.Tree.{Ty, is_integer, is_pointer, is_void, Exp, type_of, Stm, Block, Decl, Evaluate, If, IfElse, While, Do, For, Switch, Case, Default, Goto, Break, Continue, Return, Label, Stms, NoStms, Stms'}
+use Rattle.run_store.specs.Concrete.{Cell, Number, Pointer, Nothing, blank}
+use Rattle.sc_world.specs.Tree.{Ty, is_integer, is_pointer, is_void, Exp, Stm, Block, Decl, Evaluate, If, IfElse, While, Do, For, Switch, Case, Default, Goto, Break, Continue, Return, Label, Stms, NoStms, Stms'}
 use Rattle.sc_world.specs.Source.{Source}
 use Rattle.sc_world.specs.Layout.{Layout}
 use Rattle.sc_world.specs.World.{World, ◌>>=◌, target_of, kind_of_type}
-use Rattle.sc_world.specs.Eval.{Value, eval}
+use Rattle.sc_world.specs.Eval.{Value}
 use Rattle.sc_world.specs.Exec.{exec, finished, result_or}
 use Rattle.run_laws.specs.Proper.{IsClosed, IsProper}
-use Rattle.run_laws.specs.Fits.{value_kind, IsValueOf, is_scalar, may_give}
+use Rattle.run_laws.specs.Fits.{IsValueOf, is_scalar, may_give}
 use Rattle.run_laws.specs.Functions.{ReturnFits, StatementFits, StatementsFit, FunctionFits}
 use Rattle.run_laws.proofs.Steps.{Leads, weaker}
 use Rattle.run_laws.proofs.Values.{tree}
 use Rattle.run_laws.proofs.Statements.{GivesIf, returns, Gives, AllGive, runs}
 use Rattle.run_laws.proofs.Stores.{proper_rules}
 use Rattle.run_laws.proofs.Entry.{blank_kind}
-use Rattle.run_laws.proofs.Types.{or_right, own_kind_of, value_void}
+use Rattle.run_laws.proofs.Types.{own_kind_of, value_void}
 use Rattle.run_laws.proofs.Typed.{typed}
 
 -- 0, null or nothing is a value of the type

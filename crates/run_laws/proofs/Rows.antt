@@ -4,7 +4,7 @@ use Rattle.std.proofs.lemmas.Bool.{true≢false, and_parts, or_cases, eqb-true}
 use Rattle.std.proofs.Math.Nat.{pow-suc}
 use Rattle.std.proofs.lemmas.List.Elements.{Contains-append_left, Contains-append_right}
 use Rattle.std.proofs.lemmas.List.FromFn.{length-range_with_len, get_or-range_with_len}
-use Rattle.std.specs.Prelude.{Contains, Option, Some, None, slice_index_or}
+use Rattle.std.specs.Prelude.{Contains, slice_index_or}
 use Rattle.std.specs.List.{flat_map, range_with_len}
 use Rattle.fsm_spec.specs.Table.{IsWhole}
 use Rattle.sum_rows.specs.declared.row.Row.{Row}
@@ -15,13 +15,13 @@ use Rattle.sum_rows.specs.declared.row.Gives.TheVariants as gives
 use Rattle.run_store.specs.Concrete.{Cell, nth_cell}
 use Rattle.sc_world.specs.Source.{Source}
 use Rattle.sc_world.specs.Layout.{Layout, Location, location, is_outer, nowhere}
-use Rattle.sc_world.specs.World.{World, number_of, digit, is_true, states, entry_state_at}
+use Rattle.sc_world.specs.World.{number_of, digit, is_true, states, entry_state_at}
 use Rattle.sc_world.specs.Exec.{run}
 use Rattle.sc_world.specs.Known.{row, same_state, same_gives, same_row}
 use Rattle.sc_world.specs.Paths.{Texts}
 use Rattle.sc_world.specs.Shows.{Over, Locks, says, is_met, exits, errs_at, given, entry_params, bits_number, param_cell, result, state_before, state_now}
-use Rattle.sc_world.specs.Verdict.{givens, machine_states, lock_candidates_from, lock_candidates, run_over, shows}
-use Rattle.run_laws.specs.Proper.{IsState, IsProper, IsClosed}
+use Rattle.sc_world.specs.Verdict.{givens, machine_states, lock_candidates_from, lock_candidates, run_over}
+use Rattle.run_laws.specs.Proper.{IsState, IsProper}
 use Rattle.run_laws.proofs.Entry.{state_known}
 
 -- Elements of lists.

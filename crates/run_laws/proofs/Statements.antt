@@ -1,6 +1,6 @@
 -- Statements, and whole runs.
-use Rattle.std.proofs.Common.{◌≡◌, ℕ, zero, suc, ◌+◌, ◌*◌, Bool, true, false, List, [], ◌∷◌, length}
-use Rattle.std.specs.Prelude.{Option, Some, None, nat_eq, if◌then◌else◌}
+use Rattle.std.proofs.Common.{ℕ, zero, suc, ◌+◌, ◌*◌, Bool, true, false, List, [], ◌∷◌}
+use Rattle.std.specs.Prelude.{Option, Some, None}
 use Rattle.std.specs.List.{AllByRecursion}
 use Rattle.sc_base.specs.declared.pos.Pos.{Pos}
 use Rattle.sc_base.specs.declared.pos.NameId.{NameId}
@@ -13,13 +13,12 @@ use Rattle.sum_rows.specs.declared.path.Step.TheVariants as step
 use Rattle.sum_rows.specs.declared.report.What.{What}
 use Rattle.sum_rows.specs.declared.report.What.TheVariants as what
 use Rattle.sc_world.specs.declared.run.Origin.TheVariants as origin
-use Rattle.sc_world.specs.declared.run.Reason.TheVariants as reason
 use Rattle.sc_world.specs.Tree.{Exp, type_of, Given, Init, NoInit, One, Braces, Dec, Start, NoStart, Begin, Declare, Stm, Block, Decl, Evaluate, If, IfElse, While, Do, For, Switch, Case, Default, Goto, Break, Continue, Return, Label, Stms, NoStms, Stms'}
 use Rattle.sc_world.specs.Source.{Source}
-use Rattle.sc_world.specs.Layout.{Layout, location, location_of, part}
-use Rattle.sc_world.specs.World.{World, Run, ◌>>=◌, done, aside, Env, is_true, number_of, kind_of_type}
+use Rattle.sc_world.specs.Layout.{Layout, location, location_of}
+use Rattle.sc_world.specs.World.{World, Run, ◌>>=◌, done, Env, is_true, number_of, kind_of_type}
 use Rattle.sc_world.specs.Eval.{Value, Place', eval, place_of, cells_of}
-use Rattle.sc_world.specs.Exec.{Flow, Next, Breaks, Continues, GoesTo, Returns, Seek, Here, AtLabel, AtCase, AtDefault, found, left, goes_on_in, chosen_item, out_of_switch, in_turn, condition, after_turn, turns, again, do_turns, name_of_member, member_part, part_into, part_if, part_along, part_at, is_scalar, cells_given, all_given, clear, set_part, set_parts, initialise, declared_as, declarator, declarators, evaluate_if, begin, condition_if, switch_event, while_by, do_by, with_step, for_by, return_value, switch_by, exec, exec_all, end_of, result_or, finished}
+use Rattle.sc_world.specs.Exec.{Flow, Next, Breaks, Continues, GoesTo, Returns, Seek, Here, AtLabel, AtCase, AtDefault, found, left, goes_on_in, chosen_item, out_of_switch, in_turn, condition, after_turn, turns, again, do_turns, name_of_member, member_part, part_into, part_if, part_along, part_at, is_scalar, cells_given, all_given, clear, set_part, set_parts, initialise, declared_as, declarators, evaluate_if, begin, condition_if, switch_event, with_step, return_value, switch_by, exec, exec_all, end_of, result_or, finished}
 use Rattle.run_laws.proofs.Steps.{Whatever, Leads, chain, gives, stops, either, IsPlace, Inside, Rules}
 use Rattle.run_laws.proofs.Places.{IfPlace, ArePlaces, AreInside, part_place, origin_place, blank_inside, nothing_inside, cells_places}
 use Rattle.run_laws.proofs.Values.{tree, stores, tells, loads_all, stores_all, copies}

@@ -1,5 +1,5 @@
 -- Proper worlds stay proper where a cell is written, a mark is set, an event happens or a state changes.
-use Rattle.std.proofs.Common.{◌≡◌, ℕ, zero, suc, ◌+◌, ◌-◌, ◌≤◌, ◌<◌, Bool, true, false, List, [], ◌∷◌, ◌++◌, length, refl, sym, ap, subst, ◌∙◌, arith}
+use Rattle.std.proofs.Common.{◌≡◌, ℕ, zero, suc, ◌+◌, ◌≤◌, ◌<◌, Bool, true, false, List, [], ◌∷◌, ◌++◌, length, refl, sym, ap, subst, ◌∙◌, arith}
 use Rattle.std.proofs.lemmas.Bool.{eqb-true}
 use Rattle.std.specs.Prelude.{nat_eq, slice_index_or, if◌then◌else◌}
 use Rattle.fsm_spec.specs.Table.{IsWhole}
@@ -8,8 +8,8 @@ use Rattle.run_store.specs.Concrete.{Cell, Number, Pointer, Nothing, Numbers, Pl
 use Rattle.sum_rows.specs.declared.report.Event.{Event}
 use Rattle.sc_world.specs.Source.{Source}
 use Rattle.sc_world.specs.Layout.{Layout, Location, location}
-use Rattle.sc_world.specs.World.{World, Env, target_of, state_width, states}
-use Rattle.run_laws.specs.Proper.{IsClosed, IsState, IsProper, KeepsInside}
+use Rattle.sc_world.specs.World.{World, target_of, state_width, states}
+use Rattle.run_laws.specs.Proper.{IsClosed, IsState, IsProper}
 use Rattle.run_laws.proofs.Steps.{IsPlace, Inside, Rules}
 
 length_change : (ps : List Place) (at : ℕ) (c : Cell) → length (change ps at c) ≡ length ps

@@ -1,5 +1,5 @@
 -- Expressions that fit give values and places of their types.
-use Rattle.std.proofs.Common.{◌≡◌, ℕ, zero, suc, ◌+◌, ◌-◌, ◌≤◌, ◌<◌, Bool, true, false, not, ◌&&◌, ◌||◌, List, [], ◌∷◌, length, nat_eq, refl, sym, ap, subst, ◌∙◌, inl, inr, ⊎_elim, arith}
+use Rattle.std.proofs.Common.{◌≡◌, ℕ, ◌+◌, ◌≤◌, ◌<◌, Bool, true, false, not, ◌&&◌, ◌||◌, List, [], ◌∷◌, length, nat_eq, refl, sym, ap, subst, ◌∙◌, inl, inr, ⊎_elim}
 use Rattle.std.proofs.lemmas.Bool.{true≢false, and_parts, or_cases}
 use Rattle.std.specs.Prelude.{Option, Some, None, slice_index_or, if◌then◌else◌}
 use Rattle.sc_base.specs.declared.pos.NameId.{NameId}
@@ -11,7 +11,7 @@ use Rattle.sc_tree.specs.declared.op.UnaryOp.TheVariants as sign
 use Rattle.sc_tree.specs.declared.op.Step.{Step}
 use Rattle.fsm_spec.specs.Table.{IsWhole}
 use Rattle.sc_typed.specs.Arith.{computed, takes}
-use Rattle.run_store.specs.Concrete.{Cell, Number as Num, Pointer, Nothing, Numbers, Pointers, kind_of, nth_cell}
+use Rattle.run_store.specs.Concrete.{Cell, Number as Num, Pointer, Nothing, kind_of}
 use Rattle.sum_rows.specs.declared.path.Step.TheVariants as step
 use Rattle.sum_rows.specs.declared.report.What.TheVariants as what
 use Rattle.sc_world.specs.declared.run.Origin.{Origin}
@@ -21,16 +21,16 @@ use Rattle.sc_world.specs.Tree.{Ty, is_integer, is_pointer, is_array, is_void, i
 use Rattle.sc_world.specs.Source.{Source, Effect, Operation, Try, Allocate, Release, Ends, Expect, Known, Unknown, called_name, sum_at}
 use Rattle.sc_world.specs.Layout.{Layout, Occurrence, Placed, location, location_of, part, has_type, is_stub, site_at, occurrence_at}
 use Rattle.sc_world.specs.World.{World, Run, ◌>>=◌, done, Env, is_true, number_of, load, store, pointer_to, target_of, reach, dereference, target_or_null}
-use Rattle.sc_world.specs.Eval.{Want, Value, Place', scalar_at, wanted, place_of, convert, not_taken, operated, signed_as, one_step, counted, part_or, member, element_or, element, or_itself, first_element, first_arg, zero_of, act, call, truth_cell, assign_value, combined, needs_right, is_logical, is_name, eval, eval_all}
+use Rattle.sc_world.specs.Eval.{Want, Value, Place', scalar_at, wanted, place_of, convert, not_taken, operated, signed_as, one_step, counted, part_or, member, element_or, element, or_itself, first_element, first_arg, act, call, truth_cell, assign_value, needs_right, is_logical, is_name, eval, eval_all}
 use Rattle.run_laws.specs.Proper.{IsClosed, IsProper}
-use Rattle.run_laws.specs.Fits.{value_kind, IsValueOf, may_be_stub, StandsAt, IsPlaceOf, is_scalar, operands_fit, compares_pointers, converts_to, unless_array, if_scalar, IsRead, Unless, may_give, IsFirst, CallFits, IsTypedThere, IsStubThere, ElementsFit, Indexed, MemberFits, Fits, FitAll}
-use Rattle.run_laws.proofs.Steps.{Whatever, Leads, chain, gives, stops, either, either_as, holds, both, requires, weaker, IsPlace, Inside, Rules}
+use Rattle.run_laws.specs.Fits.{IsValueOf, may_be_stub, StandsAt, IsPlaceOf, is_scalar, operands_fit, compares_pointers, converts_to, unless_array, IsRead, may_give, IsFirst, CallFits, IsStubThere, ElementsFit, Indexed, MemberFits, Fits, FitAll}
+use Rattle.run_laws.proofs.Steps.{Leads, chain, gives, stops, either, either_as, holds, both, requires, weaker, Inside, Rules}
 use Rattle.run_laws.proofs.Places.{IfPlace, AreInside, place_named, place_inside}
-use Rattle.run_laws.proofs.Values.{tree, loads, stores, tells, reaches, dereferences, first_arg_inside, copies, counts}
+use Rattle.run_laws.proofs.Values.{tree, loads, stores, tells, reaches, first_arg_inside, copies, counts}
 use Rattle.run_laws.proofs.Calls.{frees, zero_has, operates_on, tries, allocates, unknowns, knows_by, Results}
 use Rattle.run_laws.proofs.Expressions.{evaluates, evaluates_all, combines, calls_callee}
 use Rattle.run_laws.proofs.Stores.{proper_rules}
-use Rattle.run_laws.proofs.Types.{or_false, or_right, integer_no_void, pointer_no_void, pointer_no_integer, stub_no_integer, integer_scalar, cell_kind, typed_there, scalar_typed, value_number, value_pointer, value_void, value_target, place_of_pointer, place_value, no_nothing, no_pointer, alike, numbers_alike, pointers_alike, converted_value, array_pointer, promoted_integer, to_promoted, from_promoted}
+use Rattle.run_laws.proofs.Types.{or_false, or_right, integer_no_void, pointer_no_integer, stub_no_integer, integer_scalar, cell_kind, typed_there, scalar_typed, value_number, value_pointer, value_void, value_target, place_of_pointer, place_value, no_nothing, no_pointer, alike, numbers_alike, pointers_alike, converted_value, array_pointer, promoted_integer, to_promoted, from_promoted}
 
 module _ (s : Source) (p : Layout) (choice : List Bool) (temps : List Cell) (whole : IsWhole s.machine) (closed : IsClosed p) (temps_inside : (k : ℕ) → target_of (slice_index_or temps k Nothing) ≤ length p.locations) where
   abbrev P : World → Type 0

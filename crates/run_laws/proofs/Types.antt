@@ -1,16 +1,16 @@
 -- What follows of types alone: scalar types, conversions, and the kinds of values.
-use Rattle.std.proofs.Common.{◌≡◌, ℕ, zero, suc, ◌+◌, ◌-◌, ◌≤◌, ◌<◌, Bool, true, false, not, ◌&&◌, ◌||◌, List, [], ◌∷◌, length, refl, sym, ap, subst, ◌∙◌, inl, inr, arith}
+use Rattle.std.proofs.Common.{◌≡◌, ℕ, zero, suc, ◌+◌, ◌<◌, Bool, true, false, ◌&&◌, ◌||◌, List, [], ◌∷◌, length, refl, sym, ap, subst, ◌∙◌, inl, inr, arith}
 use Rattle.std.proofs.lemmas.Bool.{true≢false}
 use Rattle.std.specs.Prelude.{Option, Some, None, slice_index_or, if◌then◌else◌}
 use Rattle.sc_tree.specs.declared.ctype.IntKind.{IntKind}
 use Rattle.sc_tree.specs.declared.ctype.IntKind.TheVariants as kind
 use Rattle.sc_typed.specs.Kinds.{same_kind}
 use Rattle.run_store.specs.Concrete.{Cell, Number, Pointer, Nothing, Kind, Numbers, Pointers, NoCell, kind_of}
-use Rattle.sc_world.specs.Tree.{Ty, Void, Bool', Int, Ptr, Array, Struct, Union, Func, Opaque, is_integer, is_pointer, is_array, is_void, is_bool, int_bits, promoted_type}
+use Rattle.sc_world.specs.Tree.{Ty, Void, Bool', Int, Ptr, Array, Struct, Union, Func, Opaque, is_integer, is_pointer, is_array, is_void, int_bits, promoted_type}
 use Rattle.sc_world.specs.Source.{Source}
 use Rattle.sc_world.specs.Layout.{Layout, Location, location, type_is, has_type, nowhere}
 use Rattle.sc_world.specs.World.{Env, pointer_to, kind_of_type, target_or_null}
-use Rattle.sc_world.specs.Eval.{Want, Value, Place', place_of, convert}
+use Rattle.sc_world.specs.Eval.{place_of, convert}
 use Rattle.run_laws.specs.Fits.{value_kind, IsValueOf, may_be_stub, StandsAt, IsPlaceOf, is_scalar, is_function, converts_to}
 
 false-true : {A : Type 0} → false ≡ true → A

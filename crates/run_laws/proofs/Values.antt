@@ -1,7 +1,6 @@
 -- Steps on values and places.
-use Rattle.std.proofs.Common.{◌≡◌, ℕ, zero, suc, ◌+◌, ◌-◌, ◌≤◌, ◌<◌, Bool, true, false, not, List, [], ◌∷◌, length, arith}
-use Rattle.std.specs.Prelude.{Option, Some, None, nat_eq, slice_index_or, if◌then◌else◌}
-use Rattle.std.specs.List.{AllByRecursion}
+use Rattle.std.proofs.Common.{ℕ, zero, suc, ◌-◌, ◌≤◌, ◌<◌, Bool, not, List, [], ◌∷◌, length, arith}
+use Rattle.std.specs.Prelude.{Option, Some, None}
 use Rattle.sc_base.specs.declared.pos.Pos.{Pos}
 use Rattle.sc_base.specs.declared.pos.NameId.{NameId}
 use Rattle.sc_tree.specs.declared.op.BinaryOp.{BinaryOp}
@@ -17,8 +16,8 @@ use Rattle.sc_typed.specs.Arith.{computed, takes}
 use Rattle.sc_world.specs.Tree.{Ty, is_integer, is_pointer, is_bool, int_bits, has_sign, promoted_type}
 use Rattle.sc_world.specs.Source.{Source}
 use Rattle.sc_world.specs.Layout.{Layout, location, is_stub, has_type, part}
-use Rattle.sc_world.specs.World.{World, Run, ◌>>=◌, done, unless, Env, pointer_to, null, target_of, load, put, mark, has_mark, root_of, store, state_of, set_state, event, not_freed, reach_from, reach, dereference, states, target_or_null}
-use Rattle.sc_world.specs.Eval.{Want, Value, Place', scalar_at, wanted, place_of, kept_place, number_to, pointer_as, convert, not_taken, on_numbers, on_pointers, operated, signed_as, truth_cell, one_step, counted, load_all, store_all, cells_of, copy, part_or, member, element_or, element, first_element, first_arg}
+use Rattle.sc_world.specs.World.{World, Env, target_of, load, mark, has_mark, root_of, store, state_of, set_state, event, not_freed, reach_from, reach, dereference, states}
+use Rattle.sc_world.specs.Eval.{Want, Value, Place', scalar_at, wanted, place_of, kept_place, number_to, convert, not_taken, on_numbers, operated, signed_as, one_step, counted, load_all, store_all, cells_of, copy, part_or, member, element_or, element, first_element, first_arg}
 use Rattle.run_laws.proofs.Steps.{Whatever, Leads, chain, gives, stops, either, requires, IsPlace, Inside, Rules}
 use Rattle.run_laws.proofs.Places.{IfPlace, ArePlaces, AreInside, part_place, zero_place, null_inside, number_inside, nothing_inside, pointer_inside, place_inside, if_inside, or_itself_place, cells_places}
 

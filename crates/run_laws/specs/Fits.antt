@@ -1,6 +1,6 @@
 -- Expressions that fit a layout: the operands of each operator have the types that it wants, and what an expression
 -- names is among the locations, with its type. And what the values and the places of a type are.
-use Rattle.std.specs.Prelude.{◌≡◌, ℕ, ◌<◌, Bool, true, false, ◌&&◌, ◌||◌, ◌⊎◌, Option, Some, None, length, if◌then◌else◌}
+use Rattle.std.specs.Prelude.{◌≡◌, ℕ, ◌<◌, Bool, true, false, ◌&&◌, ◌||◌, ◌⊎◌, Some, None, length, if◌then◌else◌}
 use Rattle.sc_base.specs.declared.pos.NameId.{NameId}
 use Rattle.sc_tree.specs.declared.op.BinaryOp.{BinaryOp}
 use Rattle.sc_tree.specs.declared.op.BinaryOp.TheVariants as op

@@ -1,5 +1,5 @@
 -- Statements and functions that fit a layout: their expressions do, and have the types that stand there.
-use Rattle.std.specs.Prelude.{◌≡◌, ℕ, Bool, true, Option, Some, None, List, [], ◌∷◌}
+use Rattle.std.specs.Prelude.{◌≡◌, ℕ, true, Option, Some, None, List, [], ◌∷◌}
 use Rattle.sc_typed.specs.declared.stmt.Declared.{Declared}
 use Rattle.sc_typed.specs.declared.stmt.Declared.TheVariants as declared
 use Rattle.sc_world.specs.declared.run.Origin.TheVariants as origin

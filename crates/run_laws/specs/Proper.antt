@@ -1,5 +1,5 @@
 -- Proper worlds: what holds of the store at entry and after every step of a run; and what this asks of a layout.
-use Rattle.std.specs.Prelude.{◌≡◌, ℕ, ◌+◌, ◌<◌, ◌≤◌, Bool, true, Option, IfSome, length, slice_index_or}
+use Rattle.std.specs.Prelude.{◌≡◌, ℕ, ◌+◌, ◌<◌, ◌≤◌, true, IfSome, length, slice_index_or}
 use Rattle.run_store.specs.Concrete.{Cell, Number, Nothing, nth_cell, kind_of}
 use Rattle.sc_world.specs.Source.{Source}
 use Rattle.sc_world.specs.Layout.{Layout, Location, location, is_outer, no_occurrence, spot_at}

@@ -10,8 +10,7 @@ returns-clause-closed c s x at whole closed outer r =
     let both = c.rows_are_those_of_runs.ensures.locks s x at r in (
       λ has. (both.0 has).1,
       λ run.
-          both.1
-          (
+          both.1 (
             covered s x.layout run.0 whole (c.worlds_stay_proper.ensures.runs s x.layout run.0 whole closed) x at r outer run.2,
             run,
           ),
