@@ -13,3 +13,4 @@ pub mod LaidOut
 pub mod Types
 pub mod Typed
 pub mod Returned
+pub mod Fitting

@@ -1,3 +1,4 @@
+pub mod Example
 pub mod Fits
 pub mod Functions
 pub mod Keeps

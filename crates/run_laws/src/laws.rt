@@ -18,6 +18,7 @@ ghost use Rattle.run_laws.specs.Keeps.{Keeps};
 ghost use Rattle.run_laws.specs.Proper.{IsClosed, KeepsInside, PointsInside, IsProper};
 ghost use Rattle.run_laws.specs.Fits.{Fits, IsValueOf, IsPlaceOf};
 ghost use Rattle.run_laws.specs.Functions.{FunctionFits};
+ghost use Rattle.run_laws.specs.Example as example;
 
 use world_laws::rows_are_those_of_runs;
 
@@ -77,4 +78,10 @@ pub fn values_are_of_their_types()
 pub fn results_are_of_their_types()
     ensures { (s : Source) (p : Layout) (choice : List Bool) → IsWhole s.machine → IsClosed p → FunctionFits s p
         → IfOk (exec.run s p choice).0 (IsValueOf s s.result) }
+{}
+
+/// What the laws on types ask can be met: a function of three statements fits its layout.
+pub fn a_function_fits()
+    ensures laid { places example.given ≡ Ok example.laid }
+    ensures fits { FunctionFits example.given example.laid }
 {}
