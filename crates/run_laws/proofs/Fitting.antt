@@ -1,8 +1,8 @@
 -- The example fits its layout.
-use Rattle.std.proofs.Common.{◌≡◌, ℕ, zero, suc, true, false, refl, sym, inl, inr, arith}
+use Rattle.std.proofs.Common.{zero, suc, refl, sym, inl, inr, arith}
 use Rattle.std.proofs.lemmas.Bool.{true≢false}
 use Rattle.sc_world.specs.Tree.{Struct}
-use Rattle.run_laws.specs.Fits.{StandsAt, MemberFits}
+use Rattle.run_laws.specs.Fits.{MemberFits}
 use Rattle.run_laws.specs.Functions.{FunctionFits}
 use Rattle.run_laws.specs.Example.{int, member_name, given, laid}
 

@@ -210,15 +210,15 @@ module _ (s : Source) (p : Layout) (choice : List Bool) (temps : List Cell) (who
   act_typed t q y o es vs (Operation n) fits hv ho hs =
       operates_on s p choice temps P r (IsValueOf s y) t q y n (first_arg vs) (first_arg_inside s p choice temps P r vs hs)
       (zero_has s p choice temps P r (IsValueOf s y) t y (λ e. value_number s y e 0)
-      (λ e. value_void s y (or_right (is_integer y) (is_void y) fits e) Nothing))
+      (λ e. value_void s y (or_right (is_integer y) (is_void y) fits.0 e) Nothing))
   act_typed t q y o es vs (Try a b) fits hv ho hs =
       tries s p choice temps P r (IsValueOf s y) t y o a b (first_arg vs) (first_arg_inside s p choice temps P r vs hs)
-      (λ n. value_number s y fits n)
+      (λ n. value_number s y fits.0 n)
   act_typed t q y o es vs (Allocate zeroed) fits hv ho hs =
       allocates s p choice temps P r (IsValueOf s y) t o (value_target s y (pointer_no_integer y fits) o.object)
       (value_pointer s y (pointer_no_integer y fits) 0)
   act_typed t q y o es vs Release fits hv ho hs =
-      chain P (frees s p choice temps P r t (first_arg vs)) (λ _ _. gives P {a = Nothing} (value_void s y fits Nothing))
+      chain P (frees s p choice temps P r t (first_arg vs)) (λ _ _. gives P {a = Nothing} (value_void s y fits.0 Nothing))
   act_typed t q y o es vs Ends fits hv ho hs = stops P
   act_typed t q y o es vs Expect fits hv ho hs = gives P {a = first_arg vs} (first_typed es vs y hv fits)
   act_typed t q y o es vs (Known k) fits hv ho hs =

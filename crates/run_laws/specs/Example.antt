@@ -1,7 +1,7 @@
 -- A function that fits its layout: what the laws on types ask can be met.
 --     struct s{int n;};
 --     int f(struct s*p){int k=p->n;if(p)k=k+1;return k;}
-use Rattle.std.specs.Prelude.{ℕ, Bool, true, false, Some, None, List, [], ◌∷◌, codes}
+use Rattle.std.specs.Prelude.{ℕ, true, false, Some, None, [], ◌∷◌, codes}
 use Rattle.fsm_spec.specs.Lock.{lock_operations}
 use Rattle.sc_base.specs.declared.pos.Pos.{Pos}
 use Rattle.sc_base.specs.declared.pos.NameId.{NameId}

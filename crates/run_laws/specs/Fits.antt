@@ -96,12 +96,17 @@ abbrev pub IsFirst : Exps → Ty → Type 0
 IsFirst NoExps t = ⊥
 IsFirst (Exps' e es) t = type_of e ≡ t
 
--- the type that a call has by what it does
+-- the first argument, if there is one, is a pointer
+abbrev pub FirstPoints : Exps → Type 0
+FirstPoints NoExps = Unit {0}
+FirstPoints (Exps' e es) = is_pointer (type_of e) ≡ true
+
+-- the type that a call has, and the argument that it takes, by what it does
 abbrev pub CallFits : Exps → Ty → Effect → Type 0
-CallFits es t (Operation n) = is_integer t || is_void t ≡ true
-CallFits es t (Try a b) = is_integer t ≡ true
+CallFits es t (Operation n) = (is_integer t || is_void t ≡ true) × FirstPoints es
+CallFits es t (Try a b) = (is_integer t ≡ true) × FirstPoints es
 CallFits es t (Allocate zeroed) = is_pointer t ≡ true
-CallFits es t Release = is_void t ≡ true
+CallFits es t Release = (is_void t ≡ true) × FirstPoints es
 CallFits es t Ends = Unit {0}
 CallFits es t Expect = IsFirst es t
 CallFits es t (Known k) = may_give t ≡ true
