@@ -127,7 +127,8 @@ module _ (p : Layout) where
 
   -- each element that an array of that type has is of the other type
   abbrev pub ElementsFit : (array element : Ty) → Type 0
-  ElementsFit u t = (at k to : ℕ) → StandsAt p u at → part p at (step.Elem k) ≡ Some to → has_type (location p to) t ≡ true
+  ElementsFit u t =
+      (at k to : ℕ) → StandsAt p u at → part p at (step.Elem k) ≡ Some to → has_type (location p to) t ≡ true
 
   -- an index into an array, or into what a pointer points to
   abbrev pub Indexed : Bool → (of element : Ty) → Type 0
@@ -150,7 +151,8 @@ module _ (p : Layout) where
     Fits want (Cond a b c t) =
         Fits Value a × Fits want b × Fits want c × (is_scalar (type_of a) ≡ true) × (type_of b ≡ t) × (type_of c ≡ t)
     Fits want (Binary o a b t) =
-        Fits Value a × Fits Value b × IsRead want × (is_integer t ≡ true) × (operands_fit o (type_of a) (type_of b) ≡ true)
+        Fits Value a × Fits Value b × IsRead want × (is_integer t ≡ true)
+        × (operands_fit o (type_of a) (type_of b) ≡ true)
     Fits want (Cast a t) = Fits (unless_array (type_of a)) a × IsRead want × (converts_to (type_of a) t ≡ true)
     Fits want (Unary sign.Address a t) = Fits Place' a × IsRead want × (is_pointer t ≡ true)
     Fits want (Unary sign.Deref a t) = Fits Value a × (is_pointer (type_of a) ≡ true)

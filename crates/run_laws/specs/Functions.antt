@@ -32,7 +32,8 @@ module _ (s : Source) (p : Layout) where
   ItemsFit at [] = Unit {0}
   ItemsFit at (x ∷ xs) =
       Fits p (if_scalar (type_of x.value)) x.value
-      × ((k : ℕ) → part_at (env_of s p []) at x.way ≡ Some k → has_type (location p k) (type_of x.value) ≡ true) × ItemsFit at xs
+      × ((k : ℕ) → part_at (env_of s p []) at x.way ≡ Some k → has_type (location p k) (type_of x.value) ≡ true)
+      × ItemsFit at xs
 
   abbrev pub InitFits : (at : ℕ) → Init → Type 0
   InitFits at NoInit = Unit {0}

@@ -25,7 +25,8 @@ pub record IsProper (s : Source) (p : Layout) (w : World) : Type 0 where
   pub long : length w.places ≡ length p.locations + length p.locations
   pub inside : (at : ℕ) → PointsInside p (nth_cell w.places at)
   pub kinds : (at : ℕ) → at < length p.locations → kind_of (nth_cell w.places at) ≡ kind_of_type s (location p at).type
-  pub states : (at : ℕ) → at < length p.locations → IsState s (location p at) (nth_cell w.places (length p.locations + at))
+  pub states : (at : ℕ) → at < length p.locations
+      → IsState s (location p at) (nth_cell w.places (length p.locations + at))
 
 -- what was kept of values and places points into the layout
 abbrev pub KeepsInside : Env → Type 0

@@ -63,8 +63,9 @@ pub fn rows_of_locations_are_those_of_runs()
 }
 
 /// From a proper world an expression that fits the layout gives a value of its type; and where its place is wanted, a
-/// pointer to a location of its type, or to the stub of a string or a function. Its operands fit too: so no number stands
-/// where a pointer is wanted, no operator gets an operand that it does not take, and no place leads out of the layout.
+/// pointer to a location of its type, or to the stub of a string or a function. Its operands fit too: so no number
+/// stands where a pointer is wanted, no operator gets an operand that it does not take, and no place leads out of the
+/// layout.
 pub fn values_are_of_their_types()
     ensures values { (env : Env) (e : Exp) (w : World) → IsWhole env.source.machine → IsClosed env.layout
         → KeepsInside env → Fits env.layout eval.Value e → IsProper env.source env.layout w
