@@ -1,0 +1,6 @@
+pub mod Steps
+pub mod Laying
+pub mod Objects
+pub mod Entry
+pub mod Settled
+pub mod Fitting
