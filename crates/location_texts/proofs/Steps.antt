@@ -1,11 +1,12 @@
 -- One location more of a path and of a text.
-use Rattle.std.proofs.Common.{◌≡◌, ℕ, zero, suc, ◌-◌, ◌<◌, sym, ap, refl, arith}
+use Rattle.std.proofs.Common.{◌≡◌, ℕ, zero, suc, ◌-◌, ◌<◌, ap, refl, arith}
 use Rattle.sum_rows.specs.declared.path.Root.TheVariants as root
 use Rattle.sc_world.specs.Layout.{Layout, location}
 use Rattle.sc_world.specs.Paths.{path_by, path_from, begun, Texts, spelled_by, spelled_from, spelled}
 use Rattle.std.specs.Prelude.{[]}
 
-pub path_step : (most at : ℕ) (p : Layout) → 0 < most → path_by most p at ≡ path_from (path_by (most - 1) p) (location p at).origin
+pub path_step : (most at : ℕ) (p : Layout) → 0 < most
+    → path_by most p at ≡ path_from (path_by (most - 1) p) (location p at).origin
 path_step zero at p h = absurd (omega arith)
 path_step (suc n) at p h =
     let e : n ≡ suc n - 1 = omega arith in ap (λ m. path_from (path_by m p) (location p at).origin) e

@@ -31,12 +31,7 @@ fn with_step(mut path: Path, step: Step) -> Result<Path, OutOfMemory>
 
 // The path of a location, upward over so many locations at most.
 #[tactic(auto, using(crate::proofs::Steps::path_steps))]
-fn path_by(
-    alloc: Global,
-    places: &Places,
-    most: usize,
-    at: u32,
-) -> Result<Path, OutOfMemory>
+fn path_by(alloc: Global, places: &Places, most: usize, at: u32) -> Result<Path, OutOfMemory>
     ensures { IfOk result (λ p. p ≡ spec.path_by most (laid.layout_of places.now) at) }
 {
     if most == 0 {
@@ -47,9 +42,10 @@ fn path_by(
         Origin::Global(n) => Ok(begun(alloc, Root::Global(n))),
         Origin::Target(up) => with_step(path_by(alloc, places, most - 1, up)?, Step::Deref),
         Origin::Part(up, step) => with_step(path_by(alloc, places, most - 1, up)?, step),
-        Origin::Local(_) | Origin::Literal(_) | Origin::Function(_) | Origin::Call(_) => Ok(
-            begun(alloc, Root::Param(0)),
-        ),
+        Origin::Local(_) | Origin::Literal(_) | Origin::Function(_) | Origin::Call(_) => Ok(begun(
+            alloc,
+            Root::Param(0),
+        )),
     }
 }
 

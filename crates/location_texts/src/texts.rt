@@ -69,7 +69,11 @@ fn begun(alloc: Global, texts: &Texts, origin: Origin) -> Result<Spelled, OutOfM
     let names = &texts.program.names;
     match origin {
         Origin::Param(n) => named(alloc, names, name_at(texts.function.params.as_slice(), n)),
-        Origin::Global(n) => named(alloc, names, global_name(texts.program.globals.as_slice(), n)),
+        Origin::Global(n) => named(
+            alloc,
+            names,
+            global_name(texts.program.globals.as_slice(), n),
+        ),
         Origin::Local(n) => named(alloc, names, name_at(texts.function.locals.as_slice(), n)),
         Origin::Call(k) => Ok(plain(call_text(alloc, texts.places, k)?)),
         Origin::Literal(_) | Origin::Function(_) | Origin::Target(_) | Origin::Part(_, _) => Ok(
@@ -80,12 +84,7 @@ fn begun(alloc: Global, texts: &Texts, origin: Origin) -> Result<Spelled, OutOfM
 
 // The text of a location, upward over so many locations at most.
 #[tactic(auto, using(crate::proofs::Steps::spelled_steps))]
-fn spelled_by(
-    alloc: Global,
-    texts: &Texts,
-    most: usize,
-    at: u32,
-) -> Result<Spelled, OutOfMemory>
+fn spelled_by(alloc: Global, texts: &Texts, most: usize, at: u32) -> Result<Spelled, OutOfMemory>
     ensures { IfOk result (λ s. s ≡ spec.spelled_by most (seen.texts texts.now) at) }
 {
     if most == 0 {
