@@ -1,8 +1,2 @@
 //! Declarations with their initialisers, at file scope and in a body (C11 6.7, 6.7.9).
-//!
-//! `declarations` has declarations and their declarators.
 #![tactic(auto)]
-
-mod declarations;
-
-pub use declarations::declaration;
