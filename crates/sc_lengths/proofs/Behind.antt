@@ -1,5 +1,5 @@
 -- The part behind the one to which a way leads, told from the innermost level.
-use Rattle.std.proofs.Common.{◌≡◌, ℕ, Option, Some, None, List, [], ◌∷◌, ◌++◌, ap}
+use Rattle.std.proofs.Common.{◌≡◌, ℕ, Some, None, List, [], ◌∷◌, ◌++◌, ap}
 use Rattle.sc_tree.specs.declared.ctype.CType.{CType}
 use Rattle.sc_typed.specs.declared.program.StructDef.{StructDef}
 use Rattle.sc_lengths.specs.Ways.{Way, parts, part, part_at, beside, way_to, inside_or_beside, next_way}

@@ -1,5 +1,5 @@
 -- One level down to the first part for which an item stands.
-use Rattle.std.proofs.Common.{◌≡◌, ℕ, zero, suc, ◌-◌, ◌<◌, Bool, true, false, List, [], ◌∷◌, ◌++◌, if◌then◌else◌, refl, sym, ◌∙◌, ap, append_assoc, append-nil, arith}
+use Rattle.std.proofs.Common.{◌≡◌, ℕ, zero, suc, ◌-◌, ◌<◌, Bool, true, false, List, [], ◌∷◌, ◌++◌, if◌then◌else◌, append_assoc, append-nil, arith}
 use Rattle.sc_tree.specs.declared.ctype.CType.{CType}
 use Rattle.sc_typed.specs.declared.program.StructDef.{StructDef}
 use Rattle.sc_lengths.specs.declared.ways.Item.{Item}

@@ -1,6 +1,6 @@
 -- The ways that designators name (C11 6.7.9, 6 and 7). The expression of a designator is typed: what it declares stays
 -- (C11 6.2.1), and a fault in it is not noted.
-use Rattle.std.specs.Prelude.{ℕ, ◌+◌, ◌-◌, ◌^◌, nat_lt, ℤ, pos, negsuc, Bool, not, ◌||◌, if◌then◌else◌}
+use Rattle.std.specs.Prelude.{ℕ, ◌+◌, ◌-◌, ◌^◌, nat_lt, ℤ, pos, negsuc, not, ◌||◌, if◌then◌else◌}
 use Rattle.std.specs.Prelude.{Option, Some, None, List, [], ◌∷◌}
 use Rattle.sc_base.specs.declared.pos.NameId.{NameId}
 use Rattle.sc_tree.specs.declared.ctype.CType.{CType, CType-F, out-CType}
