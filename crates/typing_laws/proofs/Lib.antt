@@ -4,3 +4,5 @@ pub mod Calls
 pub mod Parts
 pub mod Walk
 pub mod Induction
+pub mod Declared
+pub mod Filled

@@ -37,10 +37,10 @@ use Rattle.typing_laws.proofs.Rules.{value_kept, assignment_kept, size_kept, typ
 
 -- Names and tags.
 
-new_kept : (name : NameId) (at : Pos) → KeepsGlobals (new_here name at)
+pub new_kept : (name : NameId) (at : Pos) → KeepsGlobals (new_here name at)
 new_kept name at = keeps (λ w. (by_test (not (is_some (declared_here name.at w.names))) (ill_typed_at i.Again at)).kept w)
 
-declare_kept : (new : Bool) (name : NameId) (e : Entity) → KeepsGlobals (declare_if new name e)
+pub declare_kept : (new : Bool) (name : NameId) (e : Entity) → KeepsGlobals (declare_if new name e)
 declare_kept true name e = keeps (λ w. refl)
 declare_kept false name e = keeps (λ w. refl)
 
@@ -130,7 +130,7 @@ width_by (Some z) e = ranged_kept (in_range z) _
 pub width_kept : (ws : Widths) (e : TExpr) → KeepsGlobals (width_of ws e)
 width_kept ws e = width_by (constant ws e) e
 
-object_kept : (ws : Widths) (at : Pos) (t : CType) → KeepsGlobals (object_at ws at t)
+pub object_kept : (ws : Widths) (at : Pos) (t : CType) → KeepsGlobals (object_at ws at t)
 object_kept ws at t = keeps (λ w. (by_test (is_object t (size ws w.structs t)) (ill_typed_at i.Incomplete at)).kept w)
 
 pub member_kept : (ws : Widths) (at : Pos) (t : Option CType) → KeepsGlobals (member_object ws at t)
