@@ -24,6 +24,7 @@ use Rattle.sc_declare.specs.declared.functions.Parameter.{Parameter}
 use Rattle.sc_declare.specs.Functions.{no_opaque, value_at, parameter_at, parameter_if, own_parameters, typedef_parameters, typedef_parameters_if, params_if, parameters_at, signature_if, result_at, signature_at, function_beside, declare_function, declare_function_if, local_function}
 use Rattle.sc_declare.specs.Declarators.{without_init, function_declared, declare_typedef, typedef_declared}
 use Rattle.sc_declare.specs.Locals.{add_local, name_local, local_type_at, declare_local, retype_local, lengthened, with_length, lengthened_if, lengthen}
+use Rattle.sc_files.specs.Variables.{object_if}
 use Rattle.sc_typing.specs.Here.{Here}
 use Rattle.sc_lengths.specs.Lengths.{completed_type}
 use Rattle.typing_laws.specs.Kept.{KeepsGlobals}
@@ -139,3 +140,11 @@ lengthen_kept ws n name at (Some m) t = longer_if_kept ws n name at (with_length
 pub completed_kept : (here : Here) (x : Option Init) (t : CType) → KeepsGlobals (completed_type here x t)
 completed_kept here None t = keeps (λ w. refl)
 completed_kept here (Some x) t = keeps (λ w. refl)
+
+-- Objects at file scope.
+
+pub object_if_kept : (ws : Widths) (is_object : Bool) (at : Pos) (t : Option CType) → KeepsGlobals (object_if ws is_object at t)
+object_if_kept ws true at None = keeps (λ w. refl)
+object_if_kept ws true at (Some t) = object_kept ws at t
+object_if_kept ws false at None = keeps (λ w. refl)
+object_if_kept ws false at (Some t) = keeps (λ w. refl)

@@ -10,6 +10,7 @@ ghost use Rattle.sc_typed.specs.declared.expr.TExpr.{TExpr};
 ghost use Rattle.sc_declare.specs.declared.functions.Parameter.{Parameter};
 ghost use Rattle.sc_declare.specs.Declarators.{function_declared, typedef_declared};
 ghost use Rattle.sc_declare.specs.Locals.{declare_local, lengthen};
+ghost use Rattle.sc_files.specs.Variables.{object_if};
 ghost use Rattle.sc_fill.specs.Initialisers.{spread_if, one_value};
 ghost use Rattle.sc_lengths.specs.Lengths.{completed_type};
 ghost use Rattle.sc_typing.specs.Here.{Here};
@@ -17,8 +18,8 @@ ghost use Rattle.typing_laws.specs.Kept.{KeepsGlobals};
 
 /// A function that is declared.
 pub fn functions_keep_globals()
-    ensures { (file : ℕ) (is_local : Bool) (name : NameId) (at : Pos) (t : Option CType) (ps : Option (List Parameter)) →
-        KeepsGlobals (function_declared file is_local name at t ps) }
+    ensures { (file : ℕ) (is_local : Bool) (name : NameId) (at : Pos) (t : Option CType)
+        (ps : Option (List Parameter)) → KeepsGlobals (function_declared file is_local name at t ps) }
 {}
 
 /// A typedef name.
@@ -51,4 +52,10 @@ pub fn braces_keep_globals()
 /// The value of an initialiser without braces.
 pub fn one_value_keeps_globals()
     ensures { (ws : Widths) (at : Pos) (t : Option CType) (e : TExpr) → KeepsGlobals (one_value ws at t e) }
+{}
+
+/// The test of the type of an object at file scope.
+pub fn objects_keep_globals()
+    ensures { (ws : Widths) (is_object : Bool) (at : Pos) (t : Option CType) →
+        KeepsGlobals (object_if ws is_object at t) }
 {}
