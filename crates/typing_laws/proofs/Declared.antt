@@ -8,7 +8,6 @@ use Rattle.sc_tree.specs.declared.ctype.CType.{CType}
 use Rattle.sc_tree.specs.declared.ctype.OpaqueKind.{OpaqueKind}
 use Rattle.sc_tree.specs.declared.ctype.Signature.{Signature, out-Signature}
 use Rattle.sc_tree.specs.declared.ctype.Widths.{Widths}
-use Rattle.sc_tree.specs.declared.decl.Init.{Init}
 use Rattle.sc_typed.specs.Types.{is_aggregate, is_void}
 use Rattle.sc_typed.specs.declared.stmt.Declared.TheVariants as declares
 use Rattle.scopes.specs.Frames.{here as declared_here}
@@ -25,8 +24,6 @@ use Rattle.sc_declare.specs.Functions.{no_opaque, value_at, parameter_at, parame
 use Rattle.sc_declare.specs.Declarators.{without_init, function_declared, declare_typedef, typedef_declared}
 use Rattle.sc_declare.specs.Locals.{add_local, name_local, local_type_at, declare_local, retype_local, lengthened, with_length, lengthened_if, lengthen}
 use Rattle.sc_files.specs.Variables.{object_if}
-use Rattle.sc_typing.specs.Here.{Here}
-use Rattle.sc_lengths.specs.Lengths.{completed_type}
 use Rattle.typing_laws.specs.Kept.{KeepsGlobals}
 use Rattle.typing_laws.proofs.Steps.{keeps, by_then, by_done}
 use Rattle.typing_laws.proofs.Parts.{new_kept, declare_kept, object_kept}
@@ -134,12 +131,6 @@ longer_if_kept ws n name at (Some t) = longer_kept ws n name at t
 pub lengthen_kept : (ws : Widths) (n : ℕ) (name : NameId) (at : Pos) (m : Option ℕ) (t : CType) → KeepsGlobals (lengthen ws n name at m t)
 lengthen_kept ws n name at None t = keeps (λ w. refl)
 lengthen_kept ws n name at (Some m) t = longer_if_kept ws n name at (with_length t m)
-
--- Lengths.
-
-pub completed_kept : (here : Here) (x : Option Init) (t : CType) → KeepsGlobals (completed_type here x t)
-completed_kept here None t = keeps (λ w. refl)
-completed_kept here (Some x) t = keeps (λ w. refl)
 
 -- Objects at file scope.
 
