@@ -4,3 +4,5 @@ pub mod Objects
 pub mod Entry
 pub mod Settled
 pub mod Fitting
+pub mod Tiles
+pub mod Moves
