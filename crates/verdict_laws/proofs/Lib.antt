@@ -6,3 +6,4 @@ pub mod Settled
 pub mod Fitting
 pub mod Tiles
 pub mod Moves
+pub mod Gives
