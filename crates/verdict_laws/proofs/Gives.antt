@@ -192,10 +192,10 @@ module _ (s : Source) where
   abbrev pub Owns : Option ℕ → ℕ → Layout → Layout → Type 0
   Owns o n p q = Gives o (record { first = p.bits; width = n } ∷ []) [] p q
 
-  plus_zero : (n : ℕ) → n + 0 ≡ n
+  pub plus_zero : (n : ℕ) → n + 0 ≡ n
   plus_zero n = omega arith
 
-  owns_none : (o : Option ℕ) (p : Layout) → Owns o 0 p p
+  pub owns_none : (o : Option ℕ) (p : Layout) → Owns o 0 p p
   owns_none o p = record {
     tiled = λ E t.
         tiled_same s E (λ k. E k + how_many k (record { first = p.bits; width = 0 } ∷ [])) p
@@ -204,7 +204,7 @@ module _ (s : Source) where
     low = λ i a b. absurd (omega (arith, a, b)); high = λ i a b. absurd (omega (arith, a, b)); bits = λ i h n. refl;
   }
 
-  owns_cells : (o : Option ℕ) (n : ℕ) (p : Layout) → Ready o p
+  pub owns_cells : (o : Option ℕ) (n : ℕ) (p : Layout) → Ready o p
       → Post (λ u q. Owns o n p q) (object_cells s o (record p { bits = p.bits + n }))
   owns_cells o n p ready =
       weaker (λ u q. Gives o [] [] (record p { bits = p.bits + n }) q) (λ u q. Owns o n p q)
@@ -220,7 +220,7 @@ module _ (s : Source) where
   result_by false true w n o p ready = owns_cells o n p ready
   result_by false false w n o p ready = owns_none o p
 
-  result_gives : (x : Site) (n : ℕ) (o : Option ℕ) (p : Layout) → Ready o p
+  pub result_gives : (x : Site) (n : ℕ) (o : Option ℕ) (p : Layout) → Ready o p
       → Post (λ u q. Owns o (result_width s x n) p q) (result_bits s x n o p)
   result_gives x n o p ready = result_by (is_integer x.result) (is_pointer x.result) (int_bits s.widths x.result) n o p ready
 
@@ -243,10 +243,10 @@ module _ (s : Source) where
     pub gives : Gives o (paired new ws) new p q
     pub count : length new ≡ length ws
 
-  spots_none : (o : Option ℕ) (p : Layout) → Spots o [] p p
+  pub spots_none : (o : Option ℕ) (p : Layout) → Spots o [] p p
   spots_none o p = record { new = []; gives = gives_refl o p; count = refl }
 
-  spots_trans : (o : Option ℕ) (vs ws : List ℕ) (p q z : Layout) → Spots o vs p q → Spots o ws q z → Spots o (vs ++ ws) p z
+  pub spots_trans : (o : Option ℕ) (vs ws : List ℕ) (p q z : Layout) → Spots o vs p q → Spots o ws q z → Spots o (vs ++ ws) p z
   spots_trans o vs ws p q z a b = record {
     new = a.new ++ b.new;
     gives = subst (λ (bs : List Bits). Gives o bs (a.new ++ b.new) p z) (sym (paired_append a.new b.new vs ws a.count))
@@ -254,19 +254,19 @@ module _ (s : Source) where
     count = omega (arith, a.count, b.count, length-append a.new b.new, length-append vs ws);
   }
 
-  then_spots : {A B : Type 0} (o : Option ℕ) (vs ws : List ℕ) (p : Layout) (m : Built Layout A) (f : A → Build Layout B)
+  pub then_spots : {A B : Type 0} (o : Option ℕ) (vs ws : List ℕ) (p : Layout) (m : Built Layout A) (f : A → Build Layout B)
       → Post (λ a q. Spots o vs p q) m → ((a : A) (q : Layout) → Post (λ b z. Spots o ws q z) (f a q))
       → Post (λ b z. Spots o (vs ++ ws) p z) (goes_on m f)
   then_spots o vs ws p m f h k =
       chained (λ a q. Spots o vs p q) (λ b z. Spots o (vs ++ ws) p z) m f h
       (λ a q is. weaker (λ b z. Spots o ws q z) (λ b z. Spots o (vs ++ ws) p z) (f a q) (k a q) (λ b z other. spots_trans o vs ws p q z is other))
 
-  spots_behind : (o : Option ℕ) (ws : List ℕ) (p q z : Layout) → Gives o [] [] p q → Spots o ws q z → Spots o ws p z
+  pub spots_behind : (o : Option ℕ) (ws : List ℕ) (p q z : Layout) → Gives o [] [] p q → Spots o ws q z → Spots o ws p z
   spots_behind o ws p q z a b = record {
     new = b.new; gives = gives_trans o [] (paired b.new ws) [] b.new p q z a b.gives; count = b.count;
   }
 
-  one_spot : (o object : Option ℕ) (n : ℕ) (p : Layout)
+  pub one_spot : (o object : Option ℕ) (n : ℕ) (p : Layout)
       → Spots o (n ∷ []) p (record p { bits = p.bits + n; spots = p.spots ++ record { bit = p.bits; object = object } ∷ [] })
   one_spot o object n p = record {
     new = record { bit = p.bits; object = object } ∷ [];
@@ -282,7 +282,7 @@ module _ (s : Source) where
   state_gives o (item.Param n) p = spots_none o p
   state_gives o (item.Out n) p = spots_none o p
 
-  states_give : (o : Option ℕ) (xs : List ItemRows) (p : Layout)
+  pub states_give : (o : Option ℕ) (xs : List ItemRows) (p : Layout)
       → Post (λ u q. Spots o (flat_map (λ (x : ItemRows). lock_width s x.item) xs) p q) (state_spots s xs p)
   states_give o [] p = spots_none o p
   states_give o (x ∷ xs) p =
@@ -295,15 +295,9 @@ module _ (s : Source) where
   param_gives o (item.Param n) p = one_spot o None 2 p
   param_gives o (item.Out n) p = spots_none o p
 
-  params_give : (o : Option ℕ) (xs : List ItemRows) (p : Layout)
+  pub params_give : (o : Option ℕ) (xs : List ItemRows) (p : Layout)
       → Post (λ u q. Spots o (flat_map (λ (x : ItemRows). param_width s x.item) xs) p q) (param_spots xs p)
   params_give o [] p = spots_none o p
   params_give o (x ∷ xs) p =
       then_spots o (param_width s x.item) (flat_map (λ (x : ItemRows). param_width s x.item) xs) p (param_spot x.item p) (λ u. param_spots xs)
       (param_gives o x.item p) (λ u q. params_give o xs q)
-
-  pub all_of_these : (o : Option ℕ) (xs : List ItemRows) (x : Site) (p : Layout) → Ready o p
-      → (Post (λ u q. Spots o (flat_map (λ (x : ItemRows). lock_width s x.item) xs) p q) (state_spots s xs p))
-      × (Post (λ u q. Spots o (flat_map (λ (x : ItemRows). param_width s x.item) xs) p q) (param_spots xs p))
-      × (Post (λ u q. Owns o (result_width s x 2) p q) (result_bits s x 2 o p))
-  all_of_these o xs x p ready = (states_give o xs p, params_give o xs p, result_gives x 2 o p ready)

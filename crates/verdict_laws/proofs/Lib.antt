@@ -7,3 +7,4 @@ pub mod Fitting
 pub mod Tiles
 pub mod Moves
 pub mod Gives
+pub mod Calls

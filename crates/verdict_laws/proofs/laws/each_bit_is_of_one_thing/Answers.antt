@@ -1,6 +1,6 @@
 -- By what each step takes.
 use Rattle.verdict_laws.proofs.Moves.{entry_moves, apart_moves}
-use Rattle.verdict_laws.proofs.Gives.{Gives, gives_trans, gives_take, gives_spot, gives_moves, all_of_these}
+use Rattle.verdict_laws.proofs.Calls.{effect_gives}
 use Rattle.verdict_laws.proofs.laws.each_bit_is_of_one_thing.Goals as goal
 
 pub returns : goal.returns
