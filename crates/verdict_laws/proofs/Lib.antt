@@ -8,3 +8,4 @@ pub mod Tiles
 pub mod Moves
 pub mod Gives
 pub mod Calls
+pub mod Numbered
