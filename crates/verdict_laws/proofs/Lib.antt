@@ -9,3 +9,4 @@ pub mod Moves
 pub mod Gives
 pub mod Calls
 pub mod Numbered
+pub mod Numbering
