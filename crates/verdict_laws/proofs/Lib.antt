@@ -10,3 +10,4 @@ pub mod Gives
 pub mod Calls
 pub mod Numbered
 pub mod Numbering
+pub mod Occurring

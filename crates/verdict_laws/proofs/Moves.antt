@@ -54,7 +54,7 @@ module _ (g : Ground) where
       → ((a : A) (q : Layout) → Post (λ b z. Moves q z) (f a q)) → Post (λ b z. Moves p z) (goes_on m f)
   steps p m f h k = chained (λ a q. Moves p q) (λ b z. Moves p z) m f h (λ a q is. moved p q (f a q) is (k a q))
 
-  lays_move : (c : Chosen) (t : Ty) (o : Origin) (p : Layout) (at : ℕ) (q : Layout)
+  pub lays_move : (c : Chosen) (t : Ty) (o : Origin) (p : Layout) (at : ℕ) (q : Layout)
       → Lays (Same g.source p) c (len p) t o (parts_of g.source t) p at q → Moves p q
   lays_move c t o p at q is =
       let root_at : (i : ℕ) → len p ≤ i → i < len q → (bare (location q i)).root ≡ len p =
@@ -70,7 +70,7 @@ module _ (g : Ground) where
         same = is.keeps (same_refl g.source p);
       }
 
-  stubs_move : (p q : Layout) → Stubs (Same g.source p) p q → Moves p q
+  pub stubs_move : (p q : Layout) → Stubs (Same g.source p) p q → Moves p q
   stubs_move p q is = record {
     grows = is.grows;
     low = λ i low high. omega (arith, low, (is.stubs i low high).root_is);
