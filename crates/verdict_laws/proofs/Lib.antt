@@ -11,3 +11,5 @@ pub mod Calls
 pub mod Numbered
 pub mod Numbering
 pub mod Occurring
+pub mod Lining
+pub mod Owned

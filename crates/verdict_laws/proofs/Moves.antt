@@ -156,31 +156,40 @@ module _ (g : Ground) where
   literals_move [] p = moves_refl p
   literals_move (o ∷ os) p = steps p (stub o p) (λ u. lay_literals os) (stub_moves o p) (λ u q. literals_move os q)
 
-  -- all that stands before calls
-  pub entry_moves : (p : Layout)
-      → Post (λ u q. Moves p q)
+  -- all that stands before calls, and a step behind it
+  pub entry_then : (p : Layout) (R : Layout → Type 0) (h : Build Layout (Unit {0})) → ((q : Layout) → Moves p q → Post (λ u z. R z) (h q))
+      → Post (λ u q. R q)
       (goes_on (lay_params 0 g.source.params g p)
       (λ u. λ q. goes_on (lay_globals 0 g.source.globals g q)
       (λ u. λ z. goes_on (lay_locals 0 g.source.locals g z)
-      (λ u. λ y. goes_on (lay_literals g.found.literals y) (λ u. levels g.source.reach 0 (len z) g)))))
-  entry_moves p =
-      steps p (lay_params 0 g.source.params g p)
+      (λ u. λ y. goes_on (lay_literals g.found.literals y)
+      (λ u. λ w. goes_on (levels g.source.reach 0 (len z) g w) (λ u. h))))))
+  entry_then p R h k =
+      chained (λ u q. Moves p q) (λ u q. R q) (lay_params 0 g.source.params g p)
       (λ u. λ q. goes_on (lay_globals 0 g.source.globals g q)
       (λ u. λ z. goes_on (lay_locals 0 g.source.locals g z)
-      (λ u. λ y. goes_on (lay_literals g.found.literals y) (λ u. levels g.source.reach 0 (len z) g))))
+      (λ u. λ y. goes_on (lay_literals g.found.literals y)
+      (λ u. λ w. goes_on (levels g.source.reach 0 (len z) g w) (λ u. h)))))
       (params_move 0 g.source.params p)
-      (λ u q.
-      steps q (lay_globals 0 g.source.globals g q)
+      (λ u q a.
+      chained (λ u z. Moves p z) (λ u z. R z) (lay_globals 0 g.source.globals g q)
       (λ u. λ z. goes_on (lay_locals 0 g.source.locals g z)
-      (λ u. λ y. goes_on (lay_literals g.found.literals y) (λ u. levels g.source.reach 0 (len z) g)))
-      (globals_move 0 g.source.globals q)
-      (λ u z.
-      steps z (lay_locals 0 g.source.locals g z)
-      (λ u. λ y. goes_on (lay_literals g.found.literals y) (λ u. levels g.source.reach 0 (len z) g))
-      (locals_move 0 g.source.locals z)
-      (λ u y.
-      steps y (lay_literals g.found.literals y) (λ u. levels g.source.reach 0 (len z) g) (literals_move g.found.literals y)
-      (λ u w. levels_move g.source.reach 0 (len z) w))))
+      (λ u. λ y. goes_on (lay_literals g.found.literals y)
+      (λ u. λ w. goes_on (levels g.source.reach 0 (len z) g w) (λ u. h))))
+      (moved p q (lay_globals 0 g.source.globals g q) a (globals_move 0 g.source.globals q))
+      (λ u z b.
+      chained (λ u y. Moves p y) (λ u y. R y) (lay_locals 0 g.source.locals g z)
+      (λ u. λ y. goes_on (lay_literals g.found.literals y)
+      (λ u. λ w. goes_on (levels g.source.reach 0 (len z) g w) (λ u. h)))
+      (moved p z (lay_locals 0 g.source.locals g z) b (locals_move 0 g.source.locals z))
+      (λ u y c.
+      chained (λ u w. Moves p w) (λ u w. R w) (lay_literals g.found.literals y)
+      (λ u. λ w. goes_on (levels g.source.reach 0 (len z) g w) (λ u. h))
+      (moved p y (lay_literals g.found.literals y) c (literals_move g.found.literals y))
+      (λ u w d.
+      chained (λ u v. Moves p v) (λ u v. R v) (levels g.source.reach 0 (len z) g w) (λ u. h)
+      (moved p w (levels g.source.reach 0 (len z) g w) d (levels_move g.source.reach 0 (len z) w))
+      (λ u v e. k v e)))))
 
   -- Objects of calls.
 

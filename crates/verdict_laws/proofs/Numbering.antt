@@ -13,7 +13,7 @@ use Rattle.verdict_laws.proofs.Numbered.{Numbered, Stays, occ, site_of, numbered
 
 module _ (g : Ground) where
   -- from call n on there are the turns of these sites, and no other calls
-  pub Lined : ℕ → List Site → Layout → Type 0
+  unfoldable pub Lined : ℕ → List Site → Layout → Type 0
   Lined n [] p = length p.occurrences ≡ n
   Lined n (x ∷ xs) p =
       ((t : ℕ) → t < x.turns → (n + t < length p.occurrences) × (site_of g p.sites (occ g p (n + t)) ≡ x)) × Lined (n + x.turns) xs p

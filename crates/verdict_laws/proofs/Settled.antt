@@ -376,7 +376,7 @@ abbrev pub OfLayout : (Layout → Type 0) → Result Layout LimitKind → Type 0
 OfLayout P (Ok p) = P p
 OfLayout P (Err e) = Unit {0}
 
-laid_of : {A : Type 0} (P : Layout → Type 0) (m : Built Layout A) → Post (λ a p. P p) m → OfLayout P (laid m)
+pub laid_of : {A : Type 0} (P : Layout → Type 0) (m : Built Layout A) → Post (λ a p. P p) m → OfLayout P (laid m)
 laid_of P (Ok (a, p)) h = h
 laid_of P (Err e) h = tt
 
