@@ -1,20 +1,18 @@
 -- Which locations callers know: globals and what is reached from parameters and globals. All others have no state.
 use Rattle.std.proofs.Common.{◌≡◌, ℕ, zero, suc, ◌+◌, ◌-◌, ◌<◌, ◌≤◌, Bool, true, false, List, [], ◌∷◌, length, refl, sym, ap, subst, ◌∙◌, ⊎_elim, inl, inr, arith}
-use Rattle.std.proofs.lemmas.Bool.{cases_lt, cases_eq, true≢false}
-use Rattle.std.specs.Prelude.{Option, Some, None, Ok, Err, nat_eq, ◌⊎◌, if◌then◌else◌}
+use Rattle.std.proofs.lemmas.Bool.{cases_lt, cases_eq}
+use Rattle.std.specs.Prelude.{None, nat_eq, ◌⊎◌, if◌then◌else◌}
 use Rattle.std.specs.List.{list_any, AllByRecursion}
 use Rattle.sum_rows.specs.declared.path.Step.{Step}
 use Rattle.sc_world.specs.declared.run.Origin.{Origin}
 use Rattle.sc_world.specs.declared.run.Origin.TheVariants as origin
 use Rattle.sc_world.specs.Tree.{Ty, target_or_void}
-use Rattle.sc_world.specs.Build.{Built, Build, goes_on, done}
-use Rattle.sc_world.specs.Source.{Source}
-use Rattle.sc_world.specs.Gather.{Found}
+use Rattle.sc_world.specs.Build.{Built, goes_on, done}
 use Rattle.sc_world.specs.Layout.{Layout, Location, location, is_pointer_cell}
-use Rattle.sc_world.specs.Objects.{Ground, Chosen, Nothing, Cells, CellsAndStates, NoParts, gives_states, parts_of, whole, stub, count, Object, Stub, set_target, follow_at, follow_all, follow_range, type_or_void, lay_params, lay_global, lay_globals, lay_locals, lay_literals, levels}
-use Rattle.verdict_laws.proofs.Steps.{Post, chained, weaker, both}
+use Rattle.sc_world.specs.Objects.{Ground, Chosen, Nothing, Cells, CellsAndStates, NoParts, gives_states, parts_of, whole, stub, Object, Stub, set_target, follow_at, follow_all, follow_range, type_or_void, lay_params, lay_global, lay_globals, lay_locals, lay_literals, levels}
+use Rattle.verdict_laws.proofs.Steps.{Post, chained, weaker}
 use Rattle.verdict_laws.proofs.Laying.{len, bare, Grows, grows_refl, grows_trans}
-use Rattle.verdict_laws.proofs.Objects.{Keeps, IsPart, IsHead, Adds, Lays, Stubs, whole_lays, stub_range, stub_one, target_grows}
+use Rattle.verdict_laws.proofs.Objects.{Keeps, IsPart, Lays, Stubs, whole_lays, stub_range, stub_one, target_grows}
 
 -- what is there stays what it is, but for bits and for what pointers point to
 pub record Stays (p q : Layout) : Type 0 where
@@ -100,7 +98,9 @@ module _ (params globals : ℕ) where
     pub stubs_settle : (p q : Layout) → Stubs T p q → Settles p q
     unfolding Settled
     stubs_settle p q is = record {
-      stays = stays_from p q is.grows; settled = λ i low high. inl (is.stubs i low high).state; keeps = is.keeps;
+      stays = stays_from p q is.grows;
+      settled = λ i low high. inl (is.stubs i low high).state;
+      keeps = is.keeps;
     }
 
     -- an object without states
@@ -175,7 +175,9 @@ module _ (params globals : ℕ) where
       point_shows p q at to a =
           weaker (λ u z. (Grows q z) × (len z ≡ len q) × (T q → T z)) (λ u z. Shows p z) (set_target at to q) (target_grows T g k at to q)
           (λ u z is. shows_trans p q z a (record {
-            grows = is.0; outer = λ i low high. absurd (omega (arith, low, high, is.1)); keeps = is.2;
+            grows = is.0;
+            outer = λ i low high. absurd (omega (arith, low, high, is.1));
+            keeps = is.2;
           }))
 
       object_cell_if : (b : Bool) (t : Ty) (at : ℕ) (p : Layout) → at < len p → Entry p at

@@ -4,26 +4,23 @@ use Rattle.std.proofs.lemmas.Bool.{true≢false, and_parts}
 use Rattle.std.proofs.lemmas.List.{length-append, length-map}
 use Rattle.std.proofs.lemmas.List.FromFn.{length-range_with_len}
 use Rattle.std.proofs.lemmas.List.Elements.{All-from_recursion, recursion_from_All, All-cons, All-append, All-map}
-use Rattle.std.specs.Prelude.{Option, Some, None, Result, Ok, Err, All, ◌||◌, ◌⊎◌, slice_get, if◌then◌else◌}
+use Rattle.std.specs.Prelude.{Option, Some, None, Result, Ok, Err, All, ◌||◌, slice_get, if◌then◌else◌}
 use Rattle.std.specs.List.{AllByRecursion, range_with_len}
 use Rattle.sc_base.specs.declared.skip.LimitKind.{LimitKind}
 use Rattle.sc_tree.specs.declared.ctype.Widths.{Widths}
-use Rattle.sum_rows.specs.declared.path.Path.{Path}
 use Rattle.sum_rows.specs.declared.path.Root.{Root}
 use Rattle.sum_rows.specs.declared.path.Root.TheVariants as root
 use Rattle.sum_rows.specs.declared.path.Step.{Step}
 use Rattle.sum_rows.specs.declared.path.Step.TheVariants as step
 use Rattle.sum_rows.specs.declared.row.ItemRows.{ItemRows}
-use Rattle.sc_world.specs.declared.run.Origin.{Origin}
-use Rattle.sc_world.specs.declared.run.Origin.TheVariants as origin
-use Rattle.sc_world.specs.Tree.{Ty, Tys, Void, Bool', Int, Ptr, Array, Struct, Union, Func, Opaque, is_integer, is_pointer, int_bits, target_or_void}
+use Rattle.sc_world.specs.Tree.{Ty, Void, Bool', Int, Ptr, Array, Struct, Union, Func, Opaque, is_integer, is_pointer, target_or_void}
 use Rattle.sc_world.specs.Source.{Source}
 use Rattle.sc_world.specs.Layout.{Layout, location, is_outer, is_there, is_cell}
 use Rattle.sc_world.specs.Places.{places}
-use Rattle.sc_world.specs.Paths.{Texts, path_by, path_of, path_from, with_step, begun}
+use Rattle.sc_world.specs.Paths.{Texts, path_by, path_of, path_from, with_step}
 use Rattle.sc_world.specs.Shows.{Touches, Writes, Changes, Sets}
 use Rattle.sc_world.specs.Verdict.{Answers, numbers, exit_item, lock_item, touched, params_from, changed, param_item, out_params_from, set_params, out_item, width_of, written, write_of, summary, done_with, verdict_with, verdict_of, answers}
-use Rattle.verdict_laws.specs.Fits.{AreTypedParams, HasParam, is_pointer_to_pointer, Begins, FitsPath, FitsItem, IsWidth, FitsWrite, FitsSummary, Fits}
+use Rattle.verdict_laws.specs.Fits.{AreTypedParams, HasParam, Begins, FitsPath, FitsItem, IsWidth, FitsWrite, FitsSummary, Fits}
 use Rattle.verdict_laws.proofs.Laying.{len}
 use Rattle.verdict_laws.proofs.Entry.{IsOuter, of_global, of_param, of_target, of_part, Settled}
 use Rattle.verdict_laws.proofs.Settled.{IsSettled, OfLayout, places_settle}
@@ -211,23 +208,40 @@ module _ (s : Source) (x : Texts) (q : Answers) where
 
     few_writes : length (summary s x q).writes ≤ 256
     few_writes =
-        omega (arith, length-map (written s x q) (write_of s x q), numbers_len, settled.few,
-        kept_few (λ at. is_outer (location x.layout at) && (is_cell (location x.layout at) && q.some (Writes at))) (numbers s x q))
+        omega (
+          arith,
+          length-map (written s x q) (write_of s x q),
+          numbers_len,
+          settled.few,
+          kept_few (λ at. is_outer (location x.layout at) && (is_cell (location x.layout at) && q.some (Writes at))) (numbers s x q),
+        )
 
     few_items : length s.params ≤ 8 → length (summary s x q).items ≤ 300
     few_items few =
-        omega (arith, few, numbers_len, settled.few,
-        length-append (map (lock_item s x q) (touched s x q)) (map (param_item s x q) (changed s x q) ++ map (out_item s x q) (set_params s x q)),
-        length-append (map (param_item s x q) (changed s x q)) (map (out_item s x q) (set_params s x q)),
-        length-map (touched s x q) (lock_item s x q), length-map (changed s x q) (param_item s x q),
-        length-map (set_params s x q) (out_item s x q),
-        kept_few (λ at. is_outer (location x.layout at) && q.some (Touches at)) (numbers s x q),
-        kept_few (λ n. q.some (Changes n)) (params_from s x q 0 s.params), few_pointers 0 s.params,
-        kept_few (λ n. q.some (Sets n)) (out_params_from s x q 0 s.params), few_outs 0 s.params)
+        omega (
+          arith,
+          few,
+          numbers_len,
+          settled.few,
+          length-append (map (lock_item s x q) (touched s x q)) (map (param_item s x q) (changed s x q) ++ map (out_item s x q) (set_params s x q)),
+          length-append (map (param_item s x q) (changed s x q)) (map (out_item s x q) (set_params s x q)),
+          length-map (touched s x q) (lock_item s x q),
+          length-map (changed s x q) (param_item s x q),
+          length-map (set_params s x q) (out_item s x q),
+          kept_few (λ at. is_outer (location x.layout at) && q.some (Touches at)) (numbers s x q),
+          kept_few (λ n. q.some (Changes n)) (params_from s x q 0 s.params),
+          few_pointers 0 s.params,
+          kept_few (λ n. q.some (Sets n)) (out_params_from s x q 0 s.params),
+          few_outs 0 s.params,
+        )
 
     pub summary_fits : length s.params ≤ 8 → FitsSummary s.widths s.params s.globals (summary s x q)
     summary_fits few = record {
-      bits = refl; few_items = few_items few; few_writes = few_writes; items = all_items; writes = all_writes;
+      bits = refl;
+      few_items = few_items few;
+      few_writes = few_writes;
+      items = all_items;
+      writes = all_writes;
     }
 
 pub given_fits : (s : Source) (x : Texts) (q : Answers) → places s ≡ Ok x.layout → AreTypedParams s.params

@@ -1,19 +1,16 @@
 -- How a layout grows: what each step adds, and that what is there stays.
-use Rattle.std.proofs.Common.{◌≡◌, ℕ, zero, suc, ◌+◌, ◌-◌, ◌<◌, ◌≤◌, ◌&&◌, Bool, true, false, List, [], ◌∷◌, ◌++◌, length, refl, sym, ap, subst, ◌∙◌, ⊎_elim, inl, inr, arith}
+use Rattle.std.proofs.Common.{◌≡◌, ℕ, ◌+◌, ◌<◌, ◌≤◌, ◌&&◌, Bool, true, false, [], ◌∷◌, ◌++◌, length, refl, sym, ap, subst, ◌∙◌, ⊎_elim, arith}
 use Rattle.std.proofs.lemmas.Bool.{cases_eq, ltb-true, true≢false}
-use Rattle.std.proofs.lemmas.List.{get_or_append_left, get_or_push, length_push, get_or-set_same, get_or-set_other, length-set, set_past}
+use Rattle.std.proofs.lemmas.List.{get_or_append_left, get_or_push, length_push, get_or-set_same, get_or-set_other, length-set}
 use Rattle.std.specs.Prelude.{Option, Some, None, Ok, Err, nat_lt, slice_index_or, slice_set, if◌then◌else◌}
 use Rattle.sc_base.specs.declared.skip.LimitKind.TheVariants as limit
-use Rattle.sum_rows.specs.declared.path.Step.{Step}
-use Rattle.sum_rows.specs.declared.path.Step.TheVariants as step
 use Rattle.sc_world.specs.declared.run.Origin.{Origin}
-use Rattle.sc_world.specs.declared.run.Origin.TheVariants as origin
 use Rattle.sc_world.specs.Tree.{Ty}
-use Rattle.sc_world.specs.Build.{Built, Build, goes_on, done}
+use Rattle.sc_world.specs.Build.{goes_on, done}
 use Rattle.sc_world.specs.Source.{Source}
 use Rattle.sc_world.specs.Layout.{Layout, Location, location, nowhere}
-use Rattle.sc_world.specs.Objects.{Ground, Chosen, Nothing, Cells, CellsAndStates, Laying, add, stub, next, bits_if, push, gives_cells, gives_states, is_cell, cell_bits, state_bits, root_or, set_target}
-use Rattle.verdict_laws.proofs.Steps.{Post, chained, weaker, both}
+use Rattle.sc_world.specs.Objects.{Chosen, add, stub, bits_if, push, gives_cells, gives_states, is_cell, cell_bits, state_bits, root_or, set_target}
+use Rattle.verdict_laws.proofs.Steps.{Post}
 
 abbrev pub len : Layout → ℕ
 len p = length p.locations
@@ -76,28 +73,64 @@ add_cases : (c : Chosen) (root : Option ℕ) (t : Ty) (o : Origin) (p : Layout) 
     (λ u. done at)))))
 add_cases c root t o p w v false has cells states h x y = tt
 add_cases c root t o p w v true true true true h x y = record {
-  here = refl; l = _; is = record { room = ltb-true (len p) 256 h; locations = refl }; origin = refl; root_is = refl; type = refl;
-  bit = λ e. absurd (true≢false (x e)); state = λ e. absurd (true≢false (y e));
+  here = refl;
+  l = _;
+  is = record { room = ltb-true (len p) 256 h; locations = refl };
+  origin = refl;
+  root_is = refl;
+  type = refl;
+  bit = λ e. absurd (true≢false (x e));
+  state = λ e. absurd (true≢false (y e));
 }
 add_cases c root t o p w v true true true false h x y = record {
-  here = refl; l = _; is = record { room = ltb-true (len p) 256 h; locations = refl }; origin = refl; root_is = refl; type = refl;
-  bit = λ e. absurd (true≢false (x e)); state = λ e. refl;
+  here = refl;
+  l = _;
+  is = record { room = ltb-true (len p) 256 h; locations = refl };
+  origin = refl;
+  root_is = refl;
+  type = refl;
+  bit = λ e. absurd (true≢false (x e));
+  state = λ e. refl;
 }
 add_cases c root t o p w v true false true true h x y = record {
-  here = refl; l = _; is = record { room = ltb-true (len p) 256 h; locations = refl }; origin = refl; root_is = refl; type = refl;
-  bit = λ e. refl; state = λ e. absurd (true≢false (y e));
+  here = refl;
+  l = _;
+  is = record { room = ltb-true (len p) 256 h; locations = refl };
+  origin = refl;
+  root_is = refl;
+  type = refl;
+  bit = λ e. refl;
+  state = λ e. absurd (true≢false (y e));
 }
 add_cases c root t o p w v true false true false h x y = record {
-  here = refl; l = _; is = record { room = ltb-true (len p) 256 h; locations = refl }; origin = refl; root_is = refl; type = refl;
-  bit = λ e. refl; state = λ e. refl;
+  here = refl;
+  l = _;
+  is = record { room = ltb-true (len p) 256 h; locations = refl };
+  origin = refl;
+  root_is = refl;
+  type = refl;
+  bit = λ e. refl;
+  state = λ e. refl;
 }
 add_cases c root t o p w v true has false true h x y = record {
-  here = refl; l = _; is = record { room = ltb-true (len p) 256 h; locations = refl }; origin = refl; root_is = refl; type = refl;
-  bit = λ e. refl; state = λ e. absurd (true≢false (y e));
+  here = refl;
+  l = _;
+  is = record { room = ltb-true (len p) 256 h; locations = refl };
+  origin = refl;
+  root_is = refl;
+  type = refl;
+  bit = λ e. refl;
+  state = λ e. absurd (true≢false (y e));
 }
 add_cases c root t o p w v true has false false h x y = record {
-  here = refl; l = _; is = record { room = ltb-true (len p) 256 h; locations = refl }; origin = refl; root_is = refl; type = refl;
-  bit = λ e. refl; state = λ e. refl;
+  here = refl;
+  l = _;
+  is = record { room = ltb-true (len p) 256 h; locations = refl };
+  origin = refl;
+  root_is = refl;
+  type = refl;
+  bit = λ e. refl;
+  state = λ e. refl;
 }
 
 and_false : (a b : Bool) → a ≡ false → a && b ≡ false

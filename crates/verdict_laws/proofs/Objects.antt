@@ -1,20 +1,20 @@
 -- What an object adds to a layout: its own location, and parts behind it, all of one root.
-use Rattle.std.proofs.Common.{◌≡◌, ℕ, zero, suc, ◌+◌, ◌-◌, ◌<◌, ◌≤◌, Bool, true, false, List, [], ◌∷◌, refl, sym, ap, subst, ◌∙◌, ⊎_elim, inl, inr, arith}
+use Rattle.std.proofs.Common.{◌≡◌, ℕ, zero, suc, ◌+◌, ◌-◌, ◌<◌, ◌≤◌, Bool, true, false, List, [], ◌∷◌, refl, sym, ap, subst, ◌∙◌, ⊎_elim, arith}
 use Rattle.std.proofs.lemmas.Bool.{cases_lt, cases_eq, true≢false}
-use Rattle.std.specs.Prelude.{Option, Some, None, Ok, Err, if◌then◌else◌}
+use Rattle.std.specs.Prelude.{Option, Some, None, if◌then◌else◌}
 use Rattle.sc_base.specs.declared.pos.NameId.{NameId}
 use Rattle.sum_rows.specs.declared.path.Step.{Step}
 use Rattle.sum_rows.specs.declared.path.Step.TheVariants as step
 use Rattle.sc_world.specs.declared.run.Origin.{Origin}
 use Rattle.sc_world.specs.declared.run.Origin.TheVariants as origin
-use Rattle.sc_world.specs.Tree.{Ty, target_or_void}
-use Rattle.sc_world.specs.Build.{Built, Build, goes_on, done}
+use Rattle.sc_world.specs.Tree.{Ty}
+use Rattle.sc_world.specs.Build.{Built, goes_on, done}
 use Rattle.sc_world.specs.Source.{Source, Member}
 use Rattle.sc_world.specs.Gather.{Found}
 use Rattle.sc_world.specs.Layout.{Layout, Location, location, is_pointer_cell}
-use Rattle.sc_world.specs.Objects.{Ground, Chosen, Laying, Layer, Parts, NoParts, Elements, Members, add, stub, gives_cells, gives_states, root_or, set_target, elements, members, member_named, is_named, lay_parts, parts, parts_of, object, whole, Behind, Object, Stub, behind, follow_cell, follow_at, follow_all, follow_range, type_or_void}
+use Rattle.sc_world.specs.Objects.{Ground, Chosen, Layer, Parts, NoParts, Elements, Members, add, stub, gives_cells, gives_states, root_or, set_target, elements, members, member_named, is_named, lay_parts, parts, parts_of, object, whole, Stub, follow_at, follow_all, follow_range}
 use Rattle.verdict_laws.proofs.Steps.{Post, chained, weaker, both}
-use Rattle.verdict_laws.proofs.Laying.{len, bare, Grows, grows_refl, grows_trans, IsPushed, pushed_len, pushed_at, pushed_grows, IsAdded, add_lays, stub_at, IsStubbed, stub_lays, IsPut, target_lays, put_len, put_grows}
+use Rattle.verdict_laws.proofs.Laying.{len, bare, Grows, grows_refl, grows_trans, pushed_len, pushed_at, pushed_grows, IsAdded, add_lays, stub_at, IsStubbed, stub_lays, IsPut, target_lays, put_len, put_grows}
 
 -- what each step that adds a location or lets a pointer point keeps
 pub record Keeps (s : Source) (T : Layout → Type 0) : Type 0 where
@@ -166,13 +166,25 @@ module _ (T : Layout → Type 0) where
         ⊎_elim
         (λ (e : i ≡ len p).
         subst (λ n. IsPart c r lo n (bare (location q n))) (sym e) (record {
-          up = lo; step = s; origin = is.first.origin; above = omega arith; below = less; root_is = is.first.root_is;
-          bit = is.first.bit; state = is.first.state;
+          up = lo;
+          step = s;
+          origin = is.first.origin;
+          above = omega arith;
+          below = less;
+          root_is = is.first.root_is;
+          bit = is.first.bit;
+          state = is.first.state;
         }))
         (λ (other : i ≡ len p → ⊥).
         let part = is.parts i (omega (arith, low, other)) high in record {
-          up = part.up; step = part.step; origin = part.origin; above = omega (arith, part.above, less); below = part.below;
-          root_is = part.root_is; bit = part.bit; state = part.state;
+          up = part.up;
+          step = part.step;
+          origin = part.origin;
+          above = omega (arith, part.above, less);
+          below = part.below;
+          root_is = part.root_is;
+          bit = part.bit;
+          state = part.state;
         })
         (cases_eq i (len p));
     keeps = is.keeps;

@@ -1,8 +1,8 @@
 -- A whole layout: no more locations than may be, and each of them has no state, or callers know it.
-use Rattle.std.proofs.Common.{◌≡◌, ℕ, zero, suc, ◌+◌, ◌-◌, ◌<◌, ◌≤◌, Bool, true, false, List, [], ◌∷◌, ◌++◌, length, refl, sym, ap, subst, ◌∙◌, ⊎_elim, inl, inr, arith}
-use Rattle.std.proofs.lemmas.Bool.{cases_lt, cases_eq, true≢false}
+use Rattle.std.proofs.Common.{◌≡◌, ℕ, zero, suc, ◌+◌, ◌-◌, ◌<◌, ◌≤◌, Bool, true, false, List, [], ◌∷◌, ◌++◌, length, refl, sym, ap, subst, ◌∙◌, ⊎_elim, arith}
+use Rattle.std.proofs.lemmas.Bool.{cases_eq, true≢false}
 use Rattle.std.proofs.lemmas.List.{get_or-set_same, get_or-set_other, length-set}
-use Rattle.std.specs.Prelude.{Option, Some, None, Result, Ok, Err, nat_eq, ◌||◌, ◌⊎◌, slice_index_or, slice_set, if◌then◌else◌}
+use Rattle.std.specs.Prelude.{Option, Some, None, Result, Ok, Err, nat_eq, ◌||◌, slice_index_or, slice_set, if◌then◌else◌}
 use Rattle.std.specs.List.{AllByRecursion}
 use Rattle.sc_base.specs.declared.skip.LimitKind.{LimitKind}
 use Rattle.sum_rows.specs.declared.row.Item.{Item}
@@ -12,18 +12,18 @@ use Rattle.sum_rows.specs.declared.row.Summary.{Summary}
 use Rattle.sum_rows.specs.declared.row.Write.{Write}
 use Rattle.sc_world.specs.declared.run.Origin.{Origin}
 use Rattle.sc_world.specs.declared.run.Origin.TheVariants as origin
-use Rattle.sc_world.specs.Tree.{Ty, Tys, Void, Bool', Int, Ptr, Array, Struct, Union, Func, Opaque, is_integer, is_pointer, int_bits, target_or_void}
+use Rattle.sc_world.specs.Tree.{Ty, Void, Bool', Int, Ptr, Array, Struct, Union, Func, Opaque, is_integer, is_pointer, int_bits, target_or_void}
 use Rattle.sc_world.specs.Build.{Built, Build, goes_on, done}
 use Rattle.sc_world.specs.Source.{Source, Signature, Effect, Operation, Try, Allocate, Release, Ends, Expect, Known, Unknown, sum_at}
 use Rattle.sc_world.specs.Gather.{Found, Site, nothing_found, gather_function}
 use Rattle.sc_world.specs.Layout.{Layout, Location, Occurrence, location, nowhere, no_layout, no_occurrence, is_cell}
-use Rattle.sc_world.specs.Objects.{Ground, Chosen, Nothing, Cells, Stub, NoParts, gives_states, parts_of, add, stub, whole, set_target, follow_range, cell_bits, type_or_void, lay_params, lay_globals, lay_locals, lay_literals, levels}
-use Rattle.sc_world.specs.Occurrences.{call_object, stubs_behind, is_zeroed, object_if, occur_once, occur, occur_all, cell_at, cell_if, cells_from, object_cells, result_bits, state_spot, state_spots, param_spot, param_spots, param_type, out_object, out_spot, out_spots, is_out_path, pointer_spot, write_spot, write_spots, known_spots, known_callee, effect_bits, call_bits, number_site, number_turns, number_all}
+use Rattle.sc_world.specs.Objects.{Ground, Chosen, Nothing, Cells, Stub, NoParts, gives_states, parts_of, add, stub, whole, follow_range, cell_bits, type_or_void, lay_params, lay_globals, lay_locals, lay_literals, levels}
+use Rattle.sc_world.specs.Occurrences.{stubs_behind, is_zeroed, object_if, occur_once, occur, occur_all, cell_at, cell_if, cells_from, object_cells, result_bits, state_spot, state_spots, param_spot, param_spots, param_type, out_object, out_spot, out_spots, is_out_path, pointer_spot, write_spot, write_spots, known_spots, known_callee, effect_bits, call_bits, number_site, number_turns, number_all}
 use Rattle.sc_world.specs.Places.{lay_out, places, places_of, laid}
-use Rattle.verdict_laws.proofs.Steps.{Post, chained, weaker, both}
-use Rattle.verdict_laws.proofs.Laying.{len, bare, Grows, IsPushed, pushed_len, IsAdded, add_lays, stub_at, IsStubbed, stub_lays, IsPut, target_lays, put_len}
+use Rattle.verdict_laws.proofs.Steps.{Post, chained, weaker}
+use Rattle.verdict_laws.proofs.Laying.{len, pushed_len, IsAdded, add_lays, stub_at, IsStubbed, stub_lays}
 use Rattle.verdict_laws.proofs.Objects.{Keeps, Lays, Stubs, whole_lays, stub_range, stub_one}
-use Rattle.verdict_laws.proofs.Entry.{Stays, stays_trans, IsOuter, Settled, Entry, entry_stays, Settles, settles_refl, settles_trans, behind_it, stubs_settle, lays_settle, Enters, entered, locals_settle, literals_settle, levels_settle}
+use Rattle.verdict_laws.proofs.Entry.{Settled, Entry, entry_stays, Settles, settles_refl, behind_it, stubs_settle, lays_settle, Enters, entered, locals_settle, literals_settle, levels_settle}
 
 -- the limit of locations
 pub Few : Layout → Type 0
@@ -93,7 +93,6 @@ module _ (params globals : ℕ) where
   goes : {A B : Type 0} (p : Layout) (m : Built Layout A) (f : A → Build Layout B) → Post (λ a q. To p q) m
       → ((a : A) (q : Layout) → Post (λ b z. To q z) (f a q)) → Post (λ b z. To p z) (goes_on m f)
   goes p m f h k = chained (λ a q. To p q) (λ b z. To p z) m f h (λ a q is. and_then p q (f a q) is (k a q))
-
 
   cell_at_settles : (s : Source) (at : ℕ) (p : Layout) → Post (λ u q. To p q) (cell_at s at (location p at) p)
   cell_at_settles s at p = cell_by (is_cell (location p at))
@@ -335,7 +334,8 @@ module _ (params globals : ℕ) where
   settled_from : (p q : Layout) → len p ≡ 0 → To p q → IsSettled q
   unfolding Few
   settled_from p q none a = record {
-    few = a.keeps (omega (arith, none)); settled = λ i high. a.settled i (omega (arith, none)) high;
+    few = a.keeps (omega (arith, none));
+    settled = λ i high. a.settled i (omega (arith, none)) high;
   }
 
   laid_settles : (g : Ground) (p : Layout) → len p ≡ 0 → length g.source.params ≤ params → length g.source.globals ≤ globals

@@ -1,5 +1,4 @@
 -- What holds of what a step builds, where it builds it.
-use Rattle.std.proofs.Common.{◌≡◌, ℕ}
 use Rattle.std.specs.Prelude.{Ok, Err}
 use Rattle.sc_world.specs.Build.{Built, Build, goes_on}
 

@@ -1,5 +1,5 @@
 -- When a verdict fits a function: whatever it speaks of is something that the function has.
-use Rattle.std.specs.Prelude.{◌≡◌, ℕ, ◌<◌, ◌≤◌, ◌⊎◌, Bool, true, ◌||◌, Option, Some, List, [], ◌∷◌, length, map, slice_get, All}
+use Rattle.std.specs.Prelude.{◌≡◌, ℕ, ◌<◌, ◌≤◌, ◌⊎◌, Bool, true, ◌||◌, Some, List, ◌∷◌, length, map, slice_get, All}
 use Rattle.sc_tree.specs.declared.ctype.Widths.{Widths}
 use Rattle.sc_typed.specs.declared.program.Program.{Program}
 use Rattle.sum_rows.specs.declared.path.Path.{Path}
@@ -9,7 +9,6 @@ use Rattle.sum_rows.specs.declared.path.Step.{Step}
 use Rattle.sum_rows.specs.declared.path.Step.TheVariants as step
 use Rattle.sum_rows.specs.declared.row.Item.{Item}
 use Rattle.sum_rows.specs.declared.row.Item.TheVariants as item
-use Rattle.sum_rows.specs.declared.row.ItemRows.{ItemRows}
 use Rattle.sum_rows.specs.declared.row.Summary.{Summary}
 use Rattle.sum_rows.specs.declared.row.Write.{Write}
 use Rattle.sum_rows.specs.declared.report.Verdict.{Verdict}

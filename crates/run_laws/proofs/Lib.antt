@@ -1,0 +1,16 @@
+pub mod Steps
+pub mod Places
+pub mod Values
+pub mod Stores
+pub mod Paths
+pub mod Calls
+pub mod Expressions
+pub mod Statements
+pub mod Entry
+pub mod Rows
+pub mod Laying
+pub mod LaidOut
+pub mod Types
+pub mod Typed
+pub mod Returned
+pub mod Fitting

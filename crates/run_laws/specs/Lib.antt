@@ -1,0 +1,5 @@
+pub mod Example
+pub mod Fits
+pub mod Functions
+pub mod Keeps
+pub mod Proper

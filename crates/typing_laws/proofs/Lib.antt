@@ -1,0 +1,8 @@
+pub mod Steps
+pub mod Rules
+pub mod Calls
+pub mod Parts
+pub mod Walk
+pub mod Induction
+pub mod Declared
+pub mod Filled
