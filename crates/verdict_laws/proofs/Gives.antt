@@ -40,8 +40,14 @@ module _ (s : Source) where
   pub gives_refl : (o : Option ℕ) (p : Layout) → Gives o [] [] p p
   gives_refl o p = record {
     tiled = λ E t. tiled_same s E (λ k. E k + 0) p (λ k. omega arith) t;
-    sites = refl; occurrences = refl; spots = sym (append-nil p.spots); longer = omega arith; roots = λ i h. refl;
-    low = λ i a b. absurd (omega (arith, a, b)); high = λ i a b. absurd (omega (arith, a, b)); bits = λ i h n. refl;
+    sites = refl;
+    occurrences = refl;
+    spots = sym (append-nil p.spots);
+    longer = omega arith;
+    roots = λ i h. refl;
+    low = λ i a b. absurd (omega (arith, a, b));
+    high = λ i a b. absurd (omega (arith, a, b));
+    bits = λ i h n. refl;
   }
 
   pub gives_trans : (o : Option ℕ) (as' bs : List Bits) (old new : List Spot) (p q z : Layout)
@@ -77,8 +83,14 @@ module _ (s : Source) where
         tiled_same s (λ k. E k + one_if (has_bit k (record { first = p.bits; width = n })))
         (λ k. E k + how_many k (record { first = p.bits; width = n } ∷ [])) (record p { bits = p.bits + n })
         (λ k. omega arith) (tiled_take s E p n t);
-    sites = refl; occurrences = refl; spots = sym (append-nil p.spots); longer = omega arith; roots = λ i h. refl;
-    low = λ i a b. absurd (omega (arith, a, b)); high = λ i a b. absurd (omega (arith, a, b)); bits = λ i h n. refl;
+    sites = refl;
+    occurrences = refl;
+    spots = sym (append-nil p.spots);
+    longer = omega arith;
+    roots = λ i h. refl;
+    low = λ i a b. absurd (omega (arith, a, b));
+    high = λ i a b. absurd (omega (arith, a, b));
+    bits = λ i h n. refl;
   }
 
   -- a spot is pushed
@@ -87,8 +99,14 @@ module _ (s : Source) where
     tiled = λ E t.
         tiled_same s E (λ k. E k + 0) (record p { spots = p.spots ++ z ∷ [] }) (λ k. omega arith)
         (tiled_through s E p (record p { spots = p.spots ++ z ∷ [] }) refl refl t);
-    sites = refl; occurrences = refl; spots = refl; longer = omega arith; roots = λ i h. refl;
-    low = λ i a b. absurd (omega (arith, a, b)); high = λ i a b. absurd (omega (arith, a, b)); bits = λ i h n. refl;
+    sites = refl;
+    occurrences = refl;
+    spots = refl;
+    longer = omega arith;
+    roots = λ i h. refl;
+    low = λ i a b. absurd (omega (arith, a, b));
+    high = λ i a b. absurd (omega (arith, a, b));
+    bits = λ i h n. refl;
   }
 
   -- locations are added
@@ -97,10 +115,13 @@ module _ (s : Source) where
     tiled = λ E t.
         tiled_same s E (λ k. E k + 0) q (λ k. omega arith)
         (subst (λ y. Tiled y E p → Tiled y E q) e (a.same.tiled E) t);
-    sites = a.same.sites; occurrences = a.same.occurrences; spots = a.same.spots ∙ sym (append-nil p.spots);
+    sites = a.same.sites;
+    occurrences = a.same.occurrences;
+    spots = a.same.spots ∙ sym (append-nil p.spots);
     longer = a.grows.longer;
     roots = λ i less. ap (λ (l : Location). l.root) (sym (a.grows.same i less));
-    low = a.low; high = a.high;
+    low = a.low;
+    high = a.high;
     bits = λ i less other. ap (λ (l : Location). l.bit) (sym (a.grows.same i less));
   }
 
@@ -133,9 +154,13 @@ module _ (s : Source) where
       record {
         tiled = λ E t.
             tiled_same s E (λ k. E k + 0) (given at p) (λ k. omega arith) (tiled_cell s E p at less none t);
-        sites = refl; occurrences = refl; spots = sym (append-nil p.spots); longer = omega (arith, e);
+        sites = refl;
+        occurrences = refl;
+        spots = sym (append-nil p.spots);
+        longer = omega (arith, e);
         roots = λ i h. given_root at p less i;
-        low = λ i a b. absurd (omega (arith, a, b, e)); high = λ i a b. absurd (omega (arith, a, b, e));
+        low = λ i a b. absurd (omega (arith, a, b, e));
+        high = λ i a b. absurd (omega (arith, a, b, e));
         bits = λ i h not.
             ap (λ (l : Location). l.bit)
             (given_other at p i (λ here. not (ap Some (sym (ap (λ n. (location p n).root) here ∙ is)))));
@@ -200,8 +225,14 @@ module _ (s : Source) where
     tiled = λ E t.
         tiled_same s E (λ k. E k + how_many k (record { first = p.bits; width = 0 } ∷ [])) p
         (λ k. omega (arith, below_more k p.bits 0, ap (λ n. one_if (nat_lt k n)) (plus_zero p.bits))) t;
-    sites = refl; occurrences = refl; spots = sym (append-nil p.spots); longer = omega arith; roots = λ i h. refl;
-    low = λ i a b. absurd (omega (arith, a, b)); high = λ i a b. absurd (omega (arith, a, b)); bits = λ i h n. refl;
+    sites = refl;
+    occurrences = refl;
+    spots = sym (append-nil p.spots);
+    longer = omega arith;
+    roots = λ i h. refl;
+    low = λ i a b. absurd (omega (arith, a, b));
+    high = λ i a b. absurd (omega (arith, a, b));
+    bits = λ i h n. refl;
   }
 
   pub owns_cells : (o : Option ℕ) (n : ℕ) (p : Layout) → Ready o p
@@ -263,7 +294,9 @@ module _ (s : Source) where
 
   pub spots_behind : (o : Option ℕ) (ws : List ℕ) (p q z : Layout) → Gives o [] [] p q → Spots o ws q z → Spots o ws p z
   spots_behind o ws p q z a b = record {
-    new = b.new; gives = gives_trans o [] (paired b.new ws) [] b.new p q z a b.gives; count = b.count;
+    new = b.new;
+    gives = gives_trans o [] (paired b.new ws) [] b.new p q z a b.gives;
+    count = b.count;
   }
 
   pub one_spot : (o object : Option ℕ) (n : ℕ) (p : Layout)

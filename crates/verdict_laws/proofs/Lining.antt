@@ -139,7 +139,9 @@ module _ (g : Ground) where
 
   turns_occur : (n k : ℕ) (x : Site) (p : Layout) → Post (λ u z. Turns k n p z) (occur n g k x p)
   turns_occur zero k x p = record {
-    further = further_refl p; count = omega arith; new = λ j low high. absurd (omega (arith, low, high));
+    further = further_refl p;
+    count = omega arith;
+    new = λ j low high. absurd (omega (arith, low, high));
   }
   turns_occur (suc n) k x p =
       chained (λ u q. Turns k 1 p q) (λ u z. Turns k (suc n) p z) (occur_once g k x p) (λ u. occur n g k x) (once_turns k x p)
@@ -162,9 +164,9 @@ module _ (g : Ground) where
           let there : length p.occurrences + t < length q.occurrences = omega (arith, less, a.count) in (
             omega (arith, there, b.further.longer),
             ap (λ (ss : List Site). slice_index_or ss (occ g z (length p.occurrences + t)).site no_site) (b.further.sites ∙ a.further.sites)
-            ∙ ap (λ (m : ℕ). slice_index_or p.sites m no_site)
-            (b.further.old (length p.occurrences + t) there ∙ a.new (length p.occurrences + t) (omega arith) there)
-            ∙ here,
+                ∙ ap (λ (m : ℕ). slice_index_or p.sites m no_site)
+                (b.further.old (length p.occurrences + t) there ∙ a.new (length p.occurrences + t) (omega arith) there)
+                ∙ here,
           ),
       subst (λ n. Lined g n xs z) a.count b.lined,
     );

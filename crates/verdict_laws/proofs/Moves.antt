@@ -28,7 +28,10 @@ module _ (g : Ground) where
 
   pub moves_refl : (p : Layout) → Moves p p
   moves_refl p = record {
-    grows = grows_refl p; low = λ i a b. absurd (omega (arith, a, b)); high = λ i a b. absurd (omega (arith, a, b)); same = same_refl g.source p;
+    grows = grows_refl p;
+    low = λ i a b. absurd (omega (arith, a, b));
+    high = λ i a b. absurd (omega (arith, a, b));
+    same = same_refl g.source p;
   }
 
   pub moves_trans : (p q z : Layout) → Moves p q → Moves q z → Moves p z
@@ -59,10 +62,10 @@ module _ (g : Ground) where
   lays_move c t o p at q is =
       let root_at : (i : ℕ) → len p ≤ i → i < len q → (bare (location q i)).root ≡ len p =
       λ i low high.
-          ⊎_elim
-          (λ (e : i ≡ len p). subst (λ n. (bare (location q n)).root ≡ len p) (sym e) is.first.root_is)
-          (λ (other : i ≡ len p → ⊥). (is.parts i (omega (arith, low, other)) high).root_is)
-          (cases_eq i (len p)) in
+      ⊎_elim
+      (λ (e : i ≡ len p). subst (λ n. (bare (location q n)).root ≡ len p) (sym e) is.first.root_is)
+      (λ (other : i ≡ len p → ⊥). (is.parts i (omega (arith, low, other)) high).root_is)
+      (cases_eq i (len p)) in
       record {
         grows = is.grows;
         low = λ i low high. omega (arith, root_at i low high);
@@ -102,7 +105,9 @@ module _ (g : Ground) where
       weaker (λ u q. (Grows p q) × (len q ≡ len p) × (Same g.source p p → Same g.source p q)) (λ u q. Moves p q) (set_target at to p)
       (target_grows (Same g.source p) g (same_kept g.source p) at to p)
       (λ u q is. record {
-        grows = is.0; low = λ i low high. absurd (omega (arith, low, high, is.1)); high = λ i low high. absurd (omega (arith, low, high, is.1));
+        grows = is.0;
+        low = λ i low high. absurd (omega (arith, low, high, is.1));
+        high = λ i low high. absurd (omega (arith, low, high, is.1));
         same = is.2 (same_refl g.source p);
       })
 
@@ -216,9 +221,12 @@ module _ (g : Ground) where
   apart_moves n p q a is = record {
     low = low_moves p q a is.low;
     inside = λ j b less e.
-        omega (arith, a.grows.longer,
-        is.inside j b (subst (λ (os : List Occurrence). j < length os) a.same.occurrences less)
-        (subst (λ (os : List Occurrence). (slice_index_or os j no_occurrence).object ≡ Some b) a.same.occurrences e));
+        omega (
+          arith,
+          a.grows.longer,
+          is.inside j b (subst (λ (os : List Occurrence). j < length os) a.same.occurrences less)
+              (subst (λ (os : List Occurrence). (slice_index_or os j no_occurrence).object ≡ Some b) a.same.occurrences e),
+        );
     apart = λ i j b less inside d e.
         is.apart i j b less (subst (λ (os : List Occurrence). j < length os) a.same.occurrences inside)
         (subst (λ (os : List Occurrence). (slice_index_or os i no_occurrence).object ≡ Some b) a.same.occurrences d)

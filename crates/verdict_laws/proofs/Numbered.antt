@@ -35,8 +35,12 @@ pub total_all : {X : Type 0} (F : X → List Bits) (k : ℕ) (d : X) (xs : List 
     → how_many k (flat_map F xs) ≡ total (λ j. how_many k (F (slice_index_or xs j d))) (length xs)
 total_all F k d [] = refl
 total_all F k d (x ∷ xs) =
-    omega (arith, many_append k (F x) (flat_map F xs), total_all F k d xs,
-    total_front (λ j. how_many k (F (slice_index_or (x ∷ xs) j d))) (length xs))
+    omega (
+      arith,
+      many_append k (F x) (flat_map F xs),
+      total_all F k d xs,
+      total_front (λ j. how_many k (F (slice_index_or (x ∷ xs) j d))) (length xs),
+    )
 
 module _ (s : Source) where
   spots_stay : (xs new : List Spot) (at : ℕ) (ws : List ℕ) → at + length ws ≤ length xs
@@ -128,7 +132,8 @@ module _ (g : Ground) where
         ∙ ap (λ (ss : List Site). occurrence_bits g.source ss q.spots (occ p j)) w.gives.sites
         ∙ ap (λ (l : List Spot). occurrence_bits g.source p.sites l (occ p j)) w.gives.spots
         ∙ ap (λ (bs : List Bits). record {
-          first = (occ p j).bit; width = own_width g.source (site_of p.sites (occ p j)) (site_of p.sites (occ p j)).effect;
+          first = (occ p j).bit;
+          width = own_width g.source (site_of p.sites (occ p j)) (site_of p.sites (occ p j)).effect;
         } ∷ bs)
         (spots_stay g.source p.spots w.new (occ p j).spot (spot_widths g.source (site_of p.sites (occ p j)).effect) (is.room j before))
 
@@ -186,8 +191,12 @@ module _ (g : Ground) where
         let p' : Layout = record p { bits = p.bits + 0 } in
         tiled_same g.source (λ k. E k + how_many k mine) (λ k. total (bits_at after k) (n + 1)) after
         (λ k.
-        omega (arith, total_more (bits_at after k) n,
-        total_same (bits_at after k) (bits_at p k) n (λ j before. ap (how_many k) (old_bits j before)), ap (how_many k) new_bits))
+        omega (
+          arith,
+          total_more (bits_at after k) n,
+          total_same (bits_at after k) (bits_at p k) n (λ j before. ap (how_many k) (old_bits j before)),
+          ap (how_many k) new_bits,
+        ))
         (tiled_through g.source (λ k. E k + how_many k mine) q after refl refl
         (w.gives.tiled E (tiled_through g.source E p p' refl (plus_zero g.source p.bits) is.tiled)))
 

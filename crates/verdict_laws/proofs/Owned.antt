@@ -42,10 +42,13 @@ module _ (g : Ground) where
   numbered_owned : (p : Layout) → Numbered g (length p.occurrences) p → Owned g.source p
   unfolding Tiled
   numbered_owned p is k =
-      omega (arith, is.tiled k,
-      many_append k (flat_map (location_bits g.source) p.locations)
-      (flat_map (occurrence_bits g.source p.sites p.spots) p.occurrences),
-      total_all (occurrence_bits g.source p.sites p.spots) k no_occurrence p.occurrences)
+      omega (
+        arith,
+        is.tiled k,
+        many_append k (flat_map (location_bits g.source) p.locations)
+            (flat_map (occurrence_bits g.source p.sites p.spots) p.occurrences),
+        total_all (occurrence_bits g.source p.sites p.spots) k no_occurrence p.occurrences,
+      )
 
   calls_owned : (q : Layout) → Moves g empty q
       → Post (λ u z. Owned g.source z) (goes_on (occur_all 0 g.found.sites g q) (λ u. number_all 0 g.found.sites g))

@@ -110,8 +110,13 @@ module _ (s : Source) where
       let states : List Bits = bits_from l.state (state_bits s) in
       let old : how_many k (location_bits s l) ≡ how_many k states =
       ap (λ b. how_many k (bits_from b w ++ states)) none in
-      omega (arith, t k, old, below_more k p.bits w,
-      many_put (location_bits s) k p.locations at (record l { bit = Some p.bits }) nowhere less)
+      omega (
+        arith,
+        t k,
+        old,
+        below_more k p.bits w,
+        many_put (location_bits s) k p.locations at (record l { bit = Some p.bits }) nowhere less,
+      )
 
   -- nothing but locations is added, and each bit that is taken is one of theirs
   pub record Same (p q : Layout) : Type 0 where
@@ -125,7 +130,10 @@ module _ (s : Source) where
 
   pub same_trans : (p q z : Layout) → Same p q → Same q z → Same p z
   same_trans p q z a b = record {
-    tiled = λ E t. b.tiled E (a.tiled E t); sites = b.sites ∙ a.sites; occurrences = b.occurrences ∙ a.occurrences; spots = b.spots ∙ a.spots;
+    tiled = λ E t. b.tiled E (a.tiled E t);
+    sites = b.sites ∙ a.sites;
+    occurrences = b.occurrences ∙ a.occurrences;
+    spots = b.spots ∙ a.spots;
   }
 
   pushed_same : (p : Layout) (l : Location) (bits : ℕ)
@@ -140,7 +148,9 @@ module _ (s : Source) where
         (λ less. tiled_put E p at (record (location p at) { target = Some to }) less refl t)
         (λ past. tiled_past E p at (record (location p at) { target = Some to }) past t)
         (cases_lt at (len p));
-    sites = refl; occurrences = refl; spots = refl;
+    sites = refl;
+    occurrences = refl;
+    spots = refl;
   }
 
   add_same : (root : Option ℕ) (t : Ty) (o : Origin) (p : Layout) (room cells states : Bool)
