@@ -1,29 +1,25 @@
 -- A call in one turn: what it is given, and how the bits of the calls that have theirs grow by it.
-use Rattle.std.proofs.Common.{◌≡◌, ℕ, zero, suc, ◌+◌, ◌-◌, ◌<◌, ◌≤◌, Bool, true, false, List, [], ◌∷◌, ◌++◌, length, refl, sym, ap, subst, ◌∙◌, ⊎_elim, inl, inr, arith}
-use Rattle.std.proofs.lemmas.Bool.{cases_lt, cases_eq}
-use Rattle.std.proofs.lemmas.List.{get_or-set_same, get_or-set_other, length-set, length-append, get_or_append_left}
-use Rattle.std.specs.Prelude.{Option, Some, None, Ok, Err, nat_eq, slice_index_or, slice_set, if◌then◌else◌}
+use Rattle.std.proofs.Common.{◌≡◌, ℕ, ◌+◌, Bool, true, false, List, [], ◌∷◌, ◌++◌, length, refl}
+use Rattle.std.specs.Prelude.{Option, Some, None, Ok, nat_eq, if◌then◌else◌}
 use Rattle.std.specs.List.{flat_map}
 use Rattle.sum_rows.specs.declared.row.Item.{Item}
 use Rattle.sum_rows.specs.declared.row.Item.TheVariants as item
 use Rattle.sum_rows.specs.declared.row.ItemRows.{ItemRows}
 use Rattle.sum_rows.specs.declared.row.Summary.{Summary}
 use Rattle.sum_rows.specs.declared.row.Write.{Write}
-use Rattle.sc_world.specs.declared.run.Origin.{Origin}
 use Rattle.sc_world.specs.declared.run.Origin.TheVariants as origin
 use Rattle.sc_world.specs.Tree.{target_or_void}
-use Rattle.sc_world.specs.Build.{Built, Build, goes_on, done}
-use Rattle.sc_world.specs.Source.{Source, Signature, Effect, Operation, Try, Allocate, Release, Ends, Expect, Known, Unknown, sum_at}
+use Rattle.sc_world.specs.Build.{goes_on, done}
+use Rattle.sc_world.specs.Source.{Signature, Effect, Operation, Try, Allocate, Release, Ends, Expect, Known, Unknown, sum_at}
 use Rattle.sc_world.specs.Gather.{Site}
-use Rattle.sc_world.specs.Layout.{Layout, Location, Occurrence, Spot, location, no_site, no_spot, no_occurrence}
+use Rattle.sc_world.specs.Layout.{Layout, Spot}
 use Rattle.sc_world.specs.Objects.{Ground, Cells, Stub, whole, stub, follow_range}
 use Rattle.sc_world.specs.Occurrences.{object_cells, result_bits, state_spots, param_spots, param_type, out_object, out_spot, out_spots, is_out_path, pointer_spot, write_spot, write_spots, known_spots, known_callee, effect_bits}
-use Rattle.verdict_laws.specs.Bits.{Bits, has_bit, one_if, how_many, own_width, result_width, lock_width, param_width, out_width, write_width, widths_of, spot_widths, spot_bits, call_bits, occurrence_bits}
+use Rattle.verdict_laws.specs.Bits.{Bits, own_width, result_width, lock_width, param_width, out_width, write_width, widths_of, spot_widths}
 use Rattle.verdict_laws.proofs.Steps.{Post, chained, weaker}
 use Rattle.verdict_laws.proofs.Laying.{len}
-use Rattle.verdict_laws.proofs.Tiles.{Tiled, tiled_same, tiled_through}
 use Rattle.verdict_laws.proofs.Moves.{Moves, steps, moves_refl, whole_moves, stubs_moves, stub_moves}
-use Rattle.verdict_laws.proofs.Gives.{Gives, gives_trans, gives_take, gives_spot, gives_moves, Ready, Owns, owns_none, owns_cells, result_gives, paired, Spots, spots_none, then_spots, spots_behind, one_spot, states_give, params_give, plus_zero}
+use Rattle.verdict_laws.proofs.Gives.{Gives, gives_trans, gives_take, gives_spot, gives_moves, Ready, Owns, owns_none, owns_cells, result_gives, paired, Spots, spots_none, then_spots, spots_behind, one_spot, states_give, params_give}
 
 module _ (g : Ground) where
   out_moves : (f : Signature) (n k : ℕ) (p : Layout) → Post (λ at q. Moves g p q) (out_object g f n k p)

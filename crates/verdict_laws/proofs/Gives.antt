@@ -1,28 +1,24 @@
 -- What a call is given: bits of its own, bits of spots, and bits of the cells of its object.
-use Rattle.std.proofs.Common.{◌≡◌, ℕ, zero, suc, ◌+◌, ◌-◌, ◌<◌, ◌≤◌, Bool, true, false, List, [], ◌∷◌, ◌++◌, length, refl, sym, ap, subst, ◌∙◌, ⊎_elim, inl, inr, arith}
+use Rattle.std.proofs.Common.{◌≡◌, ℕ, zero, suc, ◌+◌, ◌-◌, ◌<◌, ◌≤◌, Bool, true, false, List, [], ◌∷◌, ◌++◌, length, refl, sym, ap, subst, ◌∙◌, ⊎_elim, arith}
 use Rattle.std.proofs.lemmas.Bool.{cases_lt, cases_eq, eqb-true}
 use Rattle.std.proofs.lemmas.List.{append_assoc, append-nil, get_or-set_same, get_or-set_other, length-set, length-append}
-use Rattle.std.specs.Prelude.{Option, Some, None, Ok, Err, nat_eq, nat_lt, slice_index_or, slice_set, if◌then◌else◌}
+use Rattle.std.specs.Prelude.{Option, Some, None, Ok, nat_eq, nat_lt, slice_set, if◌then◌else◌}
 use Rattle.std.specs.List.{flat_map}
 use Rattle.sum_rows.specs.declared.row.Item.{Item}
 use Rattle.sum_rows.specs.declared.row.Item.TheVariants as item
 use Rattle.sum_rows.specs.declared.row.ItemRows.{ItemRows}
-use Rattle.sum_rows.specs.declared.row.Summary.{Summary}
-use Rattle.sum_rows.specs.declared.row.Write.{Write}
-use Rattle.sc_world.specs.declared.run.Origin.{Origin}
-use Rattle.sc_world.specs.declared.run.Origin.TheVariants as origin
-use Rattle.sc_world.specs.Tree.{Ty, is_integer, is_pointer, int_bits, target_or_void}
+use Rattle.sc_world.specs.Tree.{is_integer, is_pointer, int_bits}
 use Rattle.sc_world.specs.Build.{Built, Build, goes_on, done}
-use Rattle.sc_world.specs.Source.{Source, Signature, Effect, Operation, Try, Allocate, Release, Ends, Expect, Known, Unknown, sum_at}
+use Rattle.sc_world.specs.Source.{Source}
 use Rattle.sc_world.specs.Gather.{Site}
 use Rattle.sc_world.specs.Layout.{Layout, Location, Spot, location, nowhere, is_cell}
-use Rattle.sc_world.specs.Objects.{Ground, Cells, Stub, whole, stub, follow_range, cell_bits, state_bits, type_or_void}
-use Rattle.sc_world.specs.Occurrences.{cell_at, cell_if, cells_from, object_cells, result_bits, state_spot, state_spots, param_spot, param_spots, param_type, out_object, out_spot, out_spots, is_out_path, pointer_spot, write_spot, write_spots, known_spots, known_callee, effect_bits}
-use Rattle.verdict_laws.specs.Bits.{Bits, has_bit, one_if, how_many, location_bits, own_width, result_width, lock_width, param_width, out_width, write_width, widths_of, spot_widths}
+use Rattle.sc_world.specs.Objects.{Ground, cell_bits, state_bits, type_or_void}
+use Rattle.sc_world.specs.Occurrences.{cell_at, cell_if, cells_from, object_cells, result_bits, state_spot, state_spots, param_spot, param_spots}
+use Rattle.verdict_laws.specs.Bits.{Bits, has_bit, one_if, how_many, result_width, lock_width, param_width}
 use Rattle.verdict_laws.proofs.Steps.{Post, chained, weaker}
-use Rattle.verdict_laws.proofs.Laying.{len, bare}
+use Rattle.verdict_laws.proofs.Laying.{len}
 use Rattle.verdict_laws.proofs.Tiles.{Tiled, tiled_take, tiled_cell, tiled_same, tiled_through, many_append, below_more}
-use Rattle.verdict_laws.proofs.Moves.{Moves, steps, moves_refl, whole_moves, stubs_moves, stub_moves}
+use Rattle.verdict_laws.proofs.Moves.{Moves}
 
 module _ (s : Source) where
   -- to a call with that object these bits and spots

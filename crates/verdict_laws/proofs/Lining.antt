@@ -1,19 +1,18 @@
 -- All calls are added in their turns: each stands in line, its object is its own and has no bits yet.
-use Rattle.std.proofs.Common.{◌≡◌, ℕ, zero, suc, ◌+◌, ◌<◌, ◌≤◌, List, [], ◌∷◌, ◌++◌, length, refl, sym, ap, subst, ◌∙◌, ⊎_elim, inl, inr, arith}
+use Rattle.std.proofs.Common.{◌≡◌, ℕ, zero, suc, ◌+◌, ◌<◌, ◌≤◌, List, [], ◌∷◌, ◌++◌, length, refl, sym, ap, subst, ◌∙◌, ⊎_elim, arith}
 use Rattle.std.proofs.lemmas.Bool.{cases_lt}
 use Rattle.std.proofs.lemmas.List.{append_assoc, get_or_append_left, get_or_at, get_or_push, length_push}
-use Rattle.std.specs.Prelude.{Option, Some, None, Ok, slice_index_or}
+use Rattle.std.specs.Prelude.{Option, Some, Ok, slice_index_or}
 use Rattle.sc_world.specs.Tree.{is_pointer}
-use Rattle.sc_world.specs.Build.{Built, Build, goes_on, done}
 use Rattle.sc_world.specs.Gather.{Site}
-use Rattle.sc_world.specs.Layout.{Layout, Location, Occurrence, location, no_site, no_occurrence}
+use Rattle.sc_world.specs.Layout.{Layout, Occurrence, no_site, no_occurrence}
 use Rattle.sc_world.specs.Objects.{Ground}
 use Rattle.sc_world.specs.Occurrences.{object_if, occur_once, occur, occur_all}
 use Rattle.verdict_laws.proofs.Steps.{Post, chained, weaker}
-use Rattle.verdict_laws.proofs.Laying.{len, bare}
+use Rattle.verdict_laws.proofs.Laying.{len}
 use Rattle.verdict_laws.proofs.Tiles.{Tiled, tiled_through}
 use Rattle.verdict_laws.proofs.Moves.{Apart, apart_moves}
-use Rattle.verdict_laws.proofs.Numbered.{occ, site_of}
+use Rattle.verdict_laws.proofs.Numbered.{occ}
 use Rattle.verdict_laws.proofs.Numbering.{Lined}
 use Rattle.verdict_laws.proofs.Occurring.{Comes, object_comes}
 

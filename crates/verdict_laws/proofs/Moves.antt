@@ -1,23 +1,19 @@
 -- What is laid before bits are given to calls: each bit that is taken is one of a new location, and the object of each
 -- call has no bits yet.
-use Rattle.std.proofs.Common.{◌≡◌, ℕ, zero, suc, ◌+◌, ◌-◌, ◌<◌, ◌≤◌, Bool, true, false, List, [], ◌∷◌, ◌++◌, length, map, refl, sym, ap, subst, ◌∙◌, ⊎_elim, inl, inr, arith}
+use Rattle.std.proofs.Common.{◌≡◌, ℕ, zero, suc, ◌+◌, ◌-◌, ◌<◌, ◌≤◌, Bool, true, false, List, [], ◌∷◌, length, sym, ap, subst, ◌∙◌, ⊎_elim, arith}
 use Rattle.std.proofs.lemmas.Bool.{cases_lt, cases_eq}
-use Rattle.std.proofs.lemmas.List.{get_or_append_left, get_or_push, length_push, append_assoc, map_push}
-use Rattle.std.specs.Prelude.{Option, Some, None, Ok, Err, nat_eq, slice_index_or, if◌then◌else◌}
+use Rattle.std.specs.Prelude.{Some, None, nat_eq, slice_index_or, if◌then◌else◌}
 use Rattle.std.specs.List.{list_any}
 use Rattle.sc_world.specs.declared.run.Origin.{Origin}
 use Rattle.sc_world.specs.declared.run.Origin.TheVariants as origin
-use Rattle.sc_world.specs.Tree.{Ty, is_pointer, target_or_void}
+use Rattle.sc_world.specs.Tree.{Ty, target_or_void}
 use Rattle.sc_world.specs.Build.{Built, Build, goes_on, done}
-use Rattle.sc_world.specs.Source.{Source}
-use Rattle.sc_world.specs.Gather.{Found, Site}
 use Rattle.sc_world.specs.Layout.{Layout, Location, Occurrence, location, is_pointer_cell, no_occurrence}
-use Rattle.sc_world.specs.Objects.{Ground, Chosen, Nothing, Cells, CellsAndStates, parts_of, gives_cells, whole, stub, Object, Stub, set_target, follow_at, follow_all, follow_range, type_or_void, lay_params, lay_global, lay_globals, lay_locals, lay_literals, levels}
-use Rattle.sc_world.specs.Occurrences.{stubs_behind, is_zeroed, object_if, occur_once, occur, occur_all}
-use Rattle.verdict_laws.proofs.Steps.{Post, chained, weaker, both}
-use Rattle.verdict_laws.proofs.Laying.{len, bare, Grows, grows_refl, grows_trans, put_grows, put_len}
-use Rattle.verdict_laws.proofs.Objects.{Keeps, Lays, Stubs, whole_lays, stub_range, stub_one, target_grows}
-use Rattle.verdict_laws.proofs.Tiles.{Same, same_refl, same_trans, same_kept, put_same}
+use Rattle.sc_world.specs.Objects.{Ground, Chosen, Nothing, Cells, CellsAndStates, parts_of, whole, stub, Object, Stub, set_target, follow_at, follow_all, follow_range, type_or_void, lay_params, lay_global, lay_globals, lay_locals, lay_literals, levels}
+use Rattle.verdict_laws.proofs.Steps.{Post, chained, weaker}
+use Rattle.verdict_laws.proofs.Laying.{len, bare, Grows, grows_refl, grows_trans}
+use Rattle.verdict_laws.proofs.Objects.{Lays, Stubs, whole_lays, stub_range, stub_one, target_grows}
+use Rattle.verdict_laws.proofs.Tiles.{Same, same_refl, same_trans, same_kept}
 
 module _ (g : Ground) where
   pub record Moves (p q : Layout) : Type 0 where

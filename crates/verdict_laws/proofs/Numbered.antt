@@ -1,19 +1,18 @@
 -- The calls that have their bits: with the locations they have all bits below the number of bits.
-use Rattle.std.proofs.Common.{◌≡◌, ℕ, zero, suc, ◌+◌, ◌<◌, ◌≤◌, List, [], ◌∷◌, ◌++◌, length, refl, sym, ap, subst, ◌∙◌, ⊎_elim, inl, inr, arith}
+use Rattle.std.proofs.Common.{◌≡◌, ℕ, zero, suc, ◌+◌, ◌<◌, ◌≤◌, List, [], ◌∷◌, ◌++◌, length, refl, sym, ap, subst, ◌∙◌, ⊎_elim, arith}
 use Rattle.std.proofs.lemmas.Bool.{cases_lt, cases_eq}
 use Rattle.std.proofs.lemmas.List.{append_assoc, get_or_at, length_push, get_or-set_same, get_or-set_other, length-set, length-append, get_or_append_left}
-use Rattle.std.specs.Prelude.{Option, Some, None, slice_index_or, slice_set}
+use Rattle.std.specs.Prelude.{Some, slice_index_or, slice_set}
 use Rattle.std.specs.List.{flat_map}
-use Rattle.sc_world.specs.Build.{Built, Build, goes_on, done}
 use Rattle.sc_world.specs.Source.{Source}
 use Rattle.sc_world.specs.Gather.{Site}
-use Rattle.sc_world.specs.Layout.{Layout, Location, Occurrence, Spot, location, no_site, no_spot, no_occurrence}
+use Rattle.sc_world.specs.Layout.{Layout, Occurrence, Spot, location, no_site, no_spot, no_occurrence}
 use Rattle.sc_world.specs.Objects.{Ground}
 use Rattle.verdict_laws.specs.Bits.{Bits, how_many, own_width, spot_widths, spot_bits, call_bits, occurrence_bits}
 use Rattle.verdict_laws.proofs.Laying.{len}
 use Rattle.verdict_laws.proofs.Tiles.{Tiled, tiled_same, tiled_through, many_append}
 use Rattle.verdict_laws.proofs.Moves.{Apart}
-use Rattle.verdict_laws.proofs.Gives.{Gives, paired, plus_zero}
+use Rattle.verdict_laws.proofs.Gives.{paired, plus_zero}
 use Rattle.verdict_laws.proofs.Calls.{Works}
 
 abbrev pub total : (ℕ → ℕ) → ℕ → ℕ

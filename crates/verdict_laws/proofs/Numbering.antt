@@ -1,9 +1,8 @@
 -- All calls get their bits, in order.
-use Rattle.std.proofs.Common.{◌≡◌, ℕ, zero, suc, ◌+◌, ◌<◌, ◌≤◌, List, [], ◌∷◌, ◌++◌, length, refl, sym, ap, subst, ◌∙◌, arith}
-use Rattle.std.specs.Prelude.{Option, Some, Ok, slice_index_or, slice_set}
-use Rattle.sc_world.specs.Build.{Built, Build, goes_on, done}
+use Rattle.std.proofs.Common.{◌≡◌, ℕ, zero, suc, ◌+◌, ◌<◌, List, [], ◌∷◌, length, refl, sym, ap, subst, ◌∙◌, arith}
+use Rattle.std.specs.Prelude.{Ok, slice_index_or, slice_set}
 use Rattle.sc_world.specs.Gather.{Site}
-use Rattle.sc_world.specs.Layout.{Layout, Occurrence, no_site, no_occurrence}
+use Rattle.sc_world.specs.Layout.{Layout, Occurrence, no_site}
 use Rattle.sc_world.specs.Objects.{Ground}
 use Rattle.sc_world.specs.Occurrences.{effect_bits, number_site, number_turns, number_all}
 use Rattle.verdict_laws.specs.Bits.{own_width, spot_widths}

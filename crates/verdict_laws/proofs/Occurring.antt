@@ -1,22 +1,18 @@
 -- A call in one turn is added: its object is its own, and has no bits yet.
-use Rattle.std.proofs.Common.{◌≡◌, ℕ, zero, suc, ◌+◌, ◌<◌, ◌≤◌, Bool, true, false, List, [], ◌∷◌, ◌++◌, length, refl, sym, ap, subst, ◌∙◌, ⊎_elim, inl, inr, arith}
+use Rattle.std.proofs.Common.{◌≡◌, ℕ, ◌<◌, ◌≤◌, Bool, true, false, refl, sym, ap, subst, ⊎_elim, arith}
 use Rattle.std.proofs.lemmas.Bool.{cases_lt, cases_eq, true≢false}
-use Rattle.std.proofs.lemmas.List.{get_or_append_left, get_or_push, length_push}
-use Rattle.std.specs.Prelude.{Option, Some, None, Ok, slice_index_or}
-use Rattle.sc_world.specs.declared.run.Origin.{Origin}
+use Rattle.std.specs.Prelude.{Option, Some, None}
 use Rattle.sc_world.specs.declared.run.Origin.TheVariants as origin
-use Rattle.sc_world.specs.Tree.{is_pointer}
-use Rattle.sc_world.specs.Build.{Built, Build, goes_on, done}
+use Rattle.sc_world.specs.Build.{goes_on, done}
 use Rattle.sc_world.specs.Gather.{Site}
-use Rattle.sc_world.specs.Layout.{Layout, Location, Occurrence, location, no_occurrence}
+use Rattle.sc_world.specs.Layout.{Layout, Location, location}
 use Rattle.sc_world.specs.Objects.{Ground, Nothing, Stub, parts_of, whole, follow_range}
-use Rattle.sc_world.specs.Occurrences.{stubs_behind, is_zeroed, object_if, occur_once}
+use Rattle.sc_world.specs.Occurrences.{stubs_behind, is_zeroed, object_if}
 use Rattle.verdict_laws.proofs.Steps.{Post, chained, weaker}
 use Rattle.verdict_laws.proofs.Laying.{len, bare}
 use Rattle.verdict_laws.proofs.Objects.{Lays, Stubs, whole_lays, stub_range}
 use Rattle.verdict_laws.proofs.Tiles.{Same, same_kept}
-use Rattle.verdict_laws.proofs.Moves.{Moves, moves_refl, moves_trans, lays_move, stubs_move, Apart, apart_moves}
-use Rattle.verdict_laws.proofs.Numbered.{occ}
+use Rattle.verdict_laws.proofs.Moves.{Moves, moves_refl, moves_trans, lays_move, stubs_move}
 
 abbrev is_some : Option ℕ → Bool
 is_some None = false

@@ -1,9 +1,9 @@
 -- A whole layout: each bit belongs to one location or one call.
-use Rattle.std.proofs.Common.{◌≡◌, ℕ, zero, ◌+◌, ◌<◌, ◌≤◌, List, [], ◌∷◌, ◌++◌, length, refl, sym, ap, subst, ◌∙◌, arith}
+use Rattle.std.proofs.Common.{[], length, refl, ap, subst, arith}
 use Rattle.std.proofs.lemmas.Bool.{le-ltb}
-use Rattle.std.specs.Prelude.{Ok, Err, nat_lt}
+use Rattle.std.specs.Prelude.{Ok, Err}
 use Rattle.std.specs.List.{flat_map}
-use Rattle.sc_world.specs.Build.{Built, Build, goes_on}
+use Rattle.sc_world.specs.Build.{Built, goes_on}
 use Rattle.sc_world.specs.Source.{Source}
 use Rattle.sc_world.specs.Gather.{Found, nothing_found, gather_function}
 use Rattle.sc_world.specs.Layout.{Layout, no_layout, no_occurrence}

@@ -1,19 +1,18 @@
 -- The bits of the locations of a layout, beside those of other things, are those below its number of bits.
-use Rattle.std.proofs.Common.{◌≡◌, ℕ, zero, suc, ◌+◌, ◌-◌, ◌<◌, ◌≤◌, ◌&&◌, Bool, true, false, List, [], ◌∷◌, ◌++◌, length, refl, sym, ap, subst, ◌∙◌, ⊎_elim, inl, inr, arith}
-use Rattle.std.proofs.lemmas.Bool.{cases_lt, cases_eq, true≢false, lt-ltb, le-ltb, le-leb, lt-leb}
+use Rattle.std.proofs.Common.{◌≡◌, ℕ, zero, suc, ◌+◌, ◌<◌, ◌≤◌, ◌&&◌, Bool, true, false, List, [], ◌∷◌, ◌++◌, length, refl, sym, ap, ◌∙◌, ⊎_elim, inl, inr, arith}
+use Rattle.std.proofs.lemmas.Bool.{cases_lt, true≢false, lt-ltb, le-ltb, le-leb, lt-leb}
 use Rattle.std.proofs.lemmas.List.{set_past}
-use Rattle.std.specs.Prelude.{Option, Some, None, Result, Ok, Err, ◌⊎◌, nat_lt, nat_le, slice_index_or, slice_set, if◌then◌else◌}
+use Rattle.std.specs.Prelude.{Option, Some, None, Ok, Err, ◌⊎◌, nat_lt, nat_le, slice_index_or, slice_set, if◌then◌else◌}
 use Rattle.std.specs.List.{flat_map}
 use Rattle.sc_base.specs.declared.skip.LimitKind.TheVariants as limit
 use Rattle.sc_world.specs.declared.run.Origin.{Origin}
-use Rattle.sc_world.specs.declared.run.Origin.TheVariants as origin
 use Rattle.sc_world.specs.Tree.{Ty}
-use Rattle.sc_world.specs.Build.{Built, Build, goes_on, done}
+use Rattle.sc_world.specs.Build.{goes_on, done}
 use Rattle.sc_world.specs.Source.{Source}
 use Rattle.sc_world.specs.Layout.{Layout, Location, location, nowhere}
-use Rattle.sc_world.specs.Objects.{Chosen, add, stub, bits_if, push, gives_cells, gives_states, is_cell, cell_bits, state_bits, root_or, set_target, type_or_void}
+use Rattle.sc_world.specs.Objects.{add, stub, bits_if, push, gives_cells, gives_states, is_cell, cell_bits, state_bits, root_or, type_or_void}
 use Rattle.verdict_laws.specs.Bits.{Bits, has_bit, one_if, how_many, location_bits, bits_from}
-use Rattle.verdict_laws.proofs.Steps.{Post, chained, weaker, both}
+use Rattle.verdict_laws.proofs.Steps.{Post, weaker}
 use Rattle.verdict_laws.proofs.Laying.{len, stub_at}
 use Rattle.verdict_laws.proofs.Objects.{Keeps}
 

@@ -8,7 +8,7 @@ use Rattle.sum_rows.specs.declared.row.ItemRows.{ItemRows}
 use Rattle.sum_rows.specs.declared.row.Summary.{Summary}
 use Rattle.sum_rows.specs.declared.row.Write.{Write}
 use Rattle.sc_world.specs.Tree.{is_integer, is_pointer, int_bits}
-use Rattle.sc_world.specs.Source.{Source, Effect, Operation, Try, Allocate, Release, Ends, Expect, Known, Unknown, sum_at}
+use Rattle.sc_world.specs.Source.{Source, Effect, Try, Allocate, Known, Unknown, sum_at}
 use Rattle.sc_world.specs.Gather.{Site}
 use Rattle.sc_world.specs.Layout.{Layout, Location, Occurrence, Spot, no_site, no_spot}
 use Rattle.sc_world.specs.Objects.{cell_bits, state_bits, type_or_void}
