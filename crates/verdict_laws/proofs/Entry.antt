@@ -170,72 +170,72 @@ module _ (params globals : ℕ) where
     target_outer p q at less g e (inl is) = of_param (len p) at is.0 e less (g.origins at less ∙ is.1) is.2
     target_outer p q at less g e (inr is) = of_target (len p) at e less (outer_stays p q g at less is)
 
-    module _ (k : Keeps T) where
+    module _ (g : Ground) (k : Keeps g.source T) where
       point_shows : (p q : Layout) (at to : ℕ) → Shows p q → Post (λ u z. Shows p z) (set_target at to q)
       point_shows p q at to a =
-          weaker (λ u z. (Grows q z) × (len z ≡ len q) × (T q → T z)) (λ u z. Shows p z) (set_target at to q) (target_grows T k at to q)
+          weaker (λ u z. (Grows q z) × (len z ≡ len q) × (T q → T z)) (λ u z. Shows p z) (set_target at to q) (target_grows T g k at to q)
           (λ u z is. shows_trans p q z a (record {
             grows = is.0;
             outer = λ i low high. absurd (omega (arith, low, high, is.1));
             keeps = is.2;
           }))
 
-      object_cell_if : (b : Bool) (g : Ground) (t : Ty) (at : ℕ) (p : Layout) → at < len p → Entry p at
+      object_cell_if : (b : Bool) (t : Ty) (at : ℕ) (p : Layout) → at < len p → Entry p at
           → Post (λ u q. Shows p q)
           ((if b then (λ (p : Layout). goes_on (whole g CellsAndStates t (origin.Target at) p) (λ to. set_target at to)) else done tt) p)
-      object_cell_if false g t at p less is = shows_refl p
-      object_cell_if true g t at p less is =
+      object_cell_if false t at p less is = shows_refl p
+      object_cell_if true t at p less is =
           chained (Lays T CellsAndStates (len p) t (origin.Target at) (parts_of g.source t) p) (λ u q. Shows p q)
           (whole g CellsAndStates t (origin.Target at) p) (λ to. set_target at to)
-          (whole_lays T k g CellsAndStates t (origin.Target at) p)
+          (whole_lays T g k CellsAndStates t (origin.Target at) p)
           (λ to q a.
           point_shows p q at to
           (lays_show (len p) t (origin.Target at) g p to q a
           (target_outer p q at less (stays_from p q a.grows) a.first.origin is)))
 
-      object_at_cell : (g : Ground) (at : ℕ) (p : Layout) → at < len p → Entry p at
+      object_at_cell : (at : ℕ) (p : Layout) → at < len p → Entry p at
           → Post (λ u q. Shows p q) (follow_at g (Object CellsAndStates) at p)
-      object_at_cell g at p less is =
-          object_cell_if (is_pointer_cell (location p at)) g (target_or_void (type_or_void (location p at).type)) at p less is
+      object_at_cell at p less is =
+          object_cell_if (is_pointer_cell (location p at)) (target_or_void (type_or_void (location p at).type)) at p less is
 
-      object_all : (more at : ℕ) (g : Ground) (p : Layout) → at + more ≤ len p → ((i : ℕ) → at ≤ i → i < at + more → Entry p i)
+      object_all : (more at : ℕ) (p : Layout) → at + more ≤ len p → ((i : ℕ) → at ≤ i → i < at + more → Entry p i)
           → Post (λ u q. Shows p q) (follow_all more at g (Object CellsAndStates) p)
-      object_all zero at g p less es = shows_refl p
-      object_all (suc more) at g p less es =
+      object_all zero at p less es = shows_refl p
+      object_all (suc more) at p less es =
           chained (λ u q. Shows p q) (λ u q. Shows p q) (follow_at g (Object CellsAndStates) at p)
           (λ u. follow_all more (at + 1) g (Object CellsAndStates))
-          (object_at_cell g at p (omega (arith, less)) (es at (omega arith) (omega arith)))
+          (object_at_cell at p (omega (arith, less)) (es at (omega arith) (omega arith)))
           (λ u q a.
           weaker (λ u z. Shows q z) (λ u z. Shows p z) (follow_all more (at + 1) g (Object CellsAndStates) q)
-          (object_all more (at + 1) g q (omega (arith, less, a.grows.longer))
+          (object_all more (at + 1) q (omega (arith, less, a.grows.longer))
           (λ i low high.
           entry_stays p q (stays_from p q a.grows) i (omega (arith, less, high)) (es i (omega (arith, low)) (omega (arith, high)))))
           (λ u z b. shows_trans p q z a b))
 
-      object_range : (from to : ℕ) (g : Ground) (p : Layout) → to ≤ len p → ((i : ℕ) → from ≤ i → i < to → Entry p i)
+      object_range : (from to : ℕ) (p : Layout) → to ≤ len p → ((i : ℕ) → from ≤ i → i < to → Entry p i)
           → Post (λ u q. Shows p q) (follow_range from to g (Object CellsAndStates) p)
-      object_range from to g p less es =
+      object_range from to p less es =
           ⊎_elim
           (λ (some : from < to).
-          object_all (to - from) from g p (omega (arith, less, some)) (λ i low high. es i low (omega (arith, high, some))))
+          object_all (to - from) from p (omega (arith, less, some)) (λ i low high. es i low (omega (arith, high, some))))
           (λ (none : to ≤ from).
           let e : to - from ≡ zero = omega (arith, none) in
           subst (λ n. Post (λ u q. Shows p q) (follow_all n from g (Object CellsAndStates) p)) (sym e) (shows_refl p))
           (cases_lt from to)
 
-      pub levels_settle : (reach from to : ℕ) (g : Ground) (p : Layout) → to ≤ len p → ((i : ℕ) → from ≤ i → i < to → Entry p i)
+      pub levels_settle : (reach from to : ℕ) (p : Layout) → to ≤ len p → ((i : ℕ) → from ≤ i → i < to → Entry p i)
           → Post (λ u q. Settles p q) (levels reach from to g p)
       unfolding Entry
-      levels_settle zero from to g p less es =
-          weaker (λ u q. Stubs T p q) (λ u q. Settles p q) (follow_range from to g Stub p) (stub_range T k from to g p)
+      levels_settle zero from to p less es =
+          weaker (λ u q. Stubs T p q) (λ u q. Settles p q) (follow_range from to g Stub p) (stub_range T g k from to p)
           (λ u q a. stubs_settle p q a)
-      levels_settle (suc reach) from to g p less es =
+      levels_settle (suc reach) from to p less es =
           chained (λ u q. Shows p q) (λ u q. Settles p q) (follow_range from to g (Object CellsAndStates) p)
           (λ u. λ q. levels reach (len p) (len q) g q)
-          (object_range from to g p less es)
+          (object_range from to p less es)
           (λ u q a.
           behind_it p q (levels reach (len p) (len q) g q) (shows_settle p q a)
-          (levels_settle reach (len p) (len q) g q (omega arith) (λ i low high. inr (a.outer i low high))))
+          (levels_settle reach (len p) (len q) q (omega arith) (λ i low high. inr (a.outer i low high))))
 
       -- parameters, each of an integer or a pointer, and globals: all locations are entries
       pub record Enters (p q : Layout) : Type 0 where
@@ -262,64 +262,64 @@ module _ (params globals : ℕ) where
       unfolding Entry
       shows_enter p q a = record { settles = shows_settle p q a; entries = λ i low high. inr (a.outer i low high) }
 
-      param_enters : (n : ℕ) (t : Ty) (g : Ground) (p : Layout) (at : ℕ) (q : Layout) → n < params → parts_of g.source t ≡ NoParts
+      param_enters : (n : ℕ) (t : Ty) (p : Layout) (at : ℕ) (q : Layout) → n < params → parts_of g.source t ≡ NoParts
           → Lays T Cells (len p) t (origin.Param n) (parts_of g.source t) p at q → Enters p q
       unfolding Entry
-      param_enters n t g p at q less none a = record {
+      param_enters n t p at q less none a = record {
         settles = lays_settle Cells (len p) t (origin.Param n) g p at q refl a;
         entries = λ i low high.
             let here : len p ≡ i = omega (arith, low, high, a.alone none) in
             inl (n, subst (λ j. (location q j).origin ≡ origin.Param n) here a.first.origin, less);
       }
 
-      params_enter : (n : ℕ) (ts : List Ty) (g : Ground) (p : Layout) → n + length ts ≤ params
+      params_enter : (n : ℕ) (ts : List Ty) (p : Layout) → n + length ts ≤ params
           → AllByRecursion (λ t. parts_of g.source t ≡ NoParts) ts → Post (λ u q. Enters p q) (lay_params n ts g p)
-      params_enter n [] g p less none = enters_refl p
-      params_enter n (t ∷ ts) g p less (one, rest) =
+      params_enter n [] p less none = enters_refl p
+      params_enter n (t ∷ ts) p less (one, rest) =
           chained (Lays T Cells (len p) t (origin.Param n) (parts_of g.source t) p) (λ u q. Enters p q) (whole g Cells t (origin.Param n) p)
-          (λ u. lay_params (n + 1) ts g) (whole_lays T k g Cells t (origin.Param n) p)
+          (λ u. lay_params (n + 1) ts g) (whole_lays T g k Cells t (origin.Param n) p)
           (λ at q a.
-          behind_entry p q (lay_params (n + 1) ts g q) (param_enters n t g p at q (omega (arith, less)) one a)
-          (params_enter (n + 1) ts g q (omega (arith, less)) rest))
+          behind_entry p q (lay_params (n + 1) ts g q) (param_enters n t p at q (omega (arith, less)) one a)
+          (params_enter (n + 1) ts q (omega (arith, less)) rest))
 
-      global_if : (b : Bool) (n : ℕ) (t : Ty) (g : Ground) (p : Layout) → n < globals
+      global_if : (b : Bool) (n : ℕ) (t : Ty) (p : Layout) → n < globals
           → Post (λ u q. Enters p q)
           ((if b then (λ (p : Layout). goes_on (whole g CellsAndStates t (origin.Global n) p) (λ u. done (tt {0}))) else done (tt {0})) p)
-      global_if false n t g p less = enters_refl p
-      global_if true n t g p less =
+      global_if false n t p less = enters_refl p
+      global_if true n t p less =
           chained (Lays T CellsAndStates (len p) t (origin.Global n) (parts_of g.source t) p) (λ u q. Enters p q)
-          (whole g CellsAndStates t (origin.Global n) p) (λ u. done tt) (whole_lays T k g CellsAndStates t (origin.Global n) p)
+          (whole g CellsAndStates t (origin.Global n) p) (λ u. done tt) (whole_lays T g k CellsAndStates t (origin.Global n) p)
           (λ at q a.
           shows_enter p q
           (lays_show (len p) t (origin.Global n) g p at q a (of_global (len p) n a.first.origin less)))
 
-      globals_enter : (n : ℕ) (ts : List Ty) (g : Ground) (p : Layout) → n + length ts ≤ globals
+      globals_enter : (n : ℕ) (ts : List Ty) (p : Layout) → n + length ts ≤ globals
           → Post (λ u q. Enters p q) (lay_globals n ts g p)
-      globals_enter n [] g p less = enters_refl p
-      globals_enter n (t ∷ ts) g p less =
+      globals_enter n [] p less = enters_refl p
+      globals_enter n (t ∷ ts) p less =
           chained (λ u q. Enters p q) (λ u q. Enters p q) (lay_global g n t p) (λ u. lay_globals (n + 1) ts g)
-          (global_if (list_any (nat_eq n) g.found.globals) n t g p (omega (arith, less)))
-          (λ u q a. behind_entry p q (lay_globals (n + 1) ts g q) a (globals_enter (n + 1) ts g q (omega (arith, less))))
+          (global_if (list_any (nat_eq n) g.found.globals) n t p (omega (arith, less)))
+          (λ u q a. behind_entry p q (lay_globals (n + 1) ts g q) a (globals_enter (n + 1) ts q (omega (arith, less))))
 
-      pub locals_settle : (n : ℕ) (ts : List Ty) (g : Ground) (p : Layout) → Post (λ u q. Settles p q) (lay_locals n ts g p)
-      locals_settle n [] g p = settles_refl p
-      locals_settle n (t ∷ ts) g p =
+      pub locals_settle : (n : ℕ) (ts : List Ty) (p : Layout) → Post (λ u q. Settles p q) (lay_locals n ts g p)
+      locals_settle n [] p = settles_refl p
+      locals_settle n (t ∷ ts) p =
           chained (Lays T Nothing (len p) t (origin.Local n) (parts_of g.source t) p) (λ u q. Settles p q)
-          (whole g Nothing t (origin.Local n) p) (λ u. lay_locals (n + 1) ts g) (whole_lays T k g Nothing t (origin.Local n) p)
+          (whole g Nothing t (origin.Local n) p) (λ u. lay_locals (n + 1) ts g) (whole_lays T g k Nothing t (origin.Local n) p)
           (λ at q a.
           behind_it p q (lay_locals (n + 1) ts g q) (lays_settle Nothing (len p) t (origin.Local n) g p at q refl a)
-          (locals_settle (n + 1) ts g q))
+          (locals_settle (n + 1) ts q))
 
       pub literals_settle : (os : List Origin) (p : Layout) → Post (λ u q. Settles p q) (lay_literals os p)
       literals_settle [] p = settles_refl p
       literals_settle (o ∷ os) p =
-          chained (λ at q. Stubs T p q) (λ u q. Settles p q) (stub o p) (λ u. lay_literals os) (stub_one T k o p)
+          chained (λ at q. Stubs T p q) (λ u q. Settles p q) (stub o p) (λ u. lay_literals os) (stub_one T g k o p)
           (λ at q a. behind_it p q (lay_literals os q) (stubs_settle p q a) (literals_settle os q))
 
-      pub entered : (g : Ground) (p : Layout) → len p ≡ 0 → length g.source.params ≤ params → length g.source.globals ≤ globals
+      pub entered : (p : Layout) → len p ≡ 0 → length g.source.params ≤ params → length g.source.globals ≤ globals
           → AllByRecursion (λ t. parts_of g.source t ≡ NoParts) g.source.params
           → Post (λ u q. Enters p q) (goes_on (lay_params 0 g.source.params g p) (λ u. lay_globals 0 g.source.globals g))
-      entered g p e few few_globals none =
+      entered p e few few_globals none =
           chained (λ u q. Enters p q) (λ u q. Enters p q) (lay_params 0 g.source.params g p) (λ u. lay_globals 0 g.source.globals g)
-          (params_enter 0 g.source.params g p (omega (arith, few)) none)
-          (λ u q a. behind_entry p q (lay_globals 0 g.source.globals g q) a (globals_enter 0 g.source.globals g q (omega (arith, few_globals))))
+          (params_enter 0 g.source.params p (omega (arith, few)) none)
+          (λ u q a. behind_entry p q (lay_globals 0 g.source.globals g q) a (globals_enter 0 g.source.globals q (omega (arith, few_globals))))

@@ -4,3 +4,12 @@ pub mod Objects
 pub mod Entry
 pub mod Settled
 pub mod Fitting
+pub mod Tiles
+pub mod Moves
+pub mod Gives
+pub mod Calls
+pub mod Numbered
+pub mod Numbering
+pub mod Occurring
+pub mod Lining
+pub mod Owned

@@ -17,8 +17,8 @@ use Rattle.verdict_laws.proofs.Steps.{Post, chained, weaker, both}
 use Rattle.verdict_laws.proofs.Laying.{len, bare, Grows, grows_refl, grows_trans, pushed_len, pushed_at, pushed_grows, IsAdded, add_lays, stub_at, IsStubbed, stub_lays, IsPut, target_lays, put_len, put_grows}
 
 -- what each step that adds a location or lets a pointer point keeps
-pub record Keeps (T : Layout → Type 0) : Type 0 where
-  pub added : (s : Source) (c : Chosen) (root : Option ℕ) (t : Ty) (o : Origin) (p : Layout) → Post (λ at q. T p → T q) (add s c root t o p)
+pub record Keeps (s : Source) (T : Layout → Type 0) : Type 0 where
+  pub added : (c : Chosen) (root : Option ℕ) (t : Ty) (o : Origin) (p : Layout) → Post (λ at q. T p → T q) (add s c root t o p)
   pub stubbed : (o : Origin) (p : Layout) → Post (λ at q. T p → T q) (stub o p)
   pub pointed : (at to : ℕ) (p : Layout) → Post (λ u q. T p → T q) (set_target at to p)
 
@@ -210,16 +210,16 @@ module _ (T : Layout → Type 0) where
         keeps = λ t. b.keeps (kept t);
       }
 
-  module _ (k : Keeps T) where
-    pub object_lays : (deep : ℕ) (g : Ground) (c : Chosen) (root : Option ℕ) (t : Ty) (o : Origin) (p : Layout)
+  module _ (g : Ground) (k : Keeps g.source T) where
+    pub object_lays : (deep : ℕ) (c : Chosen) (root : Option ℕ) (t : Ty) (o : Origin) (p : Layout)
         → Post (Lays c (root_or root (len p)) t o (parts_of g.source t) p) (object deep g c root t o p)
     unfolding object IsPartLayer
-    object_lays zero g c root t o p = tt
-    object_lays (suc deep) g c root t o p =
+    object_lays zero c root t o p = tt
+    object_lays (suc deep) c root t o p =
         chained (λ at q. IsAdded c root t o p at q × (T p → T q)) (Lays c (root_or root (len p)) t o (parts_of g.source t) p)
         (add g.source c root t o p)
         (λ at. λ q. goes_on (parts g (object deep g c (Some (root_or root at))) at t q) (λ u. done at))
-        (both (IsAdded c root t o p) (λ at q. T p → T q) (add g.source c root t o p) (add_lays g.source c root t o p) (k.added g.source c root t o p))
+        (both (IsAdded c root t o p) (λ at q. T p → T q) (add g.source c root t o p) (add_lays g.source c root t o p) (k.added c root t o p))
         (λ at q is.
         let added = is.0 in
         chained (λ u z. Adds c (root_or root at) at q z × (parts_of g.source t ≡ NoParts → len z ≡ len q))
@@ -229,15 +229,15 @@ module _ (T : Layout → Type 0) where
         (λ v s up z less.
         weaker (Lays c (root_or root at) v (origin.Part up s) (parts_of g.source v) z) (λ w y. Adds c (root_or root at) up z y)
         (object deep g c (Some (root_or root at)) v (origin.Part up s) z)
-        (object_lays deep g c (Some (root_or root at)) v (origin.Part up s) z)
+        (object_lays deep c (Some (root_or root at)) v (origin.Part up s) z)
         (λ w y lays. as_part c (root_or root at) v s (parts_of g.source v) up z w y less lays))
         g.found at (parts_of g.source t) q
         (omega (arith, added.here, pushed_len p q added.l added.is)))
         (λ u z a. laid_of c root t o (parts_of g.source t) p at q z added is.1 a.0 a.1))
 
-    pub whole_lays : (g : Ground) (c : Chosen) (t : Ty) (o : Origin) (p : Layout)
+    pub whole_lays : (c : Chosen) (t : Ty) (o : Origin) (p : Layout)
         → Post (Lays c (len p) t o (parts_of g.source t) p) (whole g c t o p)
-    whole_lays g c t o p = object_lays 257 g c None t o p
+    whole_lays c t o p = object_lays 257 c None t o p
 
     stub_stubs : (o : Origin) (p : Layout) → Post (λ at q. Stubs p q) (stub o p)
     stub_stubs o p =
@@ -285,18 +285,18 @@ module _ (T : Layout → Type 0) where
         weaker (λ u z. (Grows q z) × (len z ≡ len q) × (T q → T z)) (λ u z. Stubs p z) (set_target at to q) (target_grows at to q)
         (λ u z is. pointed_stubs p q z a is.0 is.1 is.2))
 
-    stub_at_cell : (g : Ground) (at : ℕ) (p : Layout) → Post (λ u q. Stubs p q) (follow_at g Stub at p)
-    stub_at_cell g at p = stub_cell_if (is_pointer_cell (location p at)) (origin.Target at) at p
+    stub_at_cell : (at : ℕ) (p : Layout) → Post (λ u q. Stubs p q) (follow_at g Stub at p)
+    stub_at_cell at p = stub_cell_if (is_pointer_cell (location p at)) (origin.Target at) at p
 
-    stub_all : (more at : ℕ) (g : Ground) (p : Layout) → Post (λ u q. Stubs p q) (follow_all more at g Stub p)
-    stub_all zero at g p = stubs_refl p
-    stub_all (suc more) at g p =
-        chained (λ u q. Stubs p q) (λ u q. Stubs p q) (follow_at g Stub at p) (λ u. follow_all more (at + 1) g Stub) (stub_at_cell g at p)
-        (λ u q a. weaker (λ u z. Stubs q z) (λ u z. Stubs p z) (follow_all more (at + 1) g Stub q) (stub_all more (at + 1) g q)
+    stub_all : (more at : ℕ) (p : Layout) → Post (λ u q. Stubs p q) (follow_all more at g Stub p)
+    stub_all zero at p = stubs_refl p
+    stub_all (suc more) at p =
+        chained (λ u q. Stubs p q) (λ u q. Stubs p q) (follow_at g Stub at p) (λ u. follow_all more (at + 1) g Stub) (stub_at_cell at p)
+        (λ u q a. weaker (λ u z. Stubs q z) (λ u z. Stubs p z) (follow_all more (at + 1) g Stub q) (stub_all more (at + 1) q)
         (λ u z b. stubs_trans p q z a b))
 
-    pub stub_range : (from to : ℕ) (g : Ground) (p : Layout) → Post (λ u q. Stubs p q) (follow_range from to g Stub p)
-    stub_range from to g p = stub_all (to - from) from g p
+    pub stub_range : (from to : ℕ) (p : Layout) → Post (λ u q. Stubs p q) (follow_range from to g Stub p)
+    stub_range from to p = stub_all (to - from) from p
 
     pub stub_one : (o : Origin) (p : Layout) → Post (λ at q. Stubs p q) (stub o p)
     stub_one o p = stub_stubs o p

@@ -29,10 +29,10 @@ use Rattle.verdict_laws.proofs.Entry.{Settled, Entry, entry_stays, Settles, sett
 pub Few : Layout → Type 0
 Few p = len p ≤ 256
 
-few_kept : Keeps Few
+few_kept : (s : Source) → Keeps s Few
 unfolding Few
-few_kept = record {
-  added = λ s c root t o p.
+few_kept s = record {
+  added = λ c root t o p.
       weaker (IsAdded c root t o p) (λ at q. Few p → Few q) (add s c root t o p) (add_lays s c root t o p)
       (λ at q is few. omega (arith, pushed_len p q is.l is.is, is.is.room));
   stubbed = λ o p.
@@ -140,13 +140,13 @@ module _ (params globals : ℕ) where
   stubs_if : (b : Bool) (from to : ℕ) (g : Ground) (p : Layout) → Post (λ u q. To p q) (stubs_behind b from to g p)
   stubs_if true from to g p = nothing p
   stubs_if false from to g p =
-      weaker (λ u q. Stubs Few p q) (λ u q. To p q) (follow_range from to g Stub p) (stub_range Few few_kept from to g p)
+      weaker (λ u q. Stubs Few p q) (λ u q. To p q) (follow_range from to g Stub p) (stub_range Few g (few_kept g.source) from to p)
       (λ u q a. stubs_settle params globals Few p q a)
 
   whole_settles : (c : Chosen) (g : Ground) (t : Ty) (o : Origin) (p : Layout) → gives_states c ≡ false
       → Post (λ at q. To p q) (whole g c t o p)
   whole_settles c g t o p e =
-      weaker (Lays Few c (len p) t o (parts_of g.source t) p) (λ at q. To p q) (whole g c t o p) (whole_lays Few few_kept g c t o p)
+      weaker (Lays Few c (len p) t o (parts_of g.source t) p) (λ at q. To p q) (whole g c t o p) (whole_lays Few g (few_kept g.source) c t o p)
       (λ at q a. lays_settle params globals Few c (len p) t o g p at q e a)
 
   object_by : (b : Bool) (g : Ground) (n : ℕ) (s : Site) (p : Layout) → Post (λ o q. To p q) (object_if b g n s p)
@@ -224,27 +224,27 @@ module _ (params globals : ℕ) where
   outs_settle g f k (x ∷ xs) p =
       goes p (out_spot g f k x.item p) (λ u. out_spots g f k xs) (out_settles g f k x.item p) (λ u q. outs_settle g f k xs q)
 
-  pointer_settles : (k : ℕ) (p : Layout) → Post (λ u q. To p q) (pointer_spot k p)
-  pointer_settles k p =
+  pointer_settles : (g : Ground) (k : ℕ) (p : Layout) → Post (λ u q. To p q) (pointer_spot k p)
+  pointer_settles g k p =
       goes p (stub (origin.Call k) p)
       (λ at q. Ok (tt {0}, record q { bits = q.bits + 1; spots = q.spots ++ record { bit = q.bits; object = Some at } ∷ [] }))
-      (weaker (λ at q. Stubs Few p q) (λ at q. To p q) (stub (origin.Call k) p) (stub_one Few few_kept (origin.Call k) p)
+      (weaker (λ at q. Stubs Few p q) (λ at q. To p q) (stub (origin.Call k) p) (stub_one Few g (few_kept g.source) (origin.Call k) p)
       (λ at q a. stubs_settle params globals Few p q a))
       (λ at q. same_locations q (record q { bits = q.bits + 1; spots = q.spots ++ record { bit = q.bits; object = Some at } ∷ [] }) refl)
 
-  write_by : (b c : Bool) (k n : ℕ) (p : Layout)
+  write_by : (g : Ground) (b c : Bool) (k n : ℕ) (p : Layout)
       → Post (λ u q. To p q)
       ((if b then done (tt {0}) else (if c then pointer_spot k else
       (λ (p' : Layout). Ok (tt {0}, record p' { bits = p'.bits + n; spots = p'.spots ++ record { bit = p'.bits; object = None } ∷ [] })))) p)
-  write_by true c k n p = nothing p
-  write_by false true k n p = pointer_settles k p
-  write_by false false k n p = same_locations p _ refl
+  write_by g true c k n p = nothing p
+  write_by g false true k n p = pointer_settles g k p
+  write_by g false false k n p = same_locations p _ refl
 
-  writes_settle : (items : List ItemRows) (k : ℕ) (xs : List Write) (p : Layout) → Post (λ u q. To p q) (write_spots items k xs p)
-  writes_settle items k [] p = nothing p
-  writes_settle items k (x ∷ xs) p =
+  writes_settle : (g : Ground) (items : List ItemRows) (k : ℕ) (xs : List Write) (p : Layout) → Post (λ u q. To p q) (write_spots items k xs p)
+  writes_settle g items k [] p = nothing p
+  writes_settle g items k (x ∷ xs) p =
       goes p (write_spot items k x p) (λ u. write_spots items k xs)
-      (write_by (is_out_path items x.path) (nat_eq x.width 0) k x.width p) (λ u q. writes_settle items k xs q)
+      (write_by g (is_out_path items x.path) (nat_eq x.width 0) k x.width p) (λ u q. writes_settle g items k xs q)
 
   known_settles : (g : Ground) (k : ℕ) (f : Signature) (o : Option Summary) (p : Layout) → Post (λ u q. To p q) (known_spots g k f o p)
   known_settles g k f None p = nothing p
@@ -257,7 +257,7 @@ module _ (params globals : ℕ) where
       (params_settle sum.items q)
       (λ u z.
       goes z (out_spots g f k sum.items z) (λ u. write_spots sum.items k sum.writes) (outs_settle g f k sum.items z)
-      (λ u y. writes_settle sum.items k sum.writes y)))
+      (λ u y. writes_settle g sum.items k sum.writes y)))
 
   effect_settles : (g : Ground) (k : ℕ) (x : Site) (o : Option ℕ) (e : Effect) (p : Layout) → Post (λ u q. To p q) (effect_bits g k x o e p)
   effect_settles g k x o (Operation n) p = nothing p
@@ -309,17 +309,17 @@ module _ (params globals : ℕ) where
       (λ u. λ z. goes_on (lay_literals g.found.literals z)
       (λ u. λ y. goes_on (levels g.source.reach 0 (len q) g y)
       (λ u. λ w. goes_on (occur_all 0 g.found.sites g w) (λ u. number_all 0 g.found.sites g))))
-      (locals_settle params globals Few few_kept 0 g.source.locals g q)
+      (locals_settle params globals Few g (few_kept g.source) 0 g.source.locals q)
       (λ u z a.
       chained (λ u y. To q y) (λ u y. To q y) (lay_literals g.found.literals z)
       (λ u. λ y. goes_on (levels g.source.reach 0 (len q) g y)
       (λ u. λ w. goes_on (occur_all 0 g.found.sites g w) (λ u. number_all 0 g.found.sites g)))
-      (and_then q z (lay_literals g.found.literals z) a (literals_settle params globals Few few_kept g.found.literals z))
+      (and_then q z (lay_literals g.found.literals z) a (literals_settle params globals Few g (few_kept g.source) g.found.literals z))
       (λ u y b.
       chained (λ u w. To q w) (λ u w. To q w) (levels g.source.reach 0 (len q) g y)
       (λ u. λ w. goes_on (occur_all 0 g.found.sites g w) (λ u. number_all 0 g.found.sites g))
       (and_then q y (levels g.source.reach 0 (len q) g y) b
-      (levels_settle params globals Few few_kept g.source.reach 0 (len q) g y b.stays.longer
+      (levels_settle params globals Few g (few_kept g.source) g.source.reach 0 (len q) y b.stays.longer
       (λ i low high. entry_stays params globals q y b.stays i high (es i high))))
       (λ u w c.
       and_then q w (goes_on (occur_all 0 g.found.sites g w) (λ u. number_all 0 g.found.sites g)) c
@@ -343,15 +343,15 @@ module _ (params globals : ℕ) where
   unfolding rest
   laid_settles g p none few few_globals alone =
       weaker (λ u q. To p q) (λ u q. IsSettled q) (lay_out g p)
-      (entered_rest (lay_params 0 g.source.params g p) (entered params globals Few few_kept g p none few few_globals alone))
+      (entered_rest (lay_params 0 g.source.params g p) (entered params globals Few g (few_kept g.source) p none few few_globals alone))
       (λ u q a. settled_from p q none a)
     where
       entered_rest : (m : Built Layout (Unit {0}))
-          → Post (λ u q. Enters params globals Few few_kept p q) (goes_on m (λ u. lay_globals 0 g.source.globals g))
+          → Post (λ u q. Enters params globals Few g (few_kept g.source) p q) (goes_on m (λ u. lay_globals 0 g.source.globals g))
           → Post (λ u q. To p q) (goes_on m (λ u. λ z. goes_on (lay_globals 0 g.source.globals g z) (λ u. λ q. rest g q)))
       entered_rest (Err e) h = tt
       entered_rest (Ok (u, z)) h =
-          chained (λ u q. Enters params globals Few few_kept p q) (λ u q. To p q) (lay_globals 0 g.source.globals g z) (λ u. λ q. rest g q) h
+          chained (λ u q. Enters params globals Few g (few_kept g.source) p q) (λ u q. To p q) (lay_globals 0 g.source.globals g z) (λ u. λ q. rest g q) h
           (λ u q a.
           and_then p q (rest g q) a.settles (rest_settles g q (λ i high. a.entries i (omega (arith, none)) high)))
 
@@ -376,7 +376,7 @@ abbrev pub OfLayout : (Layout → Type 0) → Result Layout LimitKind → Type 0
 OfLayout P (Ok p) = P p
 OfLayout P (Err e) = Unit {0}
 
-laid_of : {A : Type 0} (P : Layout → Type 0) (m : Built Layout A) → Post (λ a p. P p) m → OfLayout P (laid m)
+pub laid_of : {A : Type 0} (P : Layout → Type 0) (m : Built Layout A) → Post (λ a p. P p) m → OfLayout P (laid m)
 laid_of P (Ok (a, p)) h = h
 laid_of P (Err e) h = tt
 

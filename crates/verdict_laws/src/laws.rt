@@ -11,6 +11,7 @@ ghost use Rattle.sc_world.specs.Programs.{types_of};
 ghost use Rattle.sc_world.specs.Verdict.{Answers, done_with, verdict_of};
 ghost use Rattle.program_verdicts.specs.Verdicts.{verdict_in};
 ghost use Rattle.verdict_laws.specs.Fits.{Fits, AreTypedParams, global_types};
+ghost use Rattle.verdict_laws.specs.Bits.{EachOfOne, things};
 
 use program_verdicts::verdicts_by_callees;
 
@@ -28,3 +29,9 @@ pub fn verdicts_fit()
 {
     verdicts_by_callees();
 }
+
+/// In the layout of a function each bit of the choice belongs to exactly one thing: to a cell, to a state at entry, to a
+/// call in one turn, or to what a call says of an item or a written path of its callee; and no thing has another bit.
+pub fn each_bit_is_of_one_thing()
+    ensures { (s : Source) (p : Layout) → places s ≡ Ok p → EachOfOne p.bits (things s p) }
+{}

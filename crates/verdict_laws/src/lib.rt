@@ -4,4 +4,4 @@
 
 mod laws;
 
-pub use laws::verdicts_fit;
+pub use laws::{each_bit_is_of_one_thing, verdicts_fit};
