@@ -6,4 +6,3 @@ pub mod Walk
 pub mod Induction
 pub mod Declared
 pub mod Filled
-pub mod Lengths
