@@ -1,4 +1,5 @@
 pub mod Names
+pub mod Unnamed
 pub mod Gathered
 pub mod Laid
 pub mod Evaluated

@@ -99,3 +99,7 @@ module _ (names : List (List ℕ)) where
 -- no function of the program calls one that tries to lock
 abbrev pub ProgramCallsNoTry : Program → Type 0
 ProgramCallsNoTry p = (f : ℕ) → StatementCallsNoTry p.names (own (structs_of p) (slice_get p.functions f)).body
+
+-- no name is that of a function that tries to lock
+abbrev pub NoNameTries : List (List ℕ) → Type 0
+NoNameTries names = (n : ℕ) → trying (slice_index_or names n []) ≡ None

@@ -11,16 +11,17 @@ ghost use Rattle.sc_world.specs.Shows as query;
 ghost use Rattle.sc_world.specs.Verdict as verdict;
 ghost use Rattle.program_verdicts.specs.CallGraph.{rows};
 ghost use Rattle.program_verdicts.specs.Verdicts.{verdicts};
-ghost use Rattle.machine_laws.specs.Tries.{StatementCallsNoTry, ProgramCallsNoTry, with_file, without_file};
+ghost use Rattle.machine_laws.specs.Tries.{NoNameTries, ProgramCallsNoTry, StatementCallsNoTry, with_file, without_file};
 
 /// A program that calls no function that tries to lock by its name has the same call graph and the same verdicts with
 /// the machine of locks given by a file as without a file: all summaries with their rows, and all reports with the runs
-/// that show them.
-#[tactic(auto, using(crate::proofs::Called::rows_same, crate::proofs::Called::verdicts_same))]
+/// that show them. Where no name of the program is that of such a function, none is called.
+#[tactic(auto, using(crate::proofs::Called::rows_same, crate::proofs::Called::verdicts_same, crate::proofs::Unnamed::unnamed))]
 pub fn lock_from_a_file()
     ensures calls { (p : Program) → ProgramCallsNoTry p → rows (without_file p) ≡ rows (with_file p) }
     ensures verdicts { (p : Program) (depth reach : ℕ) → ProgramCallsNoTry p
         → verdicts (without_file p) depth reach ≡ verdicts (with_file p) depth reach }
+    ensures named { (p : Program) → NoNameTries p.names → ProgramCallsNoTry p }
 {}
 
 /// What functions that try to lock change in the definitions of one function. In a given layout they change nothing: its

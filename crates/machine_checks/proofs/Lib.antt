@@ -1,0 +1,3 @@
+pub mod Builtins
+pub mod Files
+pub mod Texts
