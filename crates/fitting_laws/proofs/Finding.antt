@@ -340,7 +340,7 @@ module _ (s : Source) (f : Found) (p : Layout) (laid : IsLaidFor s f p.locations
       (element_type is.0 t n i is.1 (stands_typed k (Array t n) is.0 stands is.2) is.4)
 
   -- a location of a struct type
-  struct_type : (k m : ℕ) (y : Option Ty) → type_is y (Struct m) ≡ true → y ≡ Some (Struct m)
+  pub struct_type : (k m : ℕ) (y : Option Ty) → type_is y (Struct m) ≡ true → y ≡ Some (Struct m)
   struct_type k m None h = absurd (clash false h refl)
   struct_type k m (Some (Struct n)) h = λ i. Some (Struct (number_is n m h i))
   struct_type k m (Some Void) h = absurd (clash false h refl)
@@ -352,6 +352,15 @@ module _ (s : Source) (f : Found) (p : Layout) (laid : IsLaidFor s f p.locations
   struct_type k m (Some (Func w i ts b)) h = absurd (clash false h refl)
   struct_type k m (Some (Opaque i)) h = absurd (clash false h refl)
 
+  -- a member that was found has the type of the members of its name
+  pub member_typed : (k m : ℕ) (n : NameId) (t : Ty) (to : ℕ) → HasMember s m n t → (at p.locations k).type ≡ Some (Struct m)
+      → part p k (step.Field n) ≡ Some to → has_type (location p to) t ≡ true
+  member_typed k m n t to h is e =
+      let typed = part_typed k (step.Field n) to e in
+      let whole = some_same typed.0 (Struct m) (sym typed.2 ∙ is) in
+      let mine = subst (λ u. IsPart (parts_of s u) (step.Field n) typed.1) whole typed.4 in
+      typed_as (at p.locations to).type t (typed.3 ∙ (λ i. Some ((sym mine.3 ∙ h.all mine.0 mine.1 mine.2) i)))
+
   pub member_fits : (m : ℕ) (n : NameId) (t : Ty) → is_named f n ≡ true → HasMember s m n t → MemberFits p (Struct m) n t
   member_fits m n t named h k (inr (less, may, stub)) = absurd (clash false may refl)
   member_fits m n t named h k (inl stands) =
@@ -361,7 +370,4 @@ module _ (s : Source) (f : Found) (p : Layout) (laid : IsLaidFor s f p.locations
       let has = parts h.one.0 n h.one.1 h.one.2 named in
       let first = first_is (λ l. is_part_of k (step.Field n) l.origin) 0 p.locations has.0 has.1
           (subst (λ z. is_part_of k (step.Field n) z ≡ true) (sym has.2) (part_self k (step.Field n))) in
-      let typed = part_typed k (step.Field n) first.0 first.1 in
-      let whole = some_same typed.0 (Struct m) (sym typed.2 ∙ is) in
-      let mine = subst (λ u. IsPart (parts_of s u) (step.Field n) typed.1) whole typed.4 in
-      (first.0, first.1, typed_as (at p.locations first.0).type t (typed.3 ∙ (λ i. Some ((sym mine.3 ∙ h.all mine.0 mine.1 mine.2) i))))
+      (first.0, first.1, member_typed k m n t first.0 h is first.1)

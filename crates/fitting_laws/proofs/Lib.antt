@@ -1,3 +1,5 @@
 pub mod Finding
 pub mod Reading
 pub mod Fitting
+pub mod Sites
+pub mod Functions

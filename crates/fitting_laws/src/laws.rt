@@ -9,7 +9,12 @@ ghost use Rattle.sc_world.specs.Eval as eval;
 ghost use Rattle.layout_laws.specs.Origins.{IsLaidFor};
 ghost use Rattle.run_laws.specs.Fits.{Fits};
 ghost use Rattle.fitting_laws.specs.Found.{IsFound, StatementFound};
+ghost use Rattle.sc_world.specs.Places.{places};
+ghost use Rattle.run_laws.specs.Functions.{FunctionFits};
+ghost use Rattle.fitting_laws.specs.Statements.{FunctionTyped};
 ghost use Rattle.fitting_laws.specs.Typed.{BracketsTell, IsTyped};
+
+use layout_laws::locations_are_right;
 
 /// What the body of a function names is among what is found of its text: its members, its globals, its strings, the
 /// functions that stand as values, and its calls, each with what it does.
@@ -25,3 +30,11 @@ pub fn expressions_fit()
     ensures { (s : Source) (f : Found) (p : Layout) (want : eval.Want) (e : Exp) → IsLaidFor s f p.locations
         → p.sites ≡ f.sites → BracketsTell f.sites → IsTyped s want e → IsFound s f e true → Fits p want e }
 {}
+
+/// A function that is typed fits the layout that it has, if no two calls of its text have one bracket: so its runs never
+/// meet a value of another type than that of its expression.
+pub fn functions_fit()
+    ensures { (s : Source) (p : Layout) → places s ≡ Ok p → BracketsTell p.sites → FunctionTyped s → FunctionFits s p }
+{
+    locations_are_right();
+}

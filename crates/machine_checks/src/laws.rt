@@ -1,27 +1,15 @@
 // A check with the machine of locks from a file.
 
-ghost use Rattle.std.specs.Prelude.{◌≡◌, ℕ, List};
+ghost use Rattle.std.specs.Prelude.{◌≡◌, ℕ};
 ghost use Rattle.sc_typed.specs.declared.program.Program.{Program};
-ghost use Rattle.sum_rows.specs.declared.report.Verdict.{Verdict};
 ghost use Rattle.sc_check.specs.Typed.{Sources, Typed, typed};
 ghost use Rattle.program_verdicts.specs.Verdicts.{verdicts};
 ghost use Rattle.report_text.specs.Checks.{text};
-ghost use Rattle.machine_laws.specs.Tries.{NoNameTries, ProgramCallsNoTry, with_file, without_file};
+ghost use Rattle.machine_laws.specs.Tries.{NoNameTries, with_file};
 ghost use Rattle.machine_checks.specs.Files.{sources_with, sources_without, with_lock};
 
 use machine_laws::lock_from_a_file;
-
-/// The text of a program is the same with the machine of locks from a file as without a file: with the same verdicts, and
-/// with those that its definitions give, where it calls no function that tries to lock.
-#[tactic(auto, using(crate::proofs::Texts::text_same))]
-pub fn texts_with_lock()
-    ensures verdicts { (p : Program) (vs : List Verdict) → text (without_file p) vs ≡ text (with_file p) vs }
-    ensures own { (p : Program) (depth reach : ℕ) → ProgramCallsNoTry p
-        → text (without_file p) (verdicts (without_file p) depth reach)
-            ≡ text (with_file p) (verdicts (with_file p) depth reach) }
-{
-    lock_from_a_file();
-}
+use machine_texts::texts_with_lock;
 
 /// Files in which no function that tries to lock is named are typed with the machine of locks as without a machine file:
 /// what is refused is refused, and each typed program is the same but for its machine. So the text of the check is the
