@@ -1,5 +1,5 @@
 -- Files that name no function that tries to lock are typed the same.
-use Rattle.std.proofs.Common.{◌≡◌, ℕ, List, [], ◌∷◌, ◌++◌, length, refl, sym, ap, ◌∙◌}
+use Rattle.std.proofs.Common.{◌≡◌, ℕ, List, [], ◌∷◌, ◌++◌, length, refl, sym, ap, subst, ◌∙◌}
 use Rattle.std.specs.Prelude.{Bool, true, false, Option, Some, None, slice_index_or, if◌then◌else◌}
 use Rattle.sc_base.specs.declared.pos.NameId.{NameId}
 use Rattle.sc_tree.specs.declared.expr.Head.{Head}
@@ -16,7 +16,8 @@ use Rattle.sc_typing.specs.Typing.{heading}
 use Rattle.sc_declarations.specs.Declarations.{name_of}
 use Rattle.sc_check.specs.Files.{Made}
 use Rattle.sc_check.specs.Typed.{Sources, Answer, Duplicate, TooMany, Typed, no_walk, nothing_made, builtin_named, walk_files, first_walk, head_name, is_local_function, bodied, bodies_in, bodies_of, second_walk, program_of, answer_unless, answer_behind, typed}
-use Rattle.machine_laws.specs.Tries.{NoNameTries}
+use Rattle.sc_typed.specs.declared.program.Program.{Program}
+use Rattle.machine_laws.specs.Tries.{NoNameTries, without_file}
 use Rattle.machine_checks.specs.Files.{sources_with, sources_without, with_lock}
 use Rattle.machine_checks.proofs.Builtins.{builtin_same}
 
@@ -99,3 +100,23 @@ module _ (s : Sources) (h : NoNameTries s.names) where
       (((λ j. bodies_of other (sym first_same j).local_functions s.units)
       ∙ sym (bodies_same (first_walk one).local_functions s.units)) i))
       ∙ behind_same (first_walk one) (bodies_of one (first_walk one).local_functions s.units)
+
+  -- the typed program has no machine, and the names that were given
+  abbrev IsBare : Answer → Type 0
+  IsBare (Duplicate name) = Unit {0}
+  IsBare (TooMany functions) = Unit {0}
+  IsBare (Typed p) = (without_file p ≡ p) × (p.names ≡ s.names)
+
+  bare_unless : (clash : Option ℕ) (v : Walk) (bodies : List Bodied) → IsBare (answer_unless clash one v bodies)
+  bare_unless (Some name) v bodies = tt
+  bare_unless None v bodies = many (is_too_many (length bodies))
+    where
+      many : (b : Bool) → IsBare (if b then TooMany (length bodies) else Typed (program_of one (second_walk one v bodies)))
+      many true = tt
+      many false = (refl, refl)
+
+  pub bare : (p : Program) → typed one ≡ Typed p → (without_file p ≡ p) × (p.names ≡ s.names)
+  bare p e =
+      subst IsBare e
+      (bare_unless (first_clash [] (bodies_of one (first_walk one).local_functions s.units)) (first_walk one)
+      (bodies_of one (first_walk one).local_functions s.units))

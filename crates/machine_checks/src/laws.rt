@@ -14,7 +14,6 @@ use machine_texts::texts_with_lock;
 /// Files in which no function that tries to lock is named are typed with the machine of locks as without a machine file:
 /// what is refused is refused, and each typed program is the same but for its machine. So the text of the check is the
 /// same.
-#[tactic(auto, using(crate::proofs::Files::typed_same))]
 pub fn checks_with_lock()
     ensures typed { (s : Sources) → NoNameTries s.names → typed (sources_with s) ≡ with_lock (typed (sources_without s)) }
     ensures text { (s : Sources) (p : Program) (depth reach : ℕ) → NoNameTries s.names
