@@ -121,8 +121,8 @@ part_is k x (origin.Function n) h = absurd (clash false h refl)
 part_is k x (origin.Target n) h = absurd (clash false h refl)
 part_is k x (origin.Call n) h = absurd (clash false h refl)
 part_is k x (origin.Part up y) h = λ i.
-  origin.Part (sym (number_is k up (both_left (nat_eq k up) (same_step x y) h)) i)
-  (sym (step_is x y (both_right (nat_eq k up) (same_step x y) h)) i)
+    origin.Part (sym (number_is k up (both_left (nat_eq k up) (same_step x y) h)) i)
+    (sym (step_is x y (both_right (nat_eq k up) (same_step x y) h)) i)
 
 part_self : (k : ℕ) (x : Step) → is_part_of k x (origin.Part k x) ≡ true
 part_self k x = both (nat_eq k k) (same_step x x) (number_same k) (step_self x)
@@ -148,6 +148,7 @@ first_passes test k (l ∷ ls) to e = side (test l) refl e (λ d. first_passes t
   where
     some_is : (m n : ℕ) → Some m ≡ Some n → m ≡ n
     some_is m n h = ap (λ o. or_zero o) h
+
     side : (b : Bool) → test l ≡ b → (if b then Some k else first_where test (k + 1) ls) ≡ Some to
         → (first_where test (k + 1) ls ≡ Some to → (i : ℕ) × (to ≡ k + 1 + i) × (i < length ls) × (test (at ls i) ≡ true))
         → (i : ℕ) × (to ≡ k + i) × (i < length (l ∷ ls)) × (test (at (l ∷ ls) i) ≡ true)
@@ -257,8 +258,8 @@ module _ (s : Source) (f : Found) (p : Layout) (laid : IsLaidFor s f p.locations
       let same = tells (location p (location_of p o)).origin is.1 in (
         is,
         typed_as (location p (location_of p o)).type t
-        (fits (location p (location_of p o)).type
-        (subst (λ z. FitsOrigin s f p.locations (location p (location_of p o)).type z) same (laid.right (location_of p o) is.0).0)),
+            (fits (location p (location_of p o)).type
+            (subst (λ z. FitsOrigin s f p.locations (location p (location_of p o)).type z) same (laid.right (location_of p o) is.0).0)),
       )
 
   some_same : (t u : Ty) → Some t ≡ Some u → t ≡ u
@@ -301,7 +302,7 @@ module _ (s : Source) (f : Found) (p : Layout) (laid : IsLaidFor s f p.locations
   literal_there o t h among may =
       let is = there o (literal_self o h) (laid.literals o among) in
       let none = stub_type o (location p (location_of p o)).origin (location p (location_of p o)).type h is.1
-          (laid.right (location_of p o) is.0).0 in
+      (laid.right (location_of p o) is.0).0 in
       (is, may, subst (λ y. not (is_there y) ≡ true) (sym none) refl)
 
   -- Parts.
@@ -369,5 +370,5 @@ module _ (s : Source) (f : Found) (p : Layout) (laid : IsLaidFor s f p.locations
       let parts = subst (λ y. HasItsParts s f p.locations k y) is (laid.right k less).1 in
       let has = parts h.one.0 n h.one.1 h.one.2 named in
       let first = first_is (λ l. is_part_of k (step.Field n) l.origin) 0 p.locations has.0 has.1
-          (subst (λ z. is_part_of k (step.Field n) z ≡ true) (sym has.2) (part_self k (step.Field n))) in
+      (subst (λ z. is_part_of k (step.Field n) z ≡ true) (sym has.2) (part_self k (step.Field n))) in
       (first.0, first.1, member_typed k m n t first.0 h is first.1)

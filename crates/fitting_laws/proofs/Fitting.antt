@@ -31,7 +31,7 @@ site_found q n (y ∷ ys) x among e = side (same_pos q y.bracket) refl among (λ
   where
     side : (b : Bool) → same_pos q y.bracket ≡ b → IsAmong x (y ∷ ys)
         → (IsAmong x ys → IsAmong (site_from q (n + y.turns) ys).site ys
-            × (same_pos q (site_from q (n + y.turns) ys).site.bracket ≡ true))
+        × (same_pos q (site_from q (n + y.turns) ys).site.bracket ≡ true))
         → IsAmong (if b then (record { site = y; first = n }) else site_from q (n + y.turns) ys).site (y ∷ ys)
         × (same_pos q (if b then (record { site = y; first = n }) else site_from q (n + y.turns) ys).site.bracket ≡ true)
     side true h k rest = (inl refl, h)
@@ -73,7 +73,7 @@ module _ (s : Source) (f : Found) (p : Layout) (laid : IsLaidFor s f p.locations
       (let is = site_found q.token 0 f.sites x among bracket in (
         is.1,
         sym (tell x (site_from q.token 0 f.sites).site among is.0
-        (subst (λ z. same_pos z (site_from q.token 0 f.sites).site.bracket ≡ true) (sym bracket) is.1)) ∙ acts,
+            (subst (λ z. same_pos z (site_from q.token 0 f.sites).site.bracket ≡ true) (sym bracket) is.1)) ∙ acts,
       ))
 
   indexed : (b : Bool) (u t : Ty) → IsIndexed s b u t → Indexed p b u t

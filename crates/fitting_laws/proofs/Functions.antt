@@ -163,7 +163,7 @@ by_found : (s : Source) (p : Layout) (r : Built Found (Unit {0})) → gather_fun
     → (p.sites ≡ (found_in r).sites) × StatementFound s (found_in r) s.body
 by_found s p (Ok (u, f)) g e = (
   by_laid f p (lay_out (record { source = s; found = f }) (record no_layout { sites = f.sites }))
-  ((sites_stay (record { source = s; found = f })).by (record no_layout { sites = f.sites })) e,
+      ((sites_stay (record { source = s; found = f })).by (record no_layout { sites = f.sites })) e,
   body_found s f g,
 )
 by_found s p (Err k) g e = absurd (err_is p k e)

@@ -265,8 +265,12 @@ module _ (s : Source) where
         (λ g k. (
           k.1.0,
           k.1.1.0,
-          (record { pos = p.first; bracket = p.token; turns = r.turns; effect = effect s f es t; result = t; object = object_of h t },
-          k.1.1.1, refl, refl),
+          (
+            record { pos = p.first; bracket = p.token; turns = r.turns; effect = effect s f es t; result = t; object = object_of h t },
+            k.1.1.1,
+            refl,
+            refl,
+          ),
         ))
     exp (Field a n arrow t) h r =
         weaker (chain (counts r.factor) (λ _. chain (exp a Plain r) (λ _. names_field n))) (λ g k. (k.1.0, k.1.1))

@@ -101,7 +101,7 @@ module _ (s : Source) (f : Found) where
       stub_right : (i : ℕ) → length ls ≡ i → IsRight s f ms i
       stub_right i e = subst (λ n. IsRight s f ms n) e (
         subst (λ y. FitsOrigin s f ms y (at ms (length ls)).origin) (sym h.type)
-        (subst (λ z. FitsOrigin s f ms None z) (sym h.origin) fits),
+            (subst (λ z. FitsOrigin s f ms None z) (sym h.origin) fits),
         subst (λ y. HasItsParts s f ms (length ls) y) (sym h.type) tt,
       )
 
@@ -342,7 +342,7 @@ module _ (s : Source) (f : Found) where
       (λ u r g. (
         goes_trans s f p.locations q.locations r.locations laid.1.goes g.0,
         has_more (λ n. origin.Param n) k t ts r.locations
-        (has_stays q.locations r.locations (origin.Param k) g.0.stays (laid_has s f p.locations q.locations t (origin.Param k) laid.1)) g.1,
+            (has_stays q.locations r.locations (origin.Param k) g.0.stays (laid_has s f p.locations q.locations t (origin.Param k) laid.1)) g.1,
       ))
       (lays_params (k + 1) ts q (declares_rest s.params k t ts h)))
 
@@ -358,7 +358,7 @@ module _ (s : Source) (f : Found) where
       (λ u r g. (
         goes_trans s f p.locations q.locations r.locations laid.1.goes g.0,
         has_more (λ n. origin.Local n) k t ts r.locations
-        (has_stays q.locations r.locations (origin.Local k) g.0.stays (laid_has s f p.locations q.locations t (origin.Local k) laid.1)) g.1,
+            (has_stays q.locations r.locations (origin.Local k) g.0.stays (laid_has s f p.locations q.locations t (origin.Local k) laid.1)) g.1,
       ))
       (lays_locals (k + 1) ts q (declares_rest s.locals k t ts h)))
 
@@ -435,7 +435,7 @@ module _ (s : Source) (f : Found) where
       weaker (LiteralsLaid xs q) (LiteralsLaid (x ∷ xs) p) (lay_literals xs q)
       (λ u r g. (
         goes_trans s f p.locations q.locations r.locations
-        (pushed_goes p.locations q.locations x d.1 (literal_fits q.locations x (h x (inl refl)))) g.0,
+            (pushed_goes p.locations q.locations x d.1 (literal_fits q.locations x (h x (inl refl)))) g.0,
         each q r d.1 g.0 g.1,
       ))
       (lays_literals xs q (λ o among. h o (inr among))))

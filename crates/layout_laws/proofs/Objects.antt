@@ -88,8 +88,8 @@ module _ (s : Source) (f : Found) where
         (λ a q laid. (
           laid.1.goes,
           λ m same named.
-          subst (λ z. Has q.locations (origin.Part i (step.Field z))) (some_same n m same)
-          (laid_has p.locations q.locations t (origin.Part i (step.Field n)) laid.1),
+              subst (λ z. Has q.locations (origin.Part i (step.Field z))) (some_same n m same)
+              (laid_has p.locations q.locations t (origin.Part i (step.Field n)) laid.1),
         ))
       where
         some_same : (n m : NameId) → Some n ≡ Some m → n ≡ m
@@ -105,6 +105,7 @@ module _ (s : Source) (f : Found) where
       where
         clash : (b : Bool) → b ≡ true → b ≡ false → ⊥
         clash b h g = absurd (cc)
+
         some_same : (n m : NameId) → Some n ≡ Some m → n ≡ m
         some_same n m h = ap (λ o. option_or n o) h
           where
@@ -202,7 +203,7 @@ module _ (s : Source) (f : Found) where
               let same : length p.locations ≡ i = omega (arith, low, less, h.one) in
               subst (λ n. IsRight s f r.locations n) same (
                 subst (λ y. FitsOrigin s f r.locations y (at r.locations (length p.locations)).origin) (sym type)
-                (subst (λ z. FitsOrigin s f r.locations (Some t) z) (sym origin) fits_there),
+                    (subst (λ z. FitsOrigin s f r.locations (Some t) z) (sym origin) fits_there),
                 subst (λ y. HasItsParts s f r.locations (length p.locations) y) (sym type) has,
               )
           side i low high type origin fits_there (inr more) = g.right i more high

@@ -76,7 +76,7 @@ module _ (s : Source) (f : Found) where
   right_stays : (ls ms : List Location) (i : ℕ) → i < length ls → Stays ls ms → IsRight s f ls i → IsRight s f ms i
   right_stays ls ms i less h (fits, has) = (
     subst (λ y. FitsOrigin s f ms y (at ms i).origin) (sym (h.types i less))
-    (subst (λ o. FitsOrigin s f ms (at ls i).type o) (sym (h.origins i less)) (fits_stays ls ms (at ls i).type (at ls i).origin h fits)),
+        (subst (λ o. FitsOrigin s f ms (at ls i).type o) (sym (h.origins i less)) (fits_stays ls ms (at ls i).type (at ls i).origin h fits)),
     subst (λ y. HasItsParts s f ms i y) (sym (h.types i less)) (its_parts_stay ls ms i (at ls i).type h has),
   )
 
@@ -176,8 +176,8 @@ add_pushes s c root t o p =
     (λ state z d. (
       same.1,
       subst (λ ls. Pushed ls (z.locations ++ record { type = Some t; origin = o; root = root_or root k; bit = bit; state = state; target = None } ∷ []) (Some t) o)
-      (d ∙ e ∙ ap (λ (x : Layout). x.locations) same.0)
-      (pushed z.locations (record { type = Some t; origin = o; root = root_or root k; bit = bit; state = state; target = None })),
+          (d ∙ e ∙ ap (λ (x : Layout). x.locations) same.0)
+          (pushed z.locations (record { type = Some t; origin = o; root = root_or root k; bit = bit; state = state; target = None })),
     ))))
 
 pub stub_pushes : (o : Origin) (p : Layout)
@@ -189,6 +189,6 @@ stub_pushes o p =
     (λ k q same. (
       same.1,
       subst (λ ls. Pushed ls (q.locations ++ record { type = None; origin = o; root = k; bit = None; state = None; target = None } ∷ []) None o)
-      (ap (λ (x : Layout). x.locations) same.0)
-      (pushed q.locations (record { type = None; origin = o; root = k; bit = None; state = None; target = None })),
+          (ap (λ (x : Layout). x.locations) same.0)
+          (pushed q.locations (record { type = None; origin = o; root = k; bit = None; state = None; target = None })),
     ))

@@ -52,7 +52,7 @@ module _ (s : Sources) (h : NoNameTries s.names) where
 
   bodied_same : (locals : List (ℕ × NameId)) (f : ℕ) (x : Segment) → bodied one locals f x ≡ bodied other locals f x
   bodied_same locals f (segment.Function x b) = λ i.
-    record { file = f; name = name_same f x i; local = is_local_function locals f (name_same f x i) } ∷ []
+      record { file = f; name = name_same f x i; local = is_local_function locals f (name_same f x i) } ∷ []
   bodied_same locals f (segment.Decl d) = refl
   bodied_same locals f (segment.Skipped k) = refl
 
@@ -79,7 +79,7 @@ module _ (s : Sources) (h : NoNameTries s.names) where
 
   second_same : (v : Walk) (bodies : List Bodied) → second_walk one v bodies ≡ second_walk other v bodies
   second_same v bodies = λ i.
-    walk_files (second_with (named_same i) v bodies) nothing_made s.units (record no_walk { structs = v.structs })
+      walk_files (second_with (named_same i) v bodies) nothing_made s.units (record no_walk { structs = v.structs })
 
   unless_same : (clash : Option ℕ) (v : Walk) (bodies : List Bodied)
       → answer_unless clash other v bodies ≡ with_lock (answer_unless clash one v bodies)

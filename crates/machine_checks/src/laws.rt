@@ -19,7 +19,7 @@ pub fn checks_with_lock()
     ensures text { (s : Sources) (p : Program) (depth reach : ℕ) → NoNameTries s.names
         → typed (sources_without s) ≡ Typed p
         → (typed (sources_with s) ≡ Typed (with_file p))
-            × (text (with_file p) (verdicts (with_file p) depth reach) ≡ text p (verdicts p depth reach)) }
+        × (text (with_file p) (verdicts (with_file p) depth reach) ≡ text p (verdicts p depth reach)) }
 {
     texts_with_lock();
     lock_from_a_file();

@@ -57,8 +57,8 @@ state_same state.Same = refl
 row_same : (bits : ℕ) (r : Row) → row_line None bits r ≡ row_line (Some locks) bits r
 unfolding row_line
 row_same bits r = λ i.
-  codes "    "
-  ++ (bits_text bits r.given ++ (state_same r.before i ++ (codes " -> " ++ (result_text r.result ++ (state_same r.after i ++ codes "\n")))))
+    codes "    "
+    ++ (bits_text bits r.given ++ (state_same r.before i ++ (codes " -> " ++ (result_text r.result ++ (state_same r.after i ++ codes "\n")))))
 
 module _ (p : Program) where
   abbrev one : Program
@@ -91,8 +91,8 @@ module _ (p : Program) where
 
   summary_same : (params : List Param) (s : Summary) → summary_text one params s ≡ summary_text other params s
   summary_same params s = λ i.
-    entry_line one params
-    ++ (flat_map (λ x. item_same params s.bits x i) s.items ++ flat_map (λ w. write_same params w i) s.writes)
+      entry_line one params
+      ++ (flat_map (λ x. item_same params s.bits x i) s.items ++ flat_map (λ w. write_same params w i) s.writes)
 
   event_same : (indent location : List ℕ) (e : Event) → event_line one indent location e ≡ event_line other indent location e
   unfolding event_line
@@ -101,13 +101,13 @@ module _ (p : Program) where
   shown_same : (s : Shown) → shown_text one s ≡ shown_text other s
   unfolding shown_text
   shown_same s = λ i.
-    codes "    choice " ++ (choice_text s.choice ++ (codes "\n" ++ flat_map (λ e. event_same (codes "    ") s.text e i) s.trace))
+      codes "    choice " ++ (choice_text s.choice ++ (codes "\n" ++ flat_map (λ e. event_same (codes "    ") s.text e i) s.trace))
 
   report_same : (params : List Param) (r : Report) → report_text one params r ≡ report_text other params r
   report_same params (report.Double x runs) = λ i.
-    report_line (codes "double") (path_text one params x) ++ flat_map (λ s. shown_same s i) runs
+      report_line (codes "double") (path_text one params x) ++ flat_map (λ s. shown_same s i) runs
   report_same params (report.Ambiguous x a b) = λ i.
-    report_line (codes "ambiguous") (path_text one params x) ++ (shown_same a i ++ shown_same b i)
+      report_line (codes "ambiguous") (path_text one params x) ++ (shown_same a i ++ shown_same b i)
   report_same params (report.Inner a) = λ i. report_line (codes "inner") a.text ++ shown_same a i
   report_same params (report.Leak at a) = λ i. report_line (codes "leak") (place_text at) ++ shown_same a i
 

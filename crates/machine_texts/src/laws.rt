@@ -15,7 +15,7 @@ pub fn texts_with_lock()
     ensures given { (p : Program) (vs : List Verdict) → text (without_file p) vs ≡ text (with_file p) vs }
     ensures own { (p : Program) (depth reach : ℕ) → ProgramCallsNoTry p
         → text (without_file p) (verdicts (without_file p) depth reach)
-            ≡ text (with_file p) (verdicts (with_file p) depth reach) }
+        ≡ text (with_file p) (verdicts (with_file p) depth reach) }
 {
     lock_from_a_file();
 }

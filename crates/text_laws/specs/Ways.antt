@@ -83,3 +83,20 @@ IsPlain x _ = Unit {0}
 
 abbrev pub HasPlainNames : Texts → Type 0
 HasPlainNames x = (at : ℕ) → at < length x.layout.locations → IsPlain x (location x.layout at).origin
+
+-- The same of the names alone, and of the places of calls: the rest holds of the layout of every function.
+
+abbrev pub HasPlainStep : List (List ℕ) → Step → Type 0
+HasPlainStep names (step.Field n) = IsWord (name_text names n)
+HasPlainStep names _ = Unit {0}
+
+abbrev pub HasPlainName : Texts → Origin → Type 0
+HasPlainName x (origin.Param n) = IsWord (name_at x x.params n)
+HasPlainName x (origin.Global n) = IsWord (name_at x x.globals n)
+HasPlainName x (origin.Local n) = IsWord (name_at x x.locals n)
+HasPlainName x (origin.Call k) = FitsWord (site_of x.layout k).pos.line × FitsWord (site_of x.layout k).pos.col
+HasPlainName x (origin.Part at s) = HasPlainStep x.names s
+HasPlainName x _ = Unit {0}
+
+abbrev pub NamesArePlain : Texts → Type 0
+NamesArePlain x = (at : ℕ) → at < length x.layout.locations → HasPlainName x (location x.layout at).origin

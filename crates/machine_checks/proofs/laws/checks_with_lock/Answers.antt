@@ -15,7 +15,7 @@ returns-clause-text c s p depth reach h e =
     let is = bare s h p e in (
       typed_same s h ∙ ap with_lock e,
       sym
-      (c.texts_with_lock.ensures.own p depth reach
-      (c.lock_from_a_file.ensures.named p (subst (λ names. NoNameTries names) (sym is.1) h)))
-      ∙ ap (λ q. text q (verdicts q depth reach)) is.0,
+          (c.texts_with_lock.ensures.own p depth reach
+          (c.lock_from_a_file.ensures.named p (subst (λ names. NoNameTries names) (sym is.1) h)))
+          ∙ ap (λ q. text q (verdicts q depth reach)) is.0,
     )
