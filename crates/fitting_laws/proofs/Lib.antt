@@ -3,3 +3,4 @@ pub mod Reading
 pub mod Fitting
 pub mod Sites
 pub mod Functions
+pub mod ExampleTyped

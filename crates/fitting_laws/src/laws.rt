@@ -10,6 +10,7 @@ ghost use Rattle.layout_laws.specs.Origins.{IsLaidFor};
 ghost use Rattle.run_laws.specs.Fits.{Fits};
 ghost use Rattle.fitting_laws.specs.Found.{IsFound, StatementFound};
 ghost use Rattle.sc_world.specs.Places.{places};
+ghost use Rattle.run_laws.specs.Example as example;
 ghost use Rattle.run_laws.specs.Functions.{FunctionFits};
 ghost use Rattle.fitting_laws.specs.Statements.{FunctionTyped};
 ghost use Rattle.fitting_laws.specs.Typed.{BracketsTell, IsTyped};
@@ -38,3 +39,9 @@ pub fn functions_fit()
 {
     locations_are_right();
 }
+
+/// What this law asks can be met: the function of the example is typed, and no two calls of its layout have one bracket.
+pub fn a_function_is_typed()
+    ensures typed { FunctionTyped example.given }
+    ensures brackets { BracketsTell example.laid.sites }
+{}

@@ -4,4 +4,4 @@
 
 mod laws;
 
-pub use laws::{expressions_fit, functions_fit, texts_are_found};
+pub use laws::{a_function_is_typed, expressions_fit, functions_fit, texts_are_found};
