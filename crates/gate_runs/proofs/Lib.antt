@@ -1,2 +1,3 @@
 pub mod Bind
 mod Ending
+mod Gates

@@ -68,7 +68,7 @@ pub record IsEndedWhere (ns : List Node) (when : ℕ) (reason : Reason) (old new
       → ((w : World) → MeetsAll v locations w.places → v when ≡ test w) → Does v locations old (aside_where test reason) locations new Any
 
 -- a run that begins where a gate holds, and never comes here where it does not
-pub record HasBegun (ns : List Node) (live : ℕ) (gates : Ends) : Type 0 where
-  pub live : gates.live.at ≡ live
+pub record HasBegun (ns : List Node) (begins : ℕ) (gates : Ends) : Type 0 where
+  pub live : gates.live.at ≡ begins
   pub asides : (choice v : ℕ → Bool) → Runs ns choice v → (k : ℕ) → told v gates.asides.items k ≡ false
   pub bads : (choice v : ℕ → Bool) → Runs ns choice v → (k : ℕ) → told v gates.bads.items k ≡ false

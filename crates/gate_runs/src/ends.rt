@@ -41,6 +41,7 @@ fn number(reason: Reason) -> usize
 }
 
 // So many gates that never hold.
+#[tactic(auto, using(crate::proofs::Gates::told_none, crate::proofs::Gates::top_none))]
 fn none_of(alloc: Global, net: &Net, count: usize) -> Result<Vec<Gate>, OutOfMemory>
     ensures len { IfOk result (λ gs. length gs.items ≡ count) }
     ensures below { IfOk result (λ gs. gates_top gs.items ≤ length net.now) }
