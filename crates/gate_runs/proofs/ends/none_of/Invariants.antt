@@ -8,6 +8,6 @@ abbrev pub invariant-loop : goal.invariant-loop
 invariant-loop l =
     record {
       len : length l.gates.items ≡ l.counter;
-      below : gates_top l.gates.items ≤ length l.net.now;
-      none : (choice v : ℕ → Bool) → Runs l.net.now choice v → (k : ℕ) → told v l.gates.items k ≡ false;
+      below : gates_top l.gates.items ≤ length l.net;
+      none : (choice v : ℕ → Bool) → Runs l.net choice v → (k : ℕ) → told v l.gates.items k ≡ false;
     }
