@@ -48,7 +48,7 @@ module _ (v : ℕ → Bool) (when : ℕ) (reason : Reason) (old new : Ends) (h :
 
   -- it ends here
   ends_here : (u : Unit {0}) (w : World) → v old.live.at ≡ true → v when ≡ true → Tells v old (On u w)
-      → Tells v new (Over {A = Unit {0}} (Some (Aside reason)) w)
+      → Tells {A = Unit {0}} v new (Over (Some (Aside reason)) w)
   ends_here u w live holds t =
       record {
         live = h.live ∙ ap (λ b. v old.live.at && not b) holds ∙ and_false (v old.live.at);

@@ -53,3 +53,7 @@ told_none v k = refl
 pub top_none : gates_top [] ≡ 0
 unfolding gates_top
 top_none = refl
+
+pub length_more : (gs : List Gate) (g : Gate) → length (gs ++ g ∷ []) ≡ length gs + 1
+length_more [] g = refl
+length_more (x ∷ gs) g = omega (arith, length_more gs g)
