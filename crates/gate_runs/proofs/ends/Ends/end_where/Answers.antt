@@ -1,4 +1,6 @@
 use Rattle.std.proofs.Common.{◌≡◌, ℕ, Bool, ◌&&◌, ◌||◌, nat_eq, cond, refl, sym, ap, ◌∙◌}
+use Rattle.std.specs.Vec.{with_items}
+use Rattle.gate_runs.specs.declared.ends.Ends.{Ends}
 use Rattle.gate_runs.specs.Standing.{reason_number}
 use Rattle.gate_runs.specs.Stands.{told}
 use Rattle.gate_runs.proofs.Ending.{put_or, ended}
@@ -13,13 +15,14 @@ returns-clause-ok c =
         let r0 = c.in_ok-told.ensures.grown.runs choice v r1 in
         let old = c.args.self.now in
         let f : ℕ → Bool = (λ i. told v old.asides.items i) in
+        let new : Ends = record { live = c.in_ok-live.live; asides = with_items c.args.self.now.asides c.set_gate.new.gates; bads = c.args.self.now.bads } in
         let over : Bool = v old.live.at && v c.args.when.at in
         let k = c.number-k.result in
         let told_there : v c.in_ok-told.told.at ≡ f k || over =
             c.in_ok-told.ensures.ok.value choice v r1
             ∙ ap (λ b. b || v c.in_ok-over.over.at) (c.gate_in.ensures.told v ∙ ap (λ gs. told v gs k) c.as_slice.ensures.value)
             ∙ ap (λ b. f k || b) (c.in_ok-over.ensures.ok.value choice v r0) in
-        ended v c.args.when.at c.args.reason old _
+        ended v c.args.when.at c.args.reason old new
           (record {
             live = c.in_ok-live.ensures.ok.value choice v runs ∙ ap (λ b. v old.live.at && b) (c.in_ok-still.ensures.ok.value choice v r2);
             asides = λ j.
