@@ -1,5 +1,6 @@
 use Rattle.std.proofs.Common.{◌≡◌, ℕ, Bool, ◌&&◌, ◌||◌, nat_eq, cond, refl, sym, ap, ◌∙◌}
 use Rattle.std.specs.Vec.{with_items}
+use Rattle.std.proofs.lemmas.List.{with_items_is}
 use Rattle.gate_runs.specs.declared.ends.Ends.{Ends}
 use Rattle.gate_runs.specs.Standing.{reason_number}
 use Rattle.gate_runs.specs.Stands.{told}
@@ -26,7 +27,8 @@ returns-clause-ok c =
           (record {
             live = c.in_ok-live.ensures.ok.value choice v runs ∙ ap (λ b. v old.live.at && b) (c.in_ok-still.ensures.ok.value choice v r2);
             asides = λ j.
-              c.set_gate.ensures.told v j
+              ap (λ gs. told v gs j) (with_items_is old.asides c.set_gate.new.gates (c.set_gate.ensures.len ∙ c.as_mut_slice.ensures.len))
+              ∙ c.set_gate.ensures.told v j
               ∙ ap (λ gs. cond (nat_eq k j) (v c.in_ok-told.told.at) (told v gs j)) c.as_mut_slice.ensures.value
               ∙ ap (λ b. cond (nat_eq k j) b (f j)) told_there
               ∙ put_or f k j over (nat_eq k j) refl
