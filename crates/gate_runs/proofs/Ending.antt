@@ -40,9 +40,9 @@ module _ (v : ℕ → Bool) (when : ℕ) (reason : Reason) (old new : Ends) (h :
       record {
         live = h.live ∙ same ∙ t.live;
         asides = λ j low.
-          h.asides j ∙ ap (λ b. told v old.asides.items j || (nat_eq (reason_number reason) j && b)) none
-          ∙ ap (λ b. told v old.asides.items j || b) (and_false (nat_eq (reason_number reason) j))
-          ∙ or_false (told v old.asides.items j) ∙ t.asides j low;
+            h.asides j ∙ ap (λ b. told v old.asides.items j || (nat_eq (reason_number reason) j && b)) none
+            ∙ ap (λ b. told v old.asides.items j || b) (and_false (nat_eq (reason_number reason) j))
+            ∙ or_false (told v old.asides.items j) ∙ t.asides j low;
         bads = λ j low. ap (λ gs. told v gs j) h.bads ∙ t.bads j (subst (λ gs. j < length gs) h.bads low);
       }
 
@@ -53,9 +53,9 @@ module _ (v : ℕ → Bool) (when : ℕ) (reason : Reason) (old new : Ends) (h :
       record {
         live = h.live ∙ ap (λ b. v old.live.at && not b) holds ∙ and_false (v old.live.at);
         asides = λ j low.
-          h.asides j ∙ ap (λ b. b || (nat_eq (reason_number reason) j && (v old.live.at && v when))) (t.asides j low)
-          ∙ ap (λ b. nat_eq (reason_number reason) j && (b && v when)) live
-          ∙ ap (λ b. nat_eq (reason_number reason) j && b) holds ∙ and_true (nat_eq (reason_number reason) j);
+            h.asides j ∙ ap (λ b. b || (nat_eq (reason_number reason) j && (v old.live.at && v when))) (t.asides j low)
+            ∙ ap (λ b. nat_eq (reason_number reason) j && (b && v when)) live
+            ∙ ap (λ b. nat_eq (reason_number reason) j && b) holds ∙ and_true (nat_eq (reason_number reason) j);
         bads = λ j low. ap (λ gs. told v gs j) h.bads ∙ t.bads j (subst (λ gs. j < length gs) h.bads low);
       }
 

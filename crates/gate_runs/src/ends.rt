@@ -57,12 +57,7 @@ fn none_of(alloc: Global, net: &Net, count: usize) -> Result<Vec<Gate>, OutOfMem
 
 impl Ends {
     /// A run that begins where the gate holds, and never comes here where it does not; with as many locations.
-    pub fn new(
-        alloc: Global,
-        net: &Net,
-        live: Gate,
-        locations: usize,
-    ) -> Result<Ends, OutOfMemory>
+    pub fn new(alloc: Global, net: &Net, live: Gate, locations: usize) -> Result<Ends, OutOfMemory>
         requires live { live.at < length net.now }
         ensures ready { IfOk result (λ gates. AreEnds net.now gates) }
         ensures locations { IfOk result (λ gates. length gates.bads.items ≡ locations) }
@@ -75,7 +70,12 @@ impl Ends {
 
     /// Sets the run aside for that reason where the gate holds and the run goes on. After a refusal of memory the gates
     /// are as they were.
-    pub fn end_where(&mut self, net: &mut Net, when: Gate, reason: Reason) -> Result<(), OutOfMemory>
+    pub fn end_where(
+        &mut self,
+        net: &mut Net,
+        when: Gate,
+        reason: Reason,
+    ) -> Result<(), OutOfMemory>
         requires ready { AreEnds net.old self.old }
         requires when { when.at < length net.old }
         ensures grown { Grown net.old net.new }

@@ -12,5 +12,5 @@ loop-preserved c =
       len = ap length is ∙ length_more c.loop.gates.items g ∙ ap (λ n. n + 1) c.loop.invariant.len;
       below = subst (λ gs. gates_top gs ≤ length c.args.net.now) (sym is) (top_more c.loop.gates.items g (length c.args.net.now) c.constant-none.ensures.below c.loop.invariant.below);
       none = λ choice v runs k.
-        ap (λ gs. told v gs k) is ∙ told_more v c.loop.gates.items g (c.constant-none.ensures.value choice v runs) (c.loop.invariant.none choice v runs) k;
+          ap (λ gs. told v gs k) is ∙ told_more v c.loop.gates.items g (c.constant-none.ensures.value choice v runs) (c.loop.invariant.none choice v runs) k;
     }
