@@ -10,6 +10,7 @@ mod Order
 mod OrderOf
 mod Parts
 mod Same
+mod Sound
 mod Statements
 mod Steps
 mod Values
