@@ -11,6 +11,7 @@ mod OrderOf
 mod Parts
 mod Same
 mod Sound
+mod SoundOf
 mod Statements
 mod Steps
 mod Values
