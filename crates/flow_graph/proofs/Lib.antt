@@ -16,3 +16,4 @@ mod Statements
 mod Steps
 mod Values
 mod Walks
+mod Ways

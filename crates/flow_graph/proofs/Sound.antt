@@ -280,9 +280,11 @@ module _ (m : Held) (v : ℕ → Bool) (all_temps all_slots : ℕ) where
             let low : g.temps < all_temps = omega (arith, (made k g w).temps) in
             let next : g.temps + 1 < all_temps = omega (arith, (made k g w).temps) in
             oa.fine (Into left g.temps (second k g).0) (second k g).1 w low
-            (ob.fine (Into right (g.temps + 1) (length g.nodes)) (behind k g) (inner k g w) next
-            (keep_fine k (whole g.temps (g.temps + 1)) (g.temps ∷ (g.temps + 1) ∷ []) (reads g.temps (g.temps + 1))
-            (plain g.temps (g.temps + 1)) t (low, (next, tt)), f));
+            (ob.fine (Into right (g.temps + 1) (length g.nodes)) (behind k g) (inner k g w) next (
+              keep_fine k (whole g.temps (g.temps + 1)) (g.temps ∷ (g.temps + 1) ∷ []) (reads g.temps (g.temps + 1))
+                  (plain g.temps (g.temps + 1)) t (low, (next, tt)),
+              f,
+            ));
       })
     where
       behind : Goal → Growing → Growing
@@ -332,11 +334,10 @@ module _ (m : Held) (v : ℕ → Bool) (all_temps all_slots : ℕ) where
             let x : g.temps < all_temps = omega (arith, (made k g w).temps) in
             let y : g.temps + 1 < all_temps = omega (arith, (made k g w).temps) in
             let z : g.temps + 1 + 1 < all_temps = omega (arith, (made k g w).temps) in
-            ol.fine (Into Place' g.temps (length (right k g).1.nodes)) (old k g) w x
-            (
+            ol.fine (Into Place' g.temps (length (right k g).1.nodes)) (old k g) w x (
               record { reads = (x, tt); keeps = (y, tt); plain = refl },
               or'.fine (Into Value (g.temps + 1 + 1) (length g.nodes)) (behind k g) (inner k g w) z
-              (record { reads = (x, (y, (z, tt))); keeps = (t, tt); plain = refl }, f),
+                  (record { reads = (x, (y, (z, tt))); keeps = (t, tt); plain = refl }, f),
             );
       })
     where

@@ -515,11 +515,10 @@ module _ (m : Held) (v : ℕ → Bool) (all_temps all_slots : ℕ) where
         block.cases (block.default k.next t.next))));
     fine = λ k g w f.
         let low : temp_of k g < all_temps = omega (arith, (begun k g w).temps) in
-        (parts e turn).fine (to k g) (marked k g) w low
-        (
+        (parts e turn).fine (to k g) (marked k g) w low (
           record { reads = (low, tt); keeps = tt; plain = refl },
           chain_fine (temp_of k g) (items (within k) g).0.cases (other k g) (fresh 1 (items (within k) g).1).1 low
-          (o.fine (within k) g (opens k g w) f),
+              (o.fine (within k) g (opens k g w) f),
         );
   }
     where
