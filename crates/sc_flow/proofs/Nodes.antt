@@ -8,7 +8,7 @@ pub put_step : {A B : Type 0} (f : A → B) (xs : List A) (x : A) → reverse (m
 put_step f xs x = ap reverse (map-append f xs (x ∷ [])) ∙ reverse-append (map f xs) (f x ∷ [])
 
 pub put_length : {A B : Type 0} (f : A → B) (xs : List A) → length (reverse (map f xs)) ≡ length xs
-put_length f xs = length-reverse (map f xs) ∙ length-map f xs
+put_length f xs = length-reverse (map f xs) ∙ length-map xs f
 
 map_reverse : {A B : Type 0} (f : A → B) (xs : List A) → map f (reverse xs) ≡ reverse (map f xs)
 map_reverse f [] = refl
@@ -33,7 +33,7 @@ cut_is f xs n =
     ∙ (drop-append_seam front (reverse (map f (take n xs)))
     ∙ sym (map_reverse f (take n xs))))
 
-first_of : {A : Type 0} → A → List A → A
+abbrev first_of : {A : Type 0} → A → List A → A
 first_of d [] = d
 first_of d (x ∷ xs) = x
 
