@@ -1,5 +1,5 @@
 -- The nodes of one loop, turn by turn.
-use Rattle.std.proofs.Common.{◌≡◌, ℕ, zero, suc, ◌+◌, ◌-◌, ◌*◌, List, [], ◌∷◌, length, map, drop, sym, ap, subst, ◌∙◌, arith}
+use Rattle.std.proofs.Common.{◌≡◌, ℕ, zero, suc, ◌+◌, ◌-◌, ◌*◌, List, [], ◌∷◌, length, map, drop, refl, sym, ap, subst, ◌∙◌, arith}
 use Rattle.std.specs.Prelude.{Some, None}
 use Rattle.std.proofs.lemmas.List.{length-map}
 use Rattle.sum_rows.specs.declared.report.What.TheVariants as what
@@ -7,14 +7,15 @@ use Rattle.sc_world.specs.Source.{Source}
 use Rattle.flow_graph.specs.Nodes.{Node, Mark, Exit}
 use Rattle.flow_graph.specs.Growing.{Growing}
 use Rattle.flow_graph.specs.Statements.{Targets, test_or_true, with_step, dropped_if, turn_of, while_turns, unroll_stm}
-use Rattle.flow_graph.specs.Unrolled.{grown, flow_of, flow}
+use Rattle.flow_graph.specs.Unrolled.{grown, turned, flow_of, flow}
 use Rattle.flow_sizes.specs.Loop.{at, below, up, inner, loop}
 
 -- nothing is cut off where the newest node is the first one
-cut_all : (f : Node → Node) (n : Node) (ns : List Node) → length (map f (drop (suc (length ns) - (length ns + 1)) (n ∷ ns))) ≡ suc (length ns)
-cut_all f n ns =
-    let e : suc (length ns) - (length ns + 1) ≡ 0 = omega arith in
-    ap (λ j. length (map f (drop j (n ∷ ns)))) e ∙ length-map (n ∷ ns) f
+newest_first : (r : ℕ × Growing) (n : Node) (ns : List Node) → r.1.nodes ≡ n ∷ ns → r.0 ≡ length ns → length (flow_of r).nodes ≡ suc (length ns)
+newest_first r n ns h e =
+    let many : length r.1.nodes ≡ suc (length ns) = ap length h in
+    let none : length r.1.nodes - (r.0 + 1) ≡ 0 = omega (arith, many, e) in
+    ap (λ j. length (map (turned r.0) (drop j r.1.nodes))) none ∙ (length-map r.1.nodes (turned r.0) ∙ many)
 
 module _ (depth turn : ℕ) where
   turns : (left t : ℕ) (k : Targets) (g : Growing)
@@ -38,7 +39,7 @@ unrolled_loop depth =
 
 -- three nodes stand in front of it
 with_front : (depth : ℕ) → length (flow_of (grown depth loop)).nodes ≡ suc (suc (suc (length (unrolled_loop depth).nodes)))
-with_front depth = cut_all _ _ _
+with_front depth = newest_first (grown depth loop) _ _ refl refl
 
 whole : (depth : ℕ) → length (flow_of (grown depth loop)).nodes ≡ 10 + 11 * depth
 whole depth = with_front depth ∙ omega (arith, turns depth 0 depth 0 behind at_end)

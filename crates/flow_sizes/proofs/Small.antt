@@ -42,8 +42,12 @@ spare p n m o h = record { by = by }
         record { few = omega (arith, h, (o.by (record { want = want; temp = x; next = next }) g).few) }
     by (Test hit miss) g =
         record {
-          few = omega (arith, h, (o.by (record { want = Value; temp = g.temps; next = length g.nodes })
-              (record { nodes = Branch g.temps hit miss ∷ g.nodes; temps = g.temps + 1; slots = g.slots })).few);
+          few = omega (
+            arith,
+            h,
+            (o.by (record { want = Value; temp = g.temps; next = length g.nodes })
+                (record { nodes = Branch g.temps hit miss ∷ g.nodes; temps = g.temps + 1; slots = g.slots })).few,
+          );
         }
 
 kept_small : (e : Exp) (n : ℕ) → 0 < n → Small (kept e) n
@@ -71,8 +75,11 @@ two_small left a right b whole m n oa ob =
     spare (λ k g. a (Into left g.temps (second k g).0) (second k g).1) (1 + 3 * (m + n)) (1 + (m + n))
     (record {
       by = λ k g. record {
-        few = omega (arith, (oa.by (Into left g.temps (second k g).0) (second k g).1).few,
-            (ob.by (Into right (g.temps + 1) (length g.nodes)) (behind k g)).few);
+        few = omega (
+          arith,
+          (oa.by (Into left g.temps (second k g).0) (second k g).1).few,
+          (ob.by (Into right (g.temps + 1) (length g.nodes)) (behind k g)).few,
+        );
       };
     }) (omega arith)
   where
@@ -92,8 +99,11 @@ updating_small u l r m n ol or' =
     spare (λ k g. l (Into Place' g.temps (length (right k g).1.nodes)) (old k g)) (2 + 3 * (m + n)) (1 + (m + n))
     (record {
       by = λ k g. record {
-        few = omega (arith, (ol.by (Into Place' g.temps (length (right k g).1.nodes)) (old k g)).few,
-            (or'.by (Into Value (g.temps + 1 + 1) (length g.nodes)) (behind k g)).few);
+        few = omega (
+          arith,
+          (ol.by (Into Place' g.temps (length (right k g).1.nodes)) (old k g)).few,
+          (or'.by (Into Value (g.temps + 1 + 1) (length g.nodes)) (behind k g)).few,
+        );
       };
     }) (omega arith)
   where
@@ -126,8 +136,12 @@ comma_small a b m n oa ob = record {
 conditional_small : (c a b : Part) (l m n : ℕ) → Small c l → Small a m → Small b n → Small (conditional c a b) (1 + (l + (m + n)))
 conditional_small c a b l m n oc oa ob = record {
   by = λ aim g. record {
-    few = omega (arith, (oa.by aim g).few, (ob.by aim (a aim g).1).few,
-        (oc.by (Test (a aim g).0 (b aim (a aim g).1).0) (b aim (a aim g).1).1).few);
+    few = omega (
+      arith,
+      (oa.by aim g).few,
+      (ob.by aim (a aim g).1).few,
+      (oc.by (Test (a aim g).0 (b aim (a aim g).1).0) (b aim (a aim g).1).1).few,
+    );
   };
 }
 
@@ -138,8 +152,12 @@ sides_small t (Test hit miss) g = record { few = omega arith }
 logical_small : (o : BinaryOp) (t : Ty) (a b : Part) (m n : ℕ) → Small a m → Small b n → Small (logical o t a b) (1 + (m + n))
 logical_small o t a b m n oa ob = record {
   by = λ aim g. record {
-    few = omega (arith, (sides_small t aim g).few, (ob.by (at_sides aim g) (sides t aim g).1).few,
-        (oa.by (first_test o (second aim g).0 (sides t aim g).0) (second aim g).1).few);
+    few = omega (
+      arith,
+      (sides_small t aim g).few,
+      (ob.by (at_sides aim g) (sides t aim g).1).few,
+      (oa.by (first_test o (second aim g).0 (sides t aim g).0) (second aim g).1).few,
+    );
   };
 }
   where
@@ -205,8 +223,11 @@ argument_small : (e : Exp) (es : Exps) (turn m n : ℕ) → Small (unroll e turn
     → AllSmall (λ x next. unroll_all (Exps' e es) turn x next) (m + n)
 argument_small e es turn m n o os = record {
   by = λ x next g. record {
-    few = omega (arith, (os.by (x + 1) next g).few,
-        (o.by (Into Value x (unroll_all es turn (x + 1) next g).0) (unroll_all es turn (x + 1) next g).1).few);
+    few = omega (
+      arith,
+      (os.by (x + 1) next g).few,
+      (o.by (Into Value x (unroll_all es turn (x + 1) next g).0) (unroll_all es turn (x + 1) next g).1).few,
+    );
   };
 }
 
@@ -216,8 +237,11 @@ call_small q f es t turn m n o os =
     spare (λ k g. called (is_name f) (unroll f turn) (arguments k g).0 (arguments k g).1) (1 + 3 * (m + n)) (1 + (m + n))
     (record {
       by = λ k g. record {
-        few = omega (arith, (os.by g.temps (length g.nodes) (behind k g)).few,
-            ((called_small (is_name f) (unroll f turn) m o).by (arguments k g).0 (arguments k g).1).few);
+        few = omega (
+          arith,
+          (os.by g.temps (length g.nodes) (behind k g)).few,
+          ((called_small (is_name f) (unroll f turn) m o).by (arguments k g).0 (arguments k g).1).few,
+        );
       };
     }) (omega arith)
   where
@@ -366,9 +390,12 @@ values_small : (xs : List Given) (turn : ℕ) → AllSmall (λ n next. all_kept 
 values_small [] turn = record { by = λ n next g. record { few = omega arith } }
 values_small (x ∷ xs) turn = record {
   by = λ n next g. record {
-    few = omega (arith, ((values_small xs turn).by (n + 1) next g).few,
-        ((cells_small (easy x.value) n x.value (unroll x.value turn) (size x.value) (expression_small x.value turn)).by
-        (all_kept xs turn (n + 1) next g).0 (all_kept xs turn (n + 1) next g).1).few);
+    few = omega (
+      arith,
+      ((values_small xs turn).by (n + 1) next g).few,
+      ((cells_small (easy x.value) n x.value (unroll x.value turn) (size x.value) (expression_small x.value turn)).by
+          (all_kept xs turn (n + 1) next g).0 (all_kept xs turn (n + 1) next g).1).few,
+    );
   };
 }
 
@@ -391,8 +418,11 @@ declarators_small : (ds : List Dec) (turn : ℕ) → ThenSmall (declarators ds t
 declarators_small [] turn = itself_small 0
 declarators_small (d ∷ ds) turn = record {
   by = λ next g. record {
-    few = omega (arith, ((declarators_small ds turn).by next g).few,
-        ((declared_small d.declared d.init turn).by (declarators ds turn next g).0 (declarators ds turn next g).1).few);
+    few = omega (
+      arith,
+      ((declarators_small ds turn).by next g).few,
+      ((declared_small d.declared d.init turn).by (declarators ds turn next g).0 (declarators ds turn next g).1).few,
+    );
   };
 }
 
@@ -413,8 +443,12 @@ while_small : (test : (hit miss : ℕ) → Build ℕ) (body rest : Piece) (l m n
     → PieceSmall rest n → PieceSmall (while_turn test body rest) (1 + (l + m) + n)
 while_small test body rest l m n ot ob or' = record {
   by = λ k g. record {
-    few = omega (arith, (or'.by k g).few, (ob.by (in_loop k (rest k g).0) (rest k g).1).few,
-        (ot.by (begins k g).0 k.next (begins k g).1).few);
+    few = omega (
+      arith,
+      (or'.by k g).few,
+      (ob.by (in_loop k (rest k g).0) (rest k g).1).few,
+      (ot.by (begins k g).0 k.next (begins k g).1).few,
+    );
   };
 }
   where
@@ -437,8 +471,12 @@ do_small : (test : (hit miss : ℕ) → Build ℕ) (body rest : Piece) (l m n : 
     → PieceSmall rest n → PieceSmall (do_turn test body rest) (1 + (l + m) + n)
 do_small test body rest l m n ot ob or' = record {
   by = λ k g. record {
-    few = omega (arith, (or'.by k g).few, (ot.by (rest k g).0 k.next (rest k g).1).few,
-        (ob.by (in_loop k (tests k g).0) (tests k g).1).few);
+    few = omega (
+      arith,
+      (or'.by k g).few,
+      (ot.by (rest k g).0 k.next (rest k g).1).few,
+      (ob.by (in_loop k (tests k g).0) (tests k g).1).few,
+    );
   };
 }
   where
@@ -458,8 +496,11 @@ step_small : (body : Piece) (step : (next : ℕ) → Build ℕ) (m n : ℕ) → 
     → PieceSmall (with_step body step) (n + m)
 step_small body step m n ob os = record {
   by = λ k g. record {
-    few = omega (arith, (os.by k.next g).few,
-        (ob.by (record k { next = (step k.next g).0; again = (step k.next g).0 }) (step k.next g).1).few);
+    few = omega (
+      arith,
+      (os.by k.next g).few,
+      (ob.by (record k { next = (step k.next g).0; again = (step k.next g).0 }) (step k.next g).1).few,
+    );
   };
 }
 
@@ -516,8 +557,13 @@ item_small : (x : Stm) (part : Piece) (items : Targets → Build Opened) (m n : 
     → BlockSmall (λ k g. item x part (items k g).0 k (items k g).1) (m + n)
 item_small x part items m n op ob = record {
   by = λ k g. record {
-    few = omega (arith, op.some, (ob.by k g).few, (op.by (to k g) (items k g).1).few,
-        cases_more x (part (to k g) (items k g).1).0 (items k g).0.cases);
+    few = omega (
+      arith,
+      op.some,
+      (ob.by k g).few,
+      (op.by (to k g) (items k g).1).few,
+      cases_more x (part (to k g) (items k g).1).0 (items k g).0.cases,
+    );
   };
 }
   where
@@ -532,9 +578,12 @@ switch_small : (e : Exp) (turn : ℕ) (q : Pos) (items : Targets → Build Opene
     → PieceSmall (switched (unroll e turn) q e items) (1 + (size e + n))
 switch_small e turn q items n o = record {
   by = λ k g. record {
-    few = omega (arith, (o.by (within k) g).few,
-        (chain_small (temp_of k g) (items (within k) g).0.cases (other k g) (fresh 1 (items (within k) g).1).1).few,
-        ((expression_small e turn).by (Into Value (temp_of k g) (length (first k g).1.nodes)) (marked k g)).few);
+    few = omega (
+      arith,
+      (o.by (within k) g).few,
+      (chain_small (temp_of k g) (items (within k) g).0.cases (other k g) (fresh 1 (items (within k) g).1).1).few,
+      ((expression_small e turn).by (Into Value (temp_of k g) (length (first k g).1.nodes)) (marked k g)).few,
+    );
   };
 }
   where
@@ -662,17 +711,23 @@ module _ (depth : ℕ) where
     statement_small (Evaluate e) turn = then_small (dropped_if e turn) (size_if e) (drop_if_small e turn)
     statement_small (If q e x) turn = record {
       by = λ k g. record {
-        few = omega (arith, ((statement_small x turn).by k g).few,
-            ((tests_small e turn q what.If).by (unroll_stm depth x turn k g).0 k.next (unroll_stm depth x turn k g).1).few);
+        few = omega (
+          arith,
+          ((statement_small x turn).by k g).few,
+          ((tests_small e turn q what.If).by (unroll_stm depth x turn k g).0 k.next (unroll_stm depth x turn k g).1).few,
+        );
       };
     }
     statement_small (IfElse q e x y) turn = record {
       by = λ k g. record {
-        few = omega (arith, ((statement_small x turn).by k g).few,
-            ((statement_small y turn).by k (unroll_stm depth x turn k g).1).few,
-            ((tests_small e turn q what.If).by (unroll_stm depth x turn k g).0
-            (unroll_stm depth y turn k (unroll_stm depth x turn k g).1).0
-            (unroll_stm depth y turn k (unroll_stm depth x turn k g).1).1).few);
+        few = omega (
+          arith,
+          ((statement_small x turn).by k g).few,
+          ((statement_small y turn).by k (unroll_stm depth x turn k g).1).few,
+          ((tests_small e turn q what.If).by (unroll_stm depth x turn k g).0
+              (unroll_stm depth y turn k (unroll_stm depth x turn k g).1).0
+              (unroll_stm depth y turn k (unroll_stm depth x turn k g).1).1).few,
+        );
       };
     }
     statement_small (While q e x) turn =
@@ -724,7 +779,9 @@ few_left f j ns = omega (arith, length-map (drop j ns) f, length-drop j ns)
 
 pub graphs_small : (s : Source) → length (flow s).nodes ≤ 2 + 3 * unrolled s.depth s.body
 graphs_small s =
-    omega (arith,
-    few_left (turned (grown s.depth s.body).0) (length (grown s.depth s.body).1.nodes - ((grown s.depth s.body).0 + 1))
-    (grown s.depth s.body).1.nodes,
-    ((statement_small s.depth s.body 0).by (all_at 1) (at_end s.body)).few)
+    omega (
+      arith,
+      few_left (turned (grown s.depth s.body).0) (length (grown s.depth s.body).1.nodes - ((grown s.depth s.body).0 + 1))
+          (grown s.depth s.body).1.nodes,
+      ((statement_small s.depth s.body 0).by (all_at 1) (at_end s.body)).few,
+    )

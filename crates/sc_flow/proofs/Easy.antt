@@ -12,33 +12,33 @@ use Rattle.sc_flow.specs.Steps as steps
 use Rattle.sc_world.specs.Source.{Struct}
 use Rattle.sc_gather.specs.Seen.{arguments_of}
 use Rattle.flow_graph.specs.Growing.{Growing, ◌>>=◌}
-use Rattle.flow_graph.specs.Expressions.{easy, unroll, kept, Aim, Into, Part, plainly, count, one, two, logical, assigning, binary, converted, unary, indexed, is_scalar}
+use Rattle.flow_graph.specs.Expressions.{easy, unroll, kept, Aim, Into, Part, plainly, comma, count, one, two, logical, assigning, binary, converted, unary, indexed, is_scalar}
 
 plain : (e : Exp) (hard : Part) (aim : Aim) (g : Growing) → easy e ≡ true → plainly e hard aim g ≡ kept e aim g
 plain e hard aim g h = ap (λ b. (if b then kept e aim else hard aim) g) h
 
 pub easy_is_kept : (e : Exp) (turn : ℕ) (aim : Aim) (g : Growing) → easy e ≡ true → unroll e turn aim g ≡ kept e aim g
-easy_is_kept (Comma a b t) turn aim g h = plain (Comma a b t) _ aim g h
-easy_is_kept (Assign o w a b t) turn aim g h = plain (Assign o w a b t) _ aim g h
+easy_is_kept (Comma a b t) turn aim g h = plain (Comma a b t) (comma (unroll a turn) (unroll b turn)) aim g h
+easy_is_kept (Assign o w a b t) turn aim g h = plain (Assign o w a b t) (assigning o w a b t (unroll a turn) (unroll b turn)) aim g h
 easy_is_kept (Cond a b c t) turn aim g h = absurd (false≢true h)
-easy_is_kept (Binary o a b t) turn aim g h = plain (Binary o a b t) _ aim g h
-easy_is_kept (Cast a t) turn aim g h = plain (Cast a t) _ aim g h
-easy_is_kept (Unary o a t) turn aim g h = plain (Unary o a t) _ aim g h
-easy_is_kept (PreInc s a t) turn aim g h = plain (PreInc s a t) _ aim g h
-easy_is_kept (PostInc s a t) turn aim g h = plain (PostInc s a t) _ aim g h
-easy_is_kept (SizeofExpr a n t) turn aim g h = plain (SizeofExpr a n t) _ aim g h
+easy_is_kept (Binary o a b t) turn aim g h = plain (Binary o a b t) (binary o a b t (unroll a turn) (unroll b turn)) aim g h
+easy_is_kept (Cast a t) turn aim g h = plain (Cast a t) (converted a (λ x. Cast x t) (unroll a turn)) aim g h
+easy_is_kept (Unary o a t) turn aim g h = plain (Unary o a t) (unary o a t (unroll a turn)) aim g h
+easy_is_kept (PreInc s a t) turn aim g h = plain (PreInc s a t) (one Place' (unroll a turn) (λ x. PreInc s (TempPlace x (type_of a)) t)) aim g h
+easy_is_kept (PostInc s a t) turn aim g h = plain (PostInc s a t) (one Place' (unroll a turn) (λ x. PostInc s (TempPlace x (type_of a)) t)) aim g h
+easy_is_kept (SizeofExpr a n t) turn aim g h = plain (SizeofExpr a n t) (kept (SizeofType n t)) aim g h
 easy_is_kept (SizeofType n t) turn aim g h = refl
-easy_is_kept (Index a b t) turn aim g h = plain (Index a b t) _ aim g h
+easy_is_kept (Index a b t) turn aim g h = plain (Index a b t) (indexed a b t (unroll a turn) (unroll b turn)) aim g h
 easy_is_kept (Call p f es t) turn aim g h = absurd (false≢true h)
-easy_is_kept (Field a n true t) turn aim g h = plain (Field a n true t) _ aim g h
-easy_is_kept (Field a n false t) turn aim g h = plain (Field a n false t) _ aim g h
+easy_is_kept (Field a n true t) turn aim g h = plain (Field a n true t) (one Value (unroll a turn) (λ x. Field (Temp x (type_of a)) n true t)) aim g h
+easy_is_kept (Field a n false t) turn aim g h = plain (Field a n false t) (one Place' (unroll a turn) (λ x. Field (TempPlace x (type_of a)) n false t)) aim g h
 easy_is_kept (Param n t) turn aim g h = refl
 easy_is_kept (Local n t) turn aim g h = refl
 easy_is_kept (Global n t) turn aim g h = refl
 easy_is_kept (Function n b t) turn aim g h = refl
 easy_is_kept (Number n t) turn aim g h = refl
 easy_is_kept (Str p t) turn aim g h = refl
-easy_is_kept (Convert a t) turn aim g h = plain (Convert a t) _ aim g h
+easy_is_kept (Convert a t) turn aim g h = plain (Convert a t) (converted a (λ x. Convert x t) (unroll a turn)) aim g h
 easy_is_kept (Temp n t) turn aim g h = absurd (false≢true h)
 easy_is_kept (TempPlace n t) turn aim g h = absurd (false≢true h)
 
@@ -93,7 +93,7 @@ unary_is sign.Complement a t l aim g = refl
 unary_is sign.Not a t l aim g = refl
 
 pub hard_is : (e : Exp) (turn : ℕ) (aim : Aim) (g : Growing) → easy e ≡ false → unroll e turn aim g ≡ steps.hard e turn aim g
-hard_is (Comma a b t) turn aim g h = skip (Comma a b t) _ aim g h
+hard_is (Comma a b t) turn aim g h = skip (Comma a b t) (comma (unroll a turn) (unroll b turn)) aim g h
 hard_is (Assign o w a b t) turn aim g h =
     skip (Assign o w a b t) (assigning o w a b t (unroll a turn) (unroll b turn)) aim g h
     ∙ assigning_is o w a b t (unroll a turn) (unroll b turn) aim g
@@ -106,16 +106,16 @@ hard_is (Cast a t) turn aim g h =
     ∙ cast_is (is_array (type_of a)) a (λ x. Cast x t) (unroll a turn) aim g
 hard_is (Unary o a t) turn aim g h =
     skip (Unary o a t) (unary o a t (unroll a turn)) aim g h ∙ unary_is o a t (unroll a turn) aim g
-hard_is (PreInc s a t) turn aim g h = skip (PreInc s a t) _ aim g h
-hard_is (PostInc s a t) turn aim g h = skip (PostInc s a t) _ aim g h
-hard_is (SizeofExpr a n t) turn aim g h = skip (SizeofExpr a n t) _ aim g h
+hard_is (PreInc s a t) turn aim g h = skip (PreInc s a t) (one Place' (unroll a turn) (λ x. PreInc s (TempPlace x (type_of a)) t)) aim g h
+hard_is (PostInc s a t) turn aim g h = skip (PostInc s a t) (one Place' (unroll a turn) (λ x. PostInc s (TempPlace x (type_of a)) t)) aim g h
+hard_is (SizeofExpr a n t) turn aim g h = skip (SizeofExpr a n t) (kept (SizeofType n t)) aim g h
 hard_is (SizeofType n t) turn aim g h = refl
 hard_is (Index a b t) turn aim g h =
     skip (Index a b t) (indexed a b t (unroll a turn) (unroll b turn)) aim g h
     ∙ index_is (is_array (type_of a)) a b t (unroll a turn) (unroll b turn) aim g
 hard_is (Call p f es t) turn aim g h = refl
-hard_is (Field a n true t) turn aim g h = skip (Field a n true t) _ aim g h
-hard_is (Field a n false t) turn aim g h = skip (Field a n false t) _ aim g h
+hard_is (Field a n true t) turn aim g h = skip (Field a n true t) (one Value (unroll a turn) (λ x. Field (Temp x (type_of a)) n true t)) aim g h
+hard_is (Field a n false t) turn aim g h = skip (Field a n false t) (one Place' (unroll a turn) (λ x. Field (TempPlace x (type_of a)) n false t)) aim g h
 hard_is (Param n t) turn aim g h = refl
 hard_is (Local n t) turn aim g h = refl
 hard_is (Global n t) turn aim g h = refl

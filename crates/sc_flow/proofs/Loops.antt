@@ -1,7 +1,13 @@
 -- The turns of a loop, from the last one to the first.
 use Rattle.std.proofs.Common.{◌≡◌, ℕ, zero, suc, ◌+◌, ◌-◌, ◌<◌, ◌≤◌, Option, None, refl, sym, ap, ◌∙◌, arith}
+use Rattle.std.specs.Prelude.{Some}
+use Rattle.sc_base.specs.declared.pos.Pos.{Pos}
+use Rattle.sum_rows.specs.declared.report.What.TheVariants as what
+use Rattle.sc_world.specs.Tree.{Exp, Start, Stm, While, Do, For}
 use Rattle.flow_graph.specs.Growing.{Build, Growing}
-use Rattle.flow_graph.specs.Statements.{Targets, Piece, while_turns, while_turn, last_turn, do_turns, do_turn, aside_at, in_loop, with_step, dropped_if}
+use Rattle.flow_graph.specs.Expressions.{unroll}
+use Rattle.sc_flow.specs.Steps as steps
+use Rattle.flow_graph.specs.Statements.{Targets, Piece, while_turns, while_turn, last_turn, do_turns, do_turn, aside_at, in_loop, with_step, dropped_if, tested, turn_of, started, unroll_stm}
 
 pub last_of : (d : ℕ) (test : ℕ → ℕ → ℕ → Build ℕ) (body : ℕ → Piece) (k : Targets) (g : Growing)
     → while_turns (d - d) d test body k g ≡ last_turn (test d) k g
@@ -63,3 +69,21 @@ pub step_behind : (body : Piece) (step : ℕ → Build ℕ) (k : Targets) (again
     → (b, after) ≡ with_step body step k rest
 step_behind body step k again b rest made after stepped first =
     first ∙ ap (λ r. body (record k { next = r.0; again = r.0 }) r.1) stepped
+
+-- The statements themselves.
+
+pub while_is : (depth turn : ℕ) (x : Stm) (p : Pos) (e : Exp) (b : Stm) (k : Targets) (g : Growing) → x ≡ While p e b
+    → steps.turns depth (Some e) None b turn p k g ≡ unroll_stm depth x turn k g
+while_is depth turn x p e b k g h =
+    without_step depth 0 (λ t. tested (unroll e (turn_of turn (depth + 1) t)) p what.Loop) (λ t. unroll_stm depth b (turn_of turn depth t))
+    (turn_of turn depth) k g
+    ∙ ap (λ y. unroll_stm depth y turn k g) (sym h)
+
+pub do_is : (depth turn : ℕ) (x : Stm) (p : Pos) (b : Stm) (e : Exp) (k : Targets) (g : Growing) → x ≡ Do p b e
+    → steps.do_turns depth e b turn p k g ≡ unroll_stm depth x turn k g
+do_is depth turn x p b e k g h = ap (λ y. unroll_stm depth y turn k g) (sym h)
+
+pub for_is : (depth turn : ℕ) (x : Stm) (p : Pos) (f : Start) (c n : Option Exp) (b : Stm) (k : Targets) (g made : Growing) (at : ℕ)
+    → x ≡ For p f c n b → (at, made) ≡ steps.turns depth c n b turn p k g → started f turn at made ≡ unroll_stm depth x turn k g
+for_is depth turn x p f c n b k g made at h loop =
+    ap (λ r. started f turn r.0 r.1) loop ∙ ap (λ y. unroll_stm depth y turn k g) (sym h)

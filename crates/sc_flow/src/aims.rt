@@ -72,7 +72,7 @@ pub fn keep<'p>(
 ) -> Result<u32, OutOfMemory>
     ensures { IfOk result (λ at. (at, seen.growing (seen.structs_of here.now) g.new)
         ≡ spec.kept (seen.expression (seen.structs_of here.now) expression.entry) (seen.aim aim)
-            (seen.growing (seen.structs_of here.now) g.old)) }
+        (seen.growing (seen.structs_of here.now) g.old)) }
 {
     let k = goal_of(g, here, aim)?;
     g.put(

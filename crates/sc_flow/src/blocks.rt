@@ -164,7 +164,7 @@ pub fn choose<'p>(
 ) -> Result<u32, OutOfMemory>
     ensures { IfOk result (λ at. (at, seen.growing (seen.structs_of here.now) g.new)
         ≡ steps.choose (exp (seen.structs_of here.now) e.now) pos turn (seen.cases opened.now.cases.items) (spec.node_or next opened.now.default)
-            (seen.growing (seen.structs_of here.now) g.old)) }
+        (seen.growing (seen.structs_of here.now) g.old)) }
 {
     let from = g.fresh(here, 1)?;
     let default = node_or(next, opened.default);

@@ -45,7 +45,7 @@ pub fn condition<'p>(
 ) -> Result<u32, OutOfMemory>
     ensures { IfOk result (λ at. (at, seen.growing (seen.structs_of here.now) g.new)
         ≡ spec.tested (unroll (exp (seen.structs_of here.now) e.now) turn) pos (seen.event_of tested) hit miss
-            (seen.growing (seen.structs_of here.now) g.old)) }
+        (seen.growing (seen.structs_of here.now) g.old)) }
 {
     let held = g.put(
         here,
@@ -78,7 +78,7 @@ pub fn loop_condition<'p>(
 ) -> Result<u32, OutOfMemory>
     ensures { IfOk result (λ at. (at, seen.growing (seen.structs_of here.now) g.new)
         ≡ spec.test_or_true (seen.expression_if (seen.structs_of here.now) e.entry) turn pos hit miss
-            (seen.growing (seen.structs_of here.now) g.old)) }
+        (seen.growing (seen.structs_of here.now) g.old)) }
 {
     match e {
         None => g.put(
@@ -105,13 +105,7 @@ pub fn dropped<'p>(
         ≡ spec.dropped (unroll (exp (seen.structs_of here.now) e.now) turn) next (seen.growing (seen.structs_of here.now) g.old)) }
 {
     let x = g.fresh(here, 1)?;
-    expression(
-        g,
-        here,
-        e,
-        turn,
-        Aim::Into(Want::Value, x, next),
-    )
+    expression(g, here, e, turn, Aim::Into(Want::Value, x, next))
 }
 
 /// The same, where there is one.
@@ -175,13 +169,7 @@ pub fn returning<'p>(
                     next,
                 },
             )?;
-            expression(
-                g,
-                here,
-                e,
-                turn,
-                Aim::Into(Want::Value, x, mark),
-            )
+            expression(g, here, e, turn, Aim::Into(Want::Value, x, mark))
         }
     }
 }

@@ -11,7 +11,9 @@ use crate::aims::{Aim, first_test, goal_of, keep, sides_of};
 use crate::growing::{Growing, added, counted};
 use crate::node::{Calling, Expression, Updating, Want};
 use crate::operands::{calls, former, read_one, read_two, temp_place, update};
-use crate::questions::{arrow_want, is_easy, is_logical, is_name, operand_want, operator, right_want};
+use crate::questions::{
+    arrow_want, is_easy, is_logical, is_name, operand_want, operator, right_want,
+};
 use sc_base::{List, OutOfMemory};
 use sc_gather::Context;
 use sc_tree::op::UnaryOp;
@@ -53,13 +55,7 @@ fn hard<'p>(
         What::Comma(a, b) => {
             let second = expression(g, here, b.get(), turn, aim)?;
             let x = g.fresh(here, 1)?;
-            expression(
-                g,
-                here,
-                a.get(),
-                turn,
-                Aim::Into(Want::Value, x, second),
-            )
+            expression(g, here, a.get(), turn, Aim::Into(Want::Value, x, second))
         }
         What::Assign(op, works, a, b) => match operator(*op) {
             None => {
@@ -153,20 +149,17 @@ fn hard<'p>(
                     Aim::Into(Want::Place, k.temp, k.next),
                 )
             }
-            UnaryOp::Deref
-            | UnaryOp::Not
-            | UnaryOp::Plus
-            | UnaryOp::Minus
-            | UnaryOp::Complement => {
-                let s = read_one(g, here, e, aim)?;
-                expression(
-                    g,
-                    here,
-                    a.get(),
-                    turn,
-                    Aim::Into(Want::Value, s.operand, s.next),
-                )
-            }
+            UnaryOp::Deref | UnaryOp::Not | UnaryOp::Plus | UnaryOp::Minus | UnaryOp::Complement =>
+                {
+                    let s = read_one(g, here, e, aim)?;
+                    expression(
+                        g,
+                        here,
+                        a.get(),
+                        turn,
+                        Aim::Into(Want::Value, s.operand, s.next),
+                    )
+                }
         },
         What::PreInc(_, a) | What::PostInc(_, a) => {
             let s = read_one(g, here, e, aim)?;
@@ -209,13 +202,7 @@ fn hard<'p>(
                 Ok(first)
             } else {
                 let x = g.fresh(here, 1)?;
-                expression(
-                    g,
-                    here,
-                    f.get(),
-                    turn,
-                    Aim::Into(Want::Value, x, first),
-                )
+                expression(g, here, f.get(), turn, Aim::Into(Want::Value, x, first))
             }
         }
         What::Field(a, _, _, arrow) => {
@@ -260,13 +247,7 @@ fn arguments<'p>(
     while k > 0 {
         k -= 1;
         let temp = added(first, counted(k)?)?;
-        at = expression(
-            g,
-            here,
-            &items[k],
-            turn,
-            Aim::Into(Want::Value, temp, at),
-        )?;
+        at = expression(g, here, &items[k], turn, Aim::Into(Want::Value, temp, at))?;
     }
     Ok(at)
 }

@@ -214,11 +214,7 @@ fn ending(g: &mut Growing, here: &Context, pos: Pos) -> Result<u32, OutOfMemory>
 }
 
 // The body, with what stands behind it; one that is not taken is an empty block.
-fn body<'p>(
-    alloc: Global,
-    g: &mut Growing<'p>,
-    here: &Context<'p, '_>,
-) -> Result<u32, OutOfMemory>
+fn body<'p>(alloc: Global, g: &mut Growing<'p>, here: &Context<'p, '_>) -> Result<u32, OutOfMemory>
     ensures { IfOk result (λ at. (at, seen.growing (seen.structs_of here.now) g.new)
         ≡ spec.body (gathered.source_of here.now).depth (gathered.source_of here.now).body (seen.growing (seen.structs_of here.now) g.old)) }
 {
@@ -240,16 +236,7 @@ fn body<'p>(
                 lost: end,
             };
             let mut labels = Vec::new(alloc);
-            statement(
-                alloc,
-                g,
-                here,
-                here.depth(),
-                &mut labels,
-                s,
-                0,
-                ways,
-            )
+            statement(alloc, g, here, here.depth(), &mut labels, s, 0, ways)
         }
     }
 }

@@ -54,32 +54,18 @@ fn given<'p>(
 ) -> Result<u32, OutOfMemory>
     ensures { IfOk result (λ at. (at, seen.growing (seen.structs_of here.now) g.new)
         ≡ steps.given (seen.taking taker) (view.exp (seen.structs_of here.now) e.now) (unroll (view.exp (seen.structs_of here.now) e.now) turn) next
-            (seen.growing (seen.structs_of here.now) g.old)) }
+        (seen.growing (seen.structs_of here.now) g.old)) }
 {
     if is_easy(here, e) {
-        return g.put(
-            here,
-            taking(here, taker, Expression::Source(e), next),
-        );
+        return g.put(here, taking(here, taker, Expression::Source(e), next));
     }
     let x = g.fresh(here, 1)?;
     let t = here.type_of(e);
     if is_scalar(t) {
-        let at = g.put(
-            here,
-            taking(here, taker, Expression::Temp(x, t), next),
-        )?;
+        let at = g.put(here, taking(here, taker, Expression::Temp(x, t), next))?;
         expression(g, here, e, turn, Aim::Into(Want::Value, x, at))
     } else {
-        let at = g.put(
-            here,
-            taking(
-                here,
-                taker,
-                Expression::TempPlace(x, t),
-                next,
-            ),
-        )?;
+        let at = g.put(here, taking(here, taker, Expression::TempPlace(x, t), next))?;
         expression(g, here, e, turn, Aim::Into(Want::Place, x, at))
     }
 }
@@ -101,14 +87,7 @@ fn values<'p>(
     while k > 0 {
         k -= 1;
         let slot = added(first, counted(k)?)?;
-        at = given(
-            g,
-            here,
-            Taker::Slot(slot),
-            &items[k].value,
-            turn,
-            at,
-        )?;
+        at = given(g, here, Taker::Slot(slot), &items[k].value, turn, at)?;
     }
     Ok(at)
 }
@@ -160,14 +139,7 @@ fn initialised<'p>(
             TInit::One(e) => given(g, here, Taker::Local(local), e, turn, next),
             TInit::Braces(items) => {
                 let s = fills(g, here, local, items.as_slice(), next)?;
-                values(
-                    g,
-                    here,
-                    items.as_slice(),
-                    turn,
-                    s.operand,
-                    s.next,
-                )
+                values(g, here, items.as_slice(), turn, s.operand, s.next)
             }
         },
     }

@@ -107,7 +107,11 @@ pub enum Node<'p> {
         next: u32,
     },
     /// Goes on at `hit` where the value in a temp is not 0, else at `miss`.
-    Branch { from: u32, hit: u32, miss: u32 },
+    Branch {
+        from: u32,
+        hit: u32,
+        miss: u32,
+    },
     /// Goes on at `hit` where the value in a temp is that number, else at `miss`.
     Choose {
         from: u32,
@@ -116,7 +120,11 @@ pub enum Node<'p> {
         miss: u32,
     },
     /// Adds an event to the trace.
-    Mark { pos: Pos, event: What, next: u32 },
+    Mark {
+        pos: Pos,
+        event: What,
+        next: u32,
+    },
     /// Adds the event of a `switch`, whose number is the value in a temp, of that type.
     MarkSwitch {
         pos: Pos,
@@ -125,7 +133,11 @@ pub enum Node<'p> {
         next: u32,
     },
     /// The function ends, with the value in a temp or without one.
-    Exit { from: Option<u32> },
+    Exit {
+        from: Option<u32>,
+    },
     /// The walk is set aside.
-    SetAside { reason: Reason },
+    SetAside {
+        reason: Reason,
+    },
 }

@@ -156,7 +156,7 @@ pub fn calls<'p>(
 ) -> Result<One, OutOfMemory>
     ensures { IfOk result (λ s. (s, seen.growing (seen.structs_of here.now) g.new)
         ≡ steps.calls (seen.calling (seen.structs_of here.now) calling.entry) (spec.count (arguments_of (seen.structs_of here.now) args.now))
-            (seen.aim aim) (seen.growing (seen.structs_of here.now) g.old)) }
+        (seen.aim aim) (seen.growing (seen.structs_of here.now) g.old)) }
 {
     let count = counted(args.len())?;
     call_node(g, here, calling, count, aim)

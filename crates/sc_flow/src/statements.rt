@@ -45,7 +45,7 @@ fn test<'p>(
 ) -> Result<u32, OutOfMemory>
     ensures { IfOk result (λ at. (at, seen.growing (seen.structs_of here.now) g.new)
         ≡ spec.test_or_true (seen.expression_if (seen.structs_of here.now) e.entry) (spec.turn_of turn (depth + 1) t) pos hit miss
-            (seen.growing (seen.structs_of here.now) g.old)) }
+        (seen.growing (seen.structs_of here.now) g.old)) }
 {
     let inner = turn_of(turn, added(depth, 1)?, t)?;
     loop_condition(g, here, e, inner, pos, hit, miss)
@@ -63,7 +63,7 @@ fn last_test<'p>(
 ) -> Result<u32, OutOfMemory>
     ensures { IfOk result (λ at. (at, seen.growing (seen.structs_of here.now) g.new)
         ≡ steps.last_test (spec.test_or_true (seen.expression_if (seen.structs_of here.now) e.entry) (spec.turn_of turn (depth + 1) depth) pos) miss
-            (seen.growing (seen.structs_of here.now) g.old)) }
+        (seen.growing (seen.structs_of here.now) g.old)) }
 {
     let aside = g.put(
         here,
@@ -121,16 +121,7 @@ pub fn statement<'p>(
         TStmt::If(e, x, y, pos) => {
             let hit = statement(alloc, g, here, depth, labels, x.get(), turn, ways)?;
             match y {
-                None => condition(
-                    g,
-                    here,
-                    e,
-                    turn,
-                    *pos,
-                    Tested::If,
-                    hit,
-                    ways.next,
-                ),
+                None => condition(g, here, e, turn, *pos, Tested::If, hit, ways.next),
                 Some(y) => {
                     let miss = statement(alloc, g, here, depth, labels, y.get(), turn, ways)?;
                     condition(g, here, e, turn, *pos, Tested::If, hit, miss)
@@ -153,18 +144,7 @@ pub fn statement<'p>(
             )
         }
         TStmt::Do(x, e, pos) => {
-            do_turns(
-                alloc,
-                g,
-                here,
-                depth,
-                labels,
-                x.get(),
-                e,
-                turn,
-                *pos,
-                ways,
-            )
+            do_turns(alloc, g, here, depth, labels, x.get(), e, turn, *pos, ways)
         }
         TStmt::For(first, e, step, x, pos) => {
             let at = turns(
@@ -263,7 +243,7 @@ fn turns<'p>(
 ) -> Result<u32, OutOfMemory>
     ensures made { IfOk result (λ at. (at, seen.growing (seen.structs_of here.now) g.new)
         ≡ steps.turns depth (seen.expression_if (seen.structs_of here.now) e.entry) (seen.expression_if (seen.structs_of here.now) step.entry)
-            (stm (seen.structs_of here.now) s.now) turn pos (seen.targets ways labels.old.items) (seen.growing (seen.structs_of here.now) g.old)) }
+        (stm (seen.structs_of here.now) s.now) turn pos (seen.targets ways labels.old.items) (seen.growing (seen.structs_of here.now) g.old)) }
     ensures labels { OnOk result (labels.new.items ≡ labels.old.items) }
 {
     let mut at = last_test(g, here, depth, e, turn, pos, ways.next)?;
@@ -300,7 +280,7 @@ fn do_turns<'p>(
 ) -> Result<u32, OutOfMemory>
     ensures made { IfOk result (λ at. (at, seen.growing (seen.structs_of here.now) g.new)
         ≡ steps.do_turns depth (exp (seen.structs_of here.now) e.now) (stm (seen.structs_of here.now) s.now) turn pos
-            (seen.targets ways labels.old.items) (seen.growing (seen.structs_of here.now) g.old)) }
+        (seen.targets ways labels.old.items) (seen.growing (seen.structs_of here.now) g.old)) }
     ensures labels { OnOk result (labels.new.items ≡ labels.old.items) }
 {
     let mut at = g.put(
@@ -313,16 +293,7 @@ fn do_turns<'p>(
     while t > 0 {
         t -= 1;
         let inner = turn_of(turn, depth, t)?;
-        let tested = condition(
-            g,
-            here,
-            e,
-            inner,
-            pos,
-            Tested::Loop,
-            at,
-            ways.next,
-        )?;
+        let tested = condition(g, here, e, inner, pos, Tested::Loop, at, ways.next)?;
         let within = Ways {
             next: tested,
             leave: ways.next,

@@ -42,7 +42,12 @@ pub fn look(labels: &[Label], name: NameId, lost: u32) -> u32
 
 // The labels in front of a statement, which begins at that node.
 #[tactic(auto, unfolding(crate::specs::Seen::labels), using(crate::proofs::Nodes::put_step, crate::proofs::Labels::front_stays))]
-pub fn name_labels(labels: &mut Vec<Label>, here: &Context, s: &TStmt, at: u32) -> Result<(), OutOfMemory>
+pub fn name_labels(
+    labels: &mut Vec<Label>,
+    here: &Context,
+    s: &TStmt,
+    at: u32,
+) -> Result<(), OutOfMemory>
     ensures labels { OnOk result (seen.labels labels.new.items ≡ spec.labels_of (stm (seen.structs_of here.now) s.now) at (seen.labels labels.old.items)) }
     ensures front { OnOk result (take (length labels.old.items) labels.new.items ≡ labels.old.items) }
     ensures longer { OnOk result (length labels.old.items ≤ length labels.new.items) }

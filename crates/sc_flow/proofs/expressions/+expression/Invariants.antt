@@ -7,8 +7,8 @@ use Rattle.sc_flow.proofs.expressions.+expression.Given as goal
 abbrev pub invariant-arguments-loop-k : goal.invariant-arguments-loop-k
 invariant-arguments-loop-k l = record {
   made :
-    (l.at, growing (structs_of l.here) l.g)
-    ≡ unroll_all (arguments_of (structs_of l.here) (drop l.k l.items)) l.turn (l.first + l.k) l.next (growing (structs_of l.fn.here) l.fn.g);
+      (l.at, growing (structs_of l.here) l.g)
+      ≡ unroll_all (arguments_of (structs_of l.here) (drop l.k l.items)) l.turn (l.first + l.k) l.next (growing (structs_of l.fn.here) l.fn.g);
   few : l.k ≤ length l.items;
 }
 

@@ -7,7 +7,7 @@ use Rattle.sc_flow.proofs.targets.look.Given as goal
 abbrev pub invariant-loop-k : goal.invariant-loop-k
 invariant-loop-k l = record {
   found :
-    spec.look l.name (reverse (map target (take l.k l.labels))) l.lost ≡ spec.look l.name (reverse (map target l.labels)) l.lost;
+      spec.look l.name (reverse (map target (take l.k l.labels))) l.lost ≡ spec.look l.name (reverse (map target l.labels)) l.lost;
   few : l.k ≤ length l.labels;
 }
 
