@@ -1,0 +1,5 @@
+pub mod Easy
+pub mod Labels
+pub mod Lists
+pub mod Loops
+pub mod Nodes
