@@ -2,38 +2,18 @@
 
 use Rattle.std.proofs.Common.{◌≡◌, ◌⊎◌, inl, inr, ℕ, zero, suc, Bool, true, false, not, List, [], ◌∷◌, ◌++◌, map, slice_get, Option, None, Some, IfSome, MatchOption, refl, sym, subst, ap, ◌∙◌, append_assoc, arith}
 use Rattle.std.specs.List.{Contains}
-use Rattle.std.proofs.lemmas.List.{append-nil}
-use Rattle.std.proofs.lemmas.List.Elements.{Contains-append_left, Contains-append_right, Contains-append_cases, Contains-push, Contains-push_cases}
+use Rattle.std.proofs.lemmas.List.Elements.{Contains-append_left, Contains-append_right, Contains-append_cases}
 use Rattle.sat_base.specs.declared.literal.Lit.{Lit}
 use Rattle.sat_base.specs.declared.certificate.Step.{Step}
 use Rattle.sat_base.specs.declared.certificate.Step.TheVariants.{Add, Drop}
 use Rattle.sat_base.specs.Logic.{negation}
 use Rattle.sat_base.specs.Certificates.{Forced, by_assumption, by_clause, IsRup, IsStep, IsCertificate}
-use Rattle.sat_cdcl.specs.Learnt.{Thins, Adds}
+use Rattle.sat_cdcl.specs.Learnt.{Thins, Adds, IsFree}
 use Rattle.sat_cdcl.specs.Resolvents.{TakesAll, Leaves}
-use Rattle.sat_cdcl.specs.Certified.{units, HeldState, added, Derives, IsKnown, Infers, IsInferred, IsRefuted, AreAssumedFalse, IsOpposed, noted, Records, IsRecorded}
+use Rattle.sat_cdcl.specs.Certified.{units, HeldState, present, IsKnown, Infers, IsInferred, IsRefuted, AreAssumedFalse, IsOpposed, noted, ended, Leads, Covers, Records, IsRecorded, MayEnd}
+use Rattle.sat_cdcl.proofs.CoverLemmas.{empty_has, head_in, tail_in, head_or_tail, Sub, some_same, takes_out, loses_last, covers_present, covers_others, covers_thins, covers_lost, covers_adds}
 
 -- ---- lists
-
-empty_has : {X : Type 0} {A : Type 0} (x : X) → Contains [] x → A
-empty_has x h = let low = h.1 in absurd (omega (arith, low))
-
-head_in : {X : Type 0} (x : X) (xs : List X) → Contains (x ∷ xs) x
-head_in x xs = Contains-append_left (x ∷ []) xs x (Contains-push [] x)
-
-tail_in : {X : Type 0} (x : X) (xs : List X) (y : X) → Contains xs y → Contains (x ∷ xs) y
-tail_in x xs y h = Contains-append_right (x ∷ []) xs y h
-
-head_or_tail : {X : Type 0} (x : X) (xs : List X) (y : X) → Contains (x ∷ xs) y → (x ≡ y) ⊎ Contains xs y
-head_or_tail x xs y h =
-    elim (Contains-append_cases (x ∷ []) xs y h) [
-      | inl first ↦
-          elim (Contains-push_cases [] x y first) [
-            | inl none ↦ empty_has y none
-            | inr same ↦ inl same
-          ]
-      | inr later ↦ inr later
-    ]
 
 map_has : {A B : Type 0} (f : A → B) (xs : List A) (x : A) → Contains xs x → Contains (map f xs) (f x)
 map_has f [] x h = empty_has x h
@@ -49,16 +29,6 @@ map_from f (x ∷ xs) y h =
     elim (head_or_tail (f x) (map f xs) y h) [
       | inl same ↦ (x, head_in x xs, same)
       | inr later ↦ let t = map_from f xs y later in (t.0, tail_in x xs t.0 t.1, t.2)
-    ]
-
-abbrev pub Sub : List (List Lit) → List (List Lit) → Type 0
-Sub A B = (c : List Lit) → Contains A c → Contains B c
-
-sub_push : (A B : List (List Lit)) (d : List Lit) → Sub A B → Sub (A ++ d ∷ []) (B ++ d ∷ [])
-sub_push A B d sub c h =
-    elim (Contains-push_cases A d c h) [
-      | inl before ↦ Contains-append_left B (d ∷ []) c (sub c before)
-      | inr same ↦ subst (Contains (B ++ d ∷ [])) same (Contains-push B d)
     ]
 
 -- each element is this one or has the property: it is among them, or all have it
@@ -139,9 +109,6 @@ infers_taken A old new clause one takes given h = record {
       ];
 }
 
-some_same : {X : Type 0} (x y : X) → Some x ≡ Some y → x ≡ y
-some_same x y e = cc e
-
 infers_resolved : (A : List (List Lit)) (old mid new clause : List Lit) (k : ℕ) (gone pivot : Lit) → gone ≡ negation pivot → slice_get old k ≡ Some gone
     → Leaves old mid k → TakesAll mid new clause (Some pivot) → Contains A clause → Infers A old → Infers A new
 infers_resolved A old mid new clause k gone pivot is found leaves takes one before given h =
@@ -171,52 +138,40 @@ infers_resolved A old mid new clause k gone pivot is found leaves takes one befo
       | inr all ↦ record { clause = clause; one = one; forced = all }
     ]
 
--- ---- what is known and inferred where a log is kept
-
-known_given : (log : Option (List Step)) (given : List (List Lit)) (c : List Lit) → Contains given c → IfSome log (λ steps. Contains (given ++ added steps) c)
-known_given None given c h = tt
-known_given (Some steps) given c h = Contains-append_left given (added steps) c h
-
-known_learnt : (log : Option (List Step)) (given : List (List Lit)) (learnt : List (Option (List Lit))) (i : ℕ) (c : List Lit) → IsRecorded given learnt log
-    → slice_get learnt i ≡ Some (Some c) → IfSome log (λ steps. Contains (given ++ added steps) c)
-known_learnt None given learnt i c h at = tt
-known_learnt (Some steps) given learnt i c h at = Contains-append_right given (added steps) c (h.1 i c at)
+-- ---- what is known and inferred
 
 slice_has : {X : Type 0} (xs : List X) (i : ℕ) (x : X) → slice_get xs i ≡ Some x → Contains xs x
 slice_has [] i x h = absurd (cc h)
 slice_has (y ∷ ys) zero x h = subst (Contains (y ∷ ys)) (some_same y x h) (head_in y ys)
 slice_has (y ∷ ys) (suc i) x h = tail_in y ys x (slice_has ys i x h)
 
+present_has : (learnt : List (Option (List Lit))) (i : ℕ) (c : List Lit) → slice_get learnt i ≡ Some (Some c) → Contains (present learnt) c
+present_has [] i c h = absurd (cc h)
+present_has (None ∷ rest) zero c h = absurd (cc h)
+present_has (None ∷ rest) (suc i) c h = present_has rest i c h
+present_has (Some d ∷ rest) zero c h = let e : d ≡ c = cc h in subst (Contains (d ∷ present rest)) e (head_in d (present rest))
+present_has (Some d ∷ rest) (suc i) c h = tail_in d (present rest) c (present_has rest i c h)
+
 -- a given clause that is found is known
 pub known_at : {B : Type 0} (view : B → List Lit) (s : HeldState) (i : ℕ) (P : Type 0) (o : Option B) → MatchOption o P (λ b. slice_get s.given i ≡ Some (view b))
     → IfSome o (λ b. IsKnown s (view b))
 known_at view s i P None h = tt
-known_at view s i P (Some b) h = known_given s.log s.given (view b) (slice_has s.given i (view b) h)
+known_at view s i P (Some b) h = Contains-append_left s.given s.learnt (view b) (slice_has s.given i (view b) h)
 
 -- and so is a learnt one
-pub known_by : {B : Type 0} (view : B → List Lit) (s : HeldState) (learnt : List (Option (List Lit))) (i : ℕ) (o : Option B) → IsRecorded s.given learnt s.log
+pub known_by : {B : Type 0} (view : B → List Lit) (s : HeldState) (learnt : List (Option (List Lit))) (i : ℕ) (o : Option B) → present learnt ≡ s.learnt
     → IfSome o (λ b. slice_get learnt i ≡ Some (Some (view b))) → IfSome o (λ b. IsKnown s (view b))
-known_by view s learnt i None h found = tt
-known_by view s learnt i (Some b) h found = known_learnt s.log s.given learnt i (view b) h found
-
-if_both : {A : Type 0} (o : Option A) (P Q R : A → Type 0) → ((a : A) → P a → Q a → R a) → IfSome o P → IfSome o Q → IfSome o R
-if_both None P Q R step p q = tt
-if_both (Some a) P Q R step p q = step a p q
-
-if_one : {A : Type 0} (o : Option A) (P R : A → Type 0) → ((a : A) → P a → R a) → IfSome o P → IfSome o R
-if_one None P R step p = tt
-if_one (Some a) P R step p = step a p
+known_by view s learnt i None is found = tt
+known_by view s learnt i (Some b) is found =
+    Contains-append_right s.given s.learnt (view b) (subst (λ cs. Contains cs (view b)) is (present_has learnt i (view b) found))
 
 pub inferred_taken : (s : HeldState) (old new clause : List Lit) → IsKnown s clause → TakesAll old new clause None → IsInferred s new
-inferred_taken s old new clause known takes =
-    if_one s.log (λ steps. Contains (s.given ++ added steps) clause) (λ steps. Infers (s.given ++ added steps) new)
-    (λ steps one. infers_taken (s.given ++ added steps) old new clause one takes) known
+inferred_taken s old new clause known takes = infers_taken (s.given ++ s.learnt) old new clause known takes
 
 pub inferred_resolved : (s : HeldState) (old mid new clause : List Lit) (k : ℕ) (gone pivot : Lit) → gone ≡ negation pivot → slice_get old k ≡ Some gone
     → Leaves old mid k → TakesAll mid new clause (Some pivot) → IsKnown s clause → IsInferred s old → IsInferred s new
 inferred_resolved s old mid new clause k gone pivot is found leaves takes known before =
-    if_both s.log (λ steps. Contains (s.given ++ added steps) clause) (λ steps. Infers (s.given ++ added steps) old) (λ steps. Infers (s.given ++ added steps) new)
-    (λ steps one h. infers_resolved (s.given ++ added steps) old mid new clause k gone pivot is found leaves takes one h) known before
+    infers_resolved (s.given ++ s.learnt) old mid new clause k gone pivot is found leaves takes known before
 
 -- ---- the end
 
@@ -240,9 +195,7 @@ refuted_one given logged assumed lits h all =
     (rup_more (given ++ logged) A lits (with_units given (units assumed) logged) (infers_rup (given ++ logged) lits h))
 
 pub refuted_inferred : (s : HeldState) (assumed lits : List Lit) → IsInferred s lits → AreAssumedFalse lits assumed → IsRefuted s assumed
-refuted_inferred s assumed lits h all =
-    if_one s.log (λ steps. Infers (s.given ++ added steps) lits) (λ steps. IsRup ((s.given ++ units assumed) ++ added steps) [])
-    (λ steps one. refuted_one s.given (added steps) assumed lits one all) h
+refuted_inferred s assumed lits h all = refuted_one s.given s.learnt assumed lits h all
 
 opposed_one : (given logged : List (List Lit)) (assumed : List Lit) → IsOpposed assumed → IsRup ((given ++ units assumed) ++ logged) []
 opposed_one given logged assumed h =
@@ -258,29 +211,14 @@ opposed_one given logged assumed h =
           ];
     }
 
-always : {A : Type 0} (o : Option A) (R : A → Type 0) → ((a : A) → R a) → IfSome o R
-always None R step = tt
-always (Some a) R step = step a
-
 pub refuted_opposed : (s : HeldState) (assumed : List Lit) → IsOpposed assumed → IsRefuted s assumed
-refuted_opposed s assumed h = always s.log (λ steps. IsRup ((s.given ++ units assumed) ++ added steps) []) (λ steps. opposed_one s.given (added steps) assumed h)
+refuted_opposed s assumed h = opposed_one s.given s.learnt assumed h
 
 -- ---- the steps of a log
 
-derives_more : (A B : List (List Lit)) (steps : List Step) → Sub A B → Derives A steps → Derives B steps
-derives_more A B [] sub h = tt
-derives_more A B (Add c ∷ rest) sub h = (rup_more A B c sub h.0, derives_more (A ++ c ∷ []) (B ++ c ∷ []) rest (sub_push A B c sub) h.1)
-derives_more A B (Drop c ∷ rest) sub h = h
-
-derives_push : (A : List (List Lit)) (steps : List Step) (c : List Lit) → Derives A steps → IsRup (A ++ added steps) c → Derives A (steps ++ Add c ∷ [])
-derives_push A [] c h rup = (subst (λ B. IsRup B c) (append-nil A) rup, tt)
-derives_push A (Add d ∷ rest) c h rup = (h.0, derives_push (A ++ d ∷ []) rest c h.1 (subst (λ B. IsRup B c) (sym (append_assoc A (d ∷ []) (added rest))) rup))
-derives_push A (Drop d ∷ rest) c h rup = h
-
-added_push : (steps : List Step) (c : List Lit) → added (steps ++ Add c ∷ []) ≡ added steps ++ c ∷ []
-added_push [] c = refl
-added_push (Add d ∷ rest) c = ap (λ cs. d ∷ cs) (added_push rest c)
-added_push (Drop d ∷ rest) c = added_push rest c
+leads_push : (A now next : List (List Lit)) (steps : List Step) (s : Step) → Leads A steps now → IsStep now s next → Leads A (steps ++ s ∷ []) next
+leads_push A now next [] s h step = (next, subst (λ B. IsStep B s next) h step, refl)
+leads_push A now next (t ∷ rest) s h step = (h.0, h.1, leads_push h.0 now next rest s h.2 step)
 
 certified_from : (A next : List (List Lit)) (s : Step) (rest : List Step) → IsStep A s next → IsCertificate next rest → IsCertificate A (s ∷ rest)
 certified_from A next s [] step h = absurd h
@@ -288,63 +226,86 @@ certified_from A next (Add []) (r ∷ rs) step h = (next, step, h)
 certified_from A next (Add (l ∷ ls)) (r ∷ rs) step h = (next, step, h)
 certified_from A next (Drop c) (r ∷ rs) step h = (next, step, h)
 
-certificate_of : (A : List (List Lit)) (steps : List Step) → Derives A steps → IsRup (A ++ added steps) [] → IsCertificate A (steps ++ Add [] ∷ [])
-certificate_of A [] h rup = subst (λ B. IsRup B []) (append-nil A) rup
-certificate_of A (Add c ∷ rest) h rup =
-    certified_from A (A ++ c ∷ []) (Add c) (rest ++ Add [] ∷ []) (h.0, refl)
-    (certificate_of (A ++ c ∷ []) rest h.1 (subst (λ B. IsRup B []) (sym (append_assoc A (c ∷ []) (added rest))) rup))
-certificate_of A (Drop c ∷ rest) h rup = absurd h
+certificate_of : (A now : List (List Lit)) (steps : List Step) → Leads A steps now → IsRup now [] → IsCertificate A (steps ++ Add [] ∷ [])
+certificate_of A now [] h rup = subst (λ B. IsRup B []) h rup
+certificate_of A now (s ∷ rest) h rup = certified_from A h.0 s (rest ++ Add [] ∷ []) h.1 (certificate_of h.0 now rest h.2 rup)
 
 -- ---- the log of a solver
 
+-- all that is held is among the clauses after the steps
+all_there : (others : List (List Lit)) (learnt : List (Option (List Lit))) (now : List (List Lit)) → Covers others learnt now → Sub (others ++ present learnt) now
+all_there others learnt now h c there =
+    elim (Contains-append_cases others (present learnt) c there) [
+      | inl one ↦ covers_others others learnt now h c one
+      | inr one ↦ covers_present others learnt now h c one
+    ]
+
+held_there : (given more : List (List Lit)) (learnt : List (Option (List Lit))) (now : List (List Lit)) → Covers (given ++ more) learnt now → Sub (given ++ present learnt) now
+held_there given more learnt now h c there = all_there (given ++ more) learnt now h c (with_units given more (present learnt) c there)
+
+-- a log begins
+pub recorded_begun : (given : List (List Lit)) (learnt : List (Option (List Lit))) (log : Option (List Step)) → learnt ≡ [] → log ≡ Some [] → IsRecorded given learnt log
+recorded_begun given learnt log none is =
+    subst (λ cs. IsRecorded given cs log) (sym none)
+    (subst (IsRecorded given []) (sym is) (λ more. (given ++ more, refl, λ c there. there)))
+
 recorded_push : (given : List (List Lit)) (learnt : List (Option (List Lit))) (c : List Lit) (log : Option (List Step)) → IsRecorded given learnt log
     → IsRecorded (given ++ c ∷ []) learnt log
-recorded_push given learnt c log h =
-    if_one log (Records given learnt) (Records (given ++ c ∷ []) learnt)
-    (λ steps r. (derives_more given (given ++ c ∷ []) steps (λ d there. Contains-append_left given (c ∷ []) d there) r.0, r.1)) h
+recorded_push given learnt c None h = tt
+recorded_push given learnt c (Some steps) h =
+    λ more.
+    subst (λ all. (now : List (List Lit)) × Leads all steps now × Covers all learnt now) (sym (append_assoc given (c ∷ []) more)) (h (c ∷ more))
 
 -- a clause more is given
 pub recorded_given : (old new : List (List Lit)) (learnt : List (Option (List Lit))) (c : List Lit) (log : Option (List Step)) → new ≡ old ++ c ∷ []
     → IsRecorded old learnt log → IsRecorded new learnt log
 recorded_given old new learnt c log is h = subst (λ given. IsRecorded given learnt log) (sym is) (recorded_push old learnt c log h)
 
--- a clause is noted, whether it is held or not
-pub recorded_noted : (given : List (List Lit)) (learnt : List (Option (List Lit))) (log : Option (List Step)) (c : List Lit) → IsRecorded given learnt log
-    → IsInferred (record { given = given; log = log }) c → IsRecorded given learnt (noted log c)
-recorded_noted given learnt None c h inferred = tt
-recorded_noted given learnt (Some steps) c h inferred = (
-  derives_push given steps c h.0 (infers_rup (given ++ added steps) c inferred),
-  λ i d there. subst (λ cs. Contains cs d) (sym (added_push steps c)) (Contains-append_left (added steps) (c ∷ []) d (h.1 i d there)),
-)
-
+-- a clause is learnt
 pub recorded_learnt : (given : List (List Lit)) (old new : List (Option (List Lit))) (log : Option (List Step)) (c : List Lit) → IsRecorded given old log
-    → IsInferred (record { given = given; log = log }) c → Adds old new c → IsRecorded given new (noted log c)
+    → IsInferred (record { given = given; learnt = present old }) c → Adds old new c → IsRecorded given new (noted log c)
 recorded_learnt given old new None c h inferred adds = tt
-recorded_learnt given old new (Some steps) c h inferred adds = (
-  derives_push given steps c h.0 (infers_rup (given ++ added steps) c inferred),
-  λ i d there.
-      subst (λ cs. Contains cs d) (sym (added_push steps c))
-      (elim (adds i d there) [
-        | inl now ↦ subst (Contains (added steps ++ c ∷ [])) (sym now) (Contains-push (added steps) c)
-        | inr before ↦ Contains-append_left (added steps) (c ∷ []) d (h.1 i d before)
-      ]),
-)
+recorded_learnt given old new (Some steps) c h inferred adds =
+    λ more.
+    let t = h more in (
+      t.0 ++ c ∷ [],
+      leads_push (given ++ more) t.0 (t.0 ++ c ∷ []) steps (Add c) t.1
+          (rup_more (given ++ present old) t.0 c (held_there given more old t.0 t.2) (infers_rup (given ++ present old) c inferred), refl),
+      covers_adds (given ++ more) adds.0 old new c (t.0 ++ c ∷ []) t.0 adds.1 (loses_last t.0 c) t.2,
+    )
 
+-- clauses are deleted, and nothing is noted of it
 pub recorded_thinned : (given : List (List Lit)) (old new : List (Option (List Lit))) (log : Option (List Step)) → IsRecorded given old log → Thins old new
     → IsRecorded given new log
-recorded_thinned given old new log h thins =
-    if_one log (Records given old) (Records given new) (λ steps r. (r.0, λ i c there. r.1 i c (thins i c there))) h
+recorded_thinned given old new None h thins = tt
+recorded_thinned given old new (Some steps) h thins =
+    λ more.
+    let t = h more in (t.0, t.1, covers_thins (given ++ more) old new t.0 thins t.2)
+
+-- a clause is deleted, and it is noted
+recorded_ended : (given : List (List Lit)) (old new : List (Option (List Lit))) (log : Option (List Step)) (i : ℕ) (c : List Lit) → IsRecorded given old log → Thins old new
+    → slice_get old i ≡ Some (Some c) → IsFree new i → IsRecorded given new (ended log c)
+recorded_ended given old new None i c h thins at free = tt
+recorded_ended given old new (Some steps) i c h thins at free =
+    λ more.
+    let t = h more in
+    let r = covers_lost (given ++ more) i old new c t.0 thins at free t.2 in
+    (r.0, leads_push (given ++ more) t.0 r.0 steps (Drop c) t.1 (takes_out c t.0 r.0 r.1), r.2)
+
+pub recorded_forgot : (given : List (List Lit)) (old new : List (Option (List Lit))) (log next : Option (List Step)) (i : ℕ) (c : List Lit) → IsRecorded given old log
+    → Thins old new → slice_get old i ≡ Some (Some c) → IsFree new i → MayEnd log next c → IsRecorded given new next
+recorded_forgot given old new log next i c h thins at free may =
+    elim may [
+      | inl same ↦ subst (IsRecorded given new) (sym same) (recorded_thinned given old new log h thins)
+      | inr one ↦ subst (IsRecorded given new) (sym one) (recorded_ended given old new log i c h thins at free)
+    ]
 
 -- the whole log
-pub finished : (given : List (List Lit)) (learnt : List (Option (List Lit))) (steps : List Step) (assumed : List Lit) → Records given learnt steps
-    → IsRup ((given ++ units assumed) ++ added steps) [] → IsCertificate (given ++ units assumed) (steps ++ Add [] ∷ [])
-finished given learnt steps assumed h rup =
-    certificate_of (given ++ units assumed) steps
-    (derives_more given (given ++ units assumed) steps (λ c there. Contains-append_left given (units assumed) c there) h.0) rup
-
-pub finished_log : (s : HeldState) (learnt : List (Option (List Lit))) (steps new : List Step) (empty assumed : List Lit) → s.log ≡ Some steps
-    → IsRecorded s.given learnt s.log → IsRefuted s assumed → new ≡ steps ++ Add empty ∷ [] → empty ≡ [] → IsCertificate (s.given ++ units assumed) new
-finished_log s learnt steps new empty assumed is recorded refuted pushed none =
-    let records = subst (IsRecorded s.given learnt) is recorded in
-    let rup = subst (λ log. IfSome log (λ all. IsRup ((s.given ++ units assumed) ++ added all) [])) is refuted in
-    subst (IsCertificate (s.given ++ units assumed)) (sym (pushed ∙ ap (λ c. steps ++ Add c ∷ []) none)) (finished s.given learnt steps assumed records rup)
+pub finished_log : (given : List (List Lit)) (learnt : List (Option (List Lit))) (log : Option (List Step)) (steps new : List Step) (empty assumed : List Lit)
+    → log ≡ Some steps → IsRecorded given learnt log → IsRefuted (record { given = given; learnt = present learnt }) assumed → new ≡ steps ++ Add empty ∷ [] → empty ≡ []
+    → IsCertificate (given ++ units assumed) new
+finished_log given learnt log steps new empty assumed is recorded refuted pushed none =
+    let t = subst (IsRecorded given learnt) is recorded (units assumed) in
+    subst (IsCertificate (given ++ units assumed)) (sym (pushed ∙ ap (λ c. steps ++ Add c ∷ []) none))
+    (certificate_of (given ++ units assumed) t.0 steps t.1
+    (rup_more ((given ++ units assumed) ++ present learnt) t.0 [] (all_there (given ++ units assumed) learnt t.0 t.2) refuted))

@@ -91,8 +91,8 @@ pub held_learnt : (bs : List Block) (given : List Ref) (old new : List (Option (
 held_learnt bs given old new c h follows adds = record {
   given_live = h.given_live;
   entailed = λ f all i d there.
-      elim (adds i d there) [
-        | inl now ↦ subst (λ x. some_true f x ≡ true) (sym now) (follows f all)
+      elim (adds.1 i d there) [
+        | inl now ↦ subst (λ x. some_true f x ≡ true) (sym now.1) (follows f all)
         | inr before ↦ h.entailed f all i d before
       ];
 }

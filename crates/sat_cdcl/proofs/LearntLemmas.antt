@@ -5,7 +5,7 @@ use Rattle.std.proofs.lemmas.Bool.{false≢true}
 use Rattle.sat_base.specs.declared.literal.Lit.{Lit}
 use Rattle.sat_pool.specs.declared.pool.Ref.{Ref}
 use Rattle.sat_pool.specs.Region.{Block, reads}
-use Rattle.sat_cdcl.specs.Learnt.{entries, IsTable, Thins, Adds, Names, moved_at}
+use Rattle.sat_cdcl.specs.Learnt.{entries, IsTable, Thins, Adds, AddsAt, IsFree, Names, moved_at}
 use Rattle.sat_cdcl.proofs.HeldLemmas.{Keeps, some_of, is_some}
 use Rattle.sat_cdcl.proofs.TruthLemmas.{same_or_not, lt_or_le}
 
@@ -111,18 +111,24 @@ read_before old new es j r d t keeps there read =
 
 pub adds-none : (old new : List Block) (es fs : List (Option Ref)) (c : List Lit) → IsTable old es → Names es fs → Keeps old new
     → Adds (entries old es) (entries new fs) c
-adds-none old new es fs c t names keeps j d h =
-    let f = found_at new fs j d h in
-    inr (read_before old new es j f.r d t keeps (names j f.r f.is) f.read)
+adds-none old new es fs c t names keeps = (
+  zero,
+  λ j d h.
+      let f = found_at new fs j d h in
+      inr (read_before old new es j f.r d t keeps (names j f.r f.is) f.read),
+)
 
 pub adds-one : (old new : List Block) (es fs : List (Option Ref)) (i : ℕ) (r : Ref) (c : List Lit) → IsTable old es → Names es fs → Keeps old new → reads new r.at ≡ Some c
     → Adds (entries old es) (entries new (set fs i (Some r))) c
-adds-one old new es fs i r c t names keeps read j d h =
-    let f = found_at new (set fs i (Some r)) j d h in
-    elim (set_found fs i j r f.r f.is) [
-      | inl k ↦ let now : reads new f.r.at ≡ Some c = ap (λ x. reads new x.at) (sym k.1) ∙ read in inl (cc (sym f.read ∙ now))
-      | inr k ↦ inr (read_before old new es j f.r d t keeps (names j f.r k) f.read)
-    ]
+adds-one old new es fs i r c t names keeps read = (
+  i,
+  λ j d h.
+      let f = found_at new (set fs i (Some r)) j d h in
+      elim (set_found fs i j r f.r f.is) [
+        | inl k ↦ let now : reads new f.r.at ≡ Some c = ap (λ x. reads new x.at) (sym k.1) ∙ read in inl (k.0, cc (sym f.read ∙ now))
+        | inr k ↦ inr (read_before old new es j f.r d t keeps (names j f.r k) f.read)
+      ],
+)
 
 pub get-set_same : {A : Type 0} (xs : List A) (i : ℕ) (a b : A) → slice_get xs i ≡ Some b → slice_get (set xs i a) i ≡ Some a
 get-set_same [] i a b h = absurd (cc h)
@@ -149,6 +155,19 @@ thins_one old new es i r t at others j c h =
           let there : slice_get es j ≡ Some (Some f.r) = sym (get-set_other es i j None ne) ∙ f.is in
           read_at old es j f.r c there (sym (others f.r.at (λ same. absurd (ne (t.apart j i f.r r there at same)))) ∙ f.read)
     ]
+
+-- the number of a clause that was taken out has none
+pub free_set : (bs : List Block) (es : List (Option Ref)) (i : ℕ) (r : Ref) → slice_get es i ≡ Some (Some r) → IsFree (entries bs (set es i None)) i
+free_set bs es i r at c h =
+    let f = found_at bs (set es i None) i c h in
+    let gone : slice_get (set es i None) i ≡ Some None = get-set_same es i None (Some r) at in
+    absurd (cc (sym gone ∙ f.is))
+
+-- and so has one without a reference
+pub free_already : (bs : List Block) (es : List (Option Ref)) (i : ℕ) → ((r : Ref) → slice_get es i ≡ Some (Some r) → ⊥) → IsFree (entries bs es) i
+free_already bs es i none c h =
+    let f = found_at bs es i c h in
+    none f.r f.is
 
 pub thins_trans : (a b c : List (Option (List Lit))) → Thins a b → Thins b c → Thins a c
 thins_trans a b c p q j x h = p j x (q j x h)

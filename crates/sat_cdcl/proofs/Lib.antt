@@ -5,5 +5,6 @@ pub mod WeightLemmas
 pub mod HeldLemmas
 pub mod LearntLemmas
 pub mod SearchLemmas
+pub mod CoverLemmas
 pub mod CertifiedLemmas
 pub mod ResolventLemmas

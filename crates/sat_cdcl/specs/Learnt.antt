@@ -21,9 +21,18 @@ pub record IsTable (bs : List Block) (table : List (Option Ref)) : Type 0 where
 abbrev pub Thins : List (Option (List Lit)) → List (Option (List Lit)) → Type 0
 Thins old new = (j : ℕ) (c : List Lit) → slice_get new j ≡ Some (Some c) → slice_get old j ≡ Some (Some c)
 
--- each clause that is there is the new one, or was there before under its number
+-- each clause that is there was there before under its number, or is the new one, under this number
+abbrev pub AddsAt : List (Option (List Lit)) → List (Option (List Lit)) → List Lit → ℕ → Type 0
+AddsAt old new c i =
+    (j : ℕ) (d : List Lit) → slice_get new j ≡ Some (Some d) → ((j ≡ i) × (d ≡ c)) ⊎ (slice_get old j ≡ Some (Some d))
+
+-- the same, under some number
 abbrev pub Adds : List (Option (List Lit)) → List (Option (List Lit)) → List Lit → Type 0
-Adds old new c = (j : ℕ) (d : List Lit) → slice_get new j ≡ Some (Some d) → (d ≡ c) ⊎ (slice_get old j ≡ Some (Some d))
+Adds old new c = (i : ℕ) × AddsAt old new c i
+
+-- the number has no clause
+abbrev pub IsFree : List (Option (List Lit)) → ℕ → Type 0
+IsFree learnt i = (c : List Lit) → slice_get learnt i ≡ Some (Some c) → ⊥
 
 -- each reference that is there was there before
 abbrev pub Names : List (Option Ref) → List (Option Ref) → Type 0

@@ -1,12 +1,15 @@
 // The clauses: those given, in the order in which they came, and those learnt. Each clause that was
-// learnt follows from those given. A log of the learnt clauses can be kept, for a certificate: then each
-// of them follows from those before it by unit propagation.
+// learnt follows from those given. A log of the learnt clauses can be kept, for a certificate: its steps
+// add each clause that is learnt and take it out when it is deleted, and each follows by unit propagation
+// from the clauses that are there before it.
 
-ghost use Rattle.std.specs.Prelude.{◌≡◌, ◌≤◌, ◌<◌, ◌++◌, ◌∷◌, [], ℕ, Some, None, length, slice_get, IfOk, IfSome, OnOk, OnErr, MatchOption};
+ghost use Rattle.std.specs.Prelude.{◌≡◌, ◌≤◌, ◌<◌, ◌++◌, ◌∷◌, [], ℕ, List, Some, None, length, slice_get, IfOk, IfSome, OnOk, OnErr, MatchOption};
+ghost use Rattle.sat_base.specs.declared.literal.Lit.{Lit};
 ghost use Rattle.sat_base.specs.Certificates.{IsCertificate};
 ghost use Rattle.sat_cdcl.specs.Steps.{Entails};
 ghost use Rattle.sat_cdcl.specs.Held.{clauses_of, AllLive};
-ghost use Rattle.sat_cdcl.specs.Certified.{noted, units, IsKnown, IsInferred, IsRefuted};
+ghost use Rattle.sat_cdcl.specs.Learnt.{Thins};
+ghost use Rattle.sat_cdcl.specs.Certified.{noted, units, MayEnd, IsKnown, IsInferred, IsRefuted, IsRecorded};
 
 use crate::learnt::Learnt;
 use sat_base::{Clause, Lit, Log, OutOfMemory, Step};
@@ -31,24 +34,24 @@ impl ClauseId {
     }
 }
 
-/// All clauses. Contracts see those given, and the log.
+/// All clauses. Contracts see those given, and those learnt that are there.
 #[derive(Debug, Drop)]
 pub struct Clauses {
     alloc: Global,
     pool: Pool,
     given: Vec<Ref>,
     learnt: Learnt,
-    /// A step for each clause that was learnt since the log was begun, if one is kept.
+    /// The steps since the log was begun, if one is kept: a clause that was learnt, or deleted.
     log: Option<Log>,
 }
 
 impl Model for Clauses {
     ghost use Rattle.sat_cdcl.specs.Held.{clauses_of, IsHeld};
-    ghost use Rattle.sat_cdcl.specs.Certified.{HeldState, IsRecorded};
+    ghost use Rattle.sat_cdcl.specs.Certified.{HeldState, IsRecorded, present};
 
     ghost Value = { HeldState };
 
-    ghost view = { λ c. record { given = clauses_of c.pool c.given.items; log = c.log } };
+    ghost view = { λ c. record { given = clauses_of c.pool c.given.items; learnt = present c.learnt } };
 
     ghost invariant = { λ c. IsHeld c.pool c.given.items c.learnt
         × IsRecorded (clauses_of c.pool c.given.items) c.learnt c.log };
@@ -82,6 +85,41 @@ fn note_step(alloc: Global, log: &mut Option<Log>, clause: &[Lit]) -> Result<(),
         Some(log) => {
             let clause = Clause::of(alloc, clause)?;
             log.push(Step::Add(clause))
+        }
+    }
+}
+
+/// Adds a step for the deletion of a clause to the log, if one is kept. Where memory is refused the log
+/// is as before, and the clause stays there for those who read it.
+fn note_end(alloc: Global, log: &mut Option<Log>, clause: &[Lit])
+    ensures { MayEnd log.old log.new clause.now }
+{
+    if let Some(log) = log
+        && let Ok(clause) = Clause::of(alloc, clause)
+    {
+        let _noted = log.push(Step::Drop(clause));
+    }
+}
+
+/// Deletes the learnt clause of a number, if it is there, and notes it in the log, if one is kept.
+fn forget_one(alloc: Global, learnt: &mut Learnt, log: &mut Option<Log>, i: usize)
+    ensures thins { Thins learnt.old learnt.new }
+    ensures recorded { (given : List (List Lit)) → IsRecorded given learnt.old log.old → IsRecorded given learnt.new log.new }
+{
+    if let Some(clause) = learnt.get(i) {
+        note_end(alloc, log, clause);
+        learnt.take_out(i);
+    }
+}
+
+/// Deletes the learnt clauses that are marked.
+fn forget_marked(alloc: Global, learnt: &mut Learnt, log: &mut Option<Log>, marked: &[bool])
+    ensures thins { Thins learnt.old learnt.new }
+    ensures recorded { (given : List (List Lit)) → IsRecorded given learnt.old log.old → IsRecorded given learnt.new log.new }
+{
+    for i in 0..marked.len() {
+        if marked[i] {
+            forget_one(alloc, learnt, log, i);
         }
     }
 }
@@ -145,8 +183,7 @@ impl Clauses {
         self.learnt.count()
     }
 
-    /// Adds a clause that follows from those given, and by unit propagation from them and those that
-    /// are in the log, if one is kept.
+    /// Adds a clause that follows from those given, and by unit propagation from those that are held.
     pub fn learn(&mut self, clause: &[Lit]) -> Result<ClauseId, OutOfMemory>
         requires entailed { Entails self.old.given clause.now }
         requires inferred { IsInferred self.old clause.now }
@@ -157,11 +194,13 @@ impl Clauses {
         Ok(ClauseId::Learnt(number))
     }
 
-    /// Deletes the learnt clauses that are marked.
+    /// Deletes the learnt clauses that are marked, and lays out those that are left where there is
+    /// memory for it.
     pub fn forget(&mut self, marked: &[bool])
-        ensures { self.new ≡ self.old }
+        ensures { self.new.given ≡ self.old.given }
     {
-        self.learnt.forget(marked);
+        forget_marked(self.alloc, &mut self.learnt, &mut self.log, marked);
+        self.learnt.lay_out();
     }
 
     /// Begins a log, and deletes all learnt clauses, which it does not derive.

@@ -3,7 +3,7 @@
 
 ghost use Rattle.std.specs.Prelude.{◌≡◌, ◌≢◌, ◌<◌, ◌++◌, ◌∷◌, [], ℕ, Some, None, length, slice_get, slice_set, IfOk, IfSome, IfNone, OnErr};
 ghost use Rattle.sat_pool.specs.Region.{size, IsReserved};
-ghost use Rattle.sat_cdcl.specs.Learnt.{entries, IsTable, Thins, Adds, Names, moved_at};
+ghost use Rattle.sat_cdcl.specs.Learnt.{entries, IsTable, Thins, Adds, IsFree, Names, moved_at};
 
 use sat_base::{Lit, OutOfMemory};
 use sat_pool::{Moves, Pool, Ref};
@@ -47,25 +47,11 @@ fn forget_one(pool: &mut Pool, table: &mut Vec<Option<Ref>>, i: usize)
     requires { IsTable pool.old table.old.items }
     ensures table { IsTable pool.new table.new.items }
     ensures thins { Thins (entries pool.old table.old.items) (entries pool.new table.new.items) }
-    ensures size { size pool.new ≡ size pool.old }
+    ensures gone { IsFree (entries pool.new table.new.items) i }
 {
     if let Some(r) = ref_at(table.as_slice(), i) {
         pool.drop_clause(r);
         table[i] = None;
-    }
-}
-
-/// Deletes the clauses that are marked.
-fn forget_marked(pool: &mut Pool, table: &mut Vec<Option<Ref>>, marked: &[bool])
-    requires { IsTable pool.old table.old.items }
-    ensures table { IsTable pool.new table.new.items }
-    ensures thins { Thins (entries pool.old table.old.items) (entries pool.new table.new.items) }
-    ensures size { size pool.new ≡ size pool.old }
-{
-    for i in 0..marked.len() {
-        if marked[i] {
-            forget_one(pool, table, i);
-        }
     }
 }
 
@@ -103,18 +89,14 @@ fn lay_out(pool: &mut Pool, table: &mut Vec<Option<Ref>>, moves: &mut Moves)
     follow(table, moves);
 }
 
-/// Deletes the clauses that are marked, and lays out those that are left where there is room for it.
-fn thin(pool: &mut Pool, table: &mut Vec<Option<Ref>>, marked: &[bool])
+/// Lays the clauses out anew where there is room for it.
+fn lay_out_if_room(pool: &mut Pool, table: &mut Vec<Option<Ref>>)
     requires { IsTable pool.old table.old.items }
     ensures table { IsTable pool.new table.new.items }
     ensures thins { Thins (entries pool.old table.old.items) (entries pool.new table.new.items) }
 {
-    match pool.reserve_compact() {
-        Err(_) => forget_marked(pool, table, marked),
-        Ok(mut moves) => {
-            forget_marked(pool, table, marked);
-            lay_out(pool, table, &mut moves);
-        }
+    if let Ok(mut moves) = pool.reserve_compact() {
+        lay_out(pool, table, &mut moves);
     }
 }
 
@@ -217,12 +199,20 @@ impl Learnt {
         put_clause(&mut self.pool, &mut self.table, &mut self.free, clause)
     }
 
-    /// Deletes the clauses that are marked, and lays those that are left out anew, if there is memory
-    /// for it.
-    pub fn forget(&mut self, marked: &[bool])
+    /// Deletes the clause of a number, if it is there.
+    pub fn take_out(&mut self, i: usize)
+        ensures thins { Thins self.old self.new }
+        ensures gone { IsFree self.new i }
+    {
+        forget_one(&mut self.pool, &mut self.table, i);
+    }
+
+    /// Lays out anew what is left after deletions, if there is memory for it, and notes the numbers that
+    /// may be used again.
+    pub fn lay_out(&mut self)
         ensures { Thins self.old self.new }
     {
-        thin(&mut self.pool, &mut self.table, marked);
+        lay_out_if_room(&mut self.pool, &mut self.table);
         note_all_free(self.table.as_slice(), &mut self.free);
     }
 }

@@ -90,7 +90,7 @@ pub fn reduce(
     watches: &mut Watches,
     activity: &mut Activity,
 ) -> Result<(), OutOfMemory>
-    ensures { clauses.new ≡ clauses.old }
+    ensures { clauses.new.given ≡ clauses.old.given }
 {
     if !activity.is_full() {
         return Ok(());

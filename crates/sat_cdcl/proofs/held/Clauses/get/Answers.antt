@@ -2,7 +2,6 @@
 use Rattle.std.proofs.Common.{◌≡◌, ◌≤◌, length, slice_get, Some, MatchOption, subst, ap, ◌∙◌}
 use Rattle.sat_base.specs.Logic.{all_true}
 use Rattle.sat_cdcl.specs.Held.{clauses_of}
-use Rattle.sat_cdcl.specs.Certified.{IsRecorded}
 use Rattle.sat_cdcl.proofs.HeldLemmas.{entailed_at, entailed_by}
 use Rattle.sat_cdcl.proofs.CertifiedLemmas.{known_at, known_by}
 use Rattle.sat_cdcl.proofs.held.Clauses.get.Goals as goal
@@ -26,5 +25,4 @@ returns-in-Learnt-clause-entailed c =
 
 pub returns-in-Learnt-clause-known : goal.returns-in-Learnt-clause-known
 returns-in-Learnt-clause-known c =
-    known_by (λ b. b.now) c.args.self.now c.self.inside.learnt c.in-Learnt.i c.get.result
-    (subst (λ s. IsRecorded s.given c.self.inside.learnt s.log) c.self.view_is c.self.invariant.1) c.get.ensures
+    known_by (λ b. b.now) c.args.self.now c.self.inside.learnt c.in-Learnt.i c.get.result (ap (λ s. s.learnt) c.self.view_is) c.get.ensures
