@@ -127,16 +127,19 @@ rest_of [] = []
 rest_of (o ∷ os) = os
 
 rest_at : (old : List (Option (List Lit))) (j : ℕ) → slice_get (rest_of old) j ≡ slice_get old (suc j)
+unfolding rest_of
 rest_at [] j = refl
 rest_at (o ∷ os) j = refl
 
 covers_rest : (others : List (List Lit)) (old : List (Option (List Lit))) (now : List (List Lit)) → Covers others old now → Covers others (rest_of old) now
+unfolding rest_of
 covers_rest others [] now h = h
 covers_rest others (None ∷ os) now h = h
 covers_rest others (Some c ∷ os) now h = covers_wider others os c now h.0 h.1 h.2
 
 covers_first : (others : List (List Lit)) (old : List (Option (List Lit))) (d : List Lit) (now : List (List Lit)) → slice_get old zero ≡ Some (Some d) → Covers others old now
     → (left : List (List Lit)) × Loses d now left × Covers others (rest_of old) left
+unfolding rest_of
 covers_first others [] d now at h = absurd (cc at)
 covers_first others (None ∷ os) d now at h = absurd (cc at)
 covers_first others (Some c ∷ os) d now at h = let e : c ≡ d = cc at in (h.0, subst (λ x. Loses x now h.0) e h.1, h.2)
