@@ -5,15 +5,14 @@
 // the reasons or on the order.
 
 ghost use Rattle.std.specs.Prelude.{◌≡◌, ◌≤◌, [], true, length, IfOk};
-ghost use Rattle.sat_cdcl.specs.Steps.{Entails};
-ghost use Rattle.sat_cdcl.specs.Certified.{IsInferred};
+ghost use Rattle.sat_clauses.specs.Held.{Entails};
+ghost use Rattle.sat_clauses.specs.Certified.{IsInferred};
 ghost use Rattle.sat_cdcl.specs.Resolvents.{Takes, TakesAll};
 
-use crate::activity::Activity;
-use crate::held::{ClauseId, Clauses};
 use crate::resolvent::Resolvent;
-use crate::trail::{Step, Trail};
 use sat_base::{Lit, OutOfMemory};
+use sat_clauses::{ClauseId, Clauses};
+use sat_trail::{Activity, Step, Trail};
 
 /// Whether a literal became false at this place of the trail or behind it.
 fn is_recent(trail: &Trail, lit: Lit, start: usize) -> bool {

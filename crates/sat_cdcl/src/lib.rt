@@ -6,25 +6,17 @@
 // it is tested.
 #![tactic(auto)]
 
-mod activity;
 mod analyse;
 mod backjump;
 mod certify;
-mod code;
 mod conflict;
-mod decide;
-mod held;
-mod learnt;
-mod propagate;
 mod reduce;
 mod resolvent;
 mod search;
 mod solver;
 mod state;
-mod trail;
 mod turn;
 mod values;
-mod watch;
 
 pub use solver::Cdcl;
 

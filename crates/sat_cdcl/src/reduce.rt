@@ -4,11 +4,9 @@
 
 ghost use Rattle.std.specs.Prelude.{◌≡◌, length};
 
-use crate::activity::Activity;
-use crate::held::{ClauseId, Clauses};
-use crate::trail::Trail;
-use crate::watch::Watches;
 use sat_base::{Lit, OutOfMemory};
+use sat_clauses::{ClauseId, Clauses, Watches};
+use sat_trail::{Activity, Trail};
 use std::alloc::Global;
 
 /// Whether a clause implied one of its literals.

@@ -6,17 +6,14 @@ ghost use Rattle.std.specs.Prelude.{◌≡◌, ◌≤◌, [], IfOk, OnOk, OnErr}
 ghost use Rattle.sat_base.specs.Logic.{LitsBelow, Answers};
 ghost use Rattle.sat_cdcl.specs.Certified.{Certifies};
 
-use crate::activity::Activity;
 use crate::backjump::reopen;
 use crate::certify::conclude;
-use crate::code::LAST_VARIABLE;
-use crate::held::{ClauseId, Clauses};
 use crate::resolvent::Resolvent;
 use crate::search::find_model;
 use crate::state::Search;
-use crate::trail::Trail;
-use crate::watch::Watches;
 use sat_base::{Answer, Lit, Log, OutOfMemory, Solver};
+use sat_clauses::{ClauseId, Clauses, LAST_VARIABLE, Watches};
+use sat_trail::{Activity, Trail};
 use std::alloc::Global;
 use std::marker::Model;
 

@@ -1,5 +1,5 @@
-use Rattle.sat_cdcl.specs.Steps.{Entails}
-use Rattle.sat_cdcl.specs.Certified.{IsInferred}
+use Rattle.sat_clauses.specs.Held.{Entails}
+use Rattle.sat_clauses.specs.Certified.{IsInferred}
 use Rattle.sat_cdcl.proofs.analyse.shrink.Given as goal
 
 abbrev pub invariant-loop-k : goal.invariant-loop-k
