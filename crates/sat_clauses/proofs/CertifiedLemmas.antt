@@ -1,6 +1,6 @@
 -- Unit propagation from more clauses, what is known of those that are held, and the steps of a log.
 
-use Rattle.std.proofs.Common.{◌≡◌, ◌⊎◌, inl, inr, ℕ, zero, suc, Bool, true, false, not, List, [], ◌∷◌, ◌++◌, map, slice_get, Option, None, Some, IfSome, MatchOption, refl, sym, subst, ap, ◌∙◌, append_assoc, arith}
+use Rattle.std.proofs.Common.{◌≡◌, inl, inr, ℕ, zero, suc, List, [], ◌∷◌, ◌++◌, map, slice_get, Option, None, Some, IfSome, MatchOption, refl, sym, subst, ap, ◌∙◌, append_assoc}
 use Rattle.std.specs.List.{Contains}
 use Rattle.std.proofs.lemmas.List.Elements.{Contains-append_left, Contains-append_right, Contains-append_cases}
 use Rattle.sat_base.specs.declared.literal.Lit.{Lit}
@@ -9,7 +9,7 @@ use Rattle.sat_base.specs.declared.certificate.Step.TheVariants.{Add, Drop}
 use Rattle.sat_base.specs.Logic.{negation}
 use Rattle.sat_base.specs.Certificates.{Forced, by_assumption, by_clause, IsRup, IsStep, IsCertificate}
 use Rattle.sat_clauses.specs.Learnt.{Thins, Adds, IsFree}
-use Rattle.sat_clauses.specs.Certified.{units, HeldState, present, IsKnown, Infers, IsInferred, IsRefuted, noted, ended, Leads, Covers, Records, IsRecorded, MayEnd}
+use Rattle.sat_clauses.specs.Certified.{units, HeldState, present, IsKnown, Infers, IsInferred, IsRefuted, noted, ended, Leads, Covers, IsRecorded, MayEnd}
 use Rattle.sat_clauses.proofs.CoverLemmas.{empty_has, head_in, tail_in, head_or_tail, Sub, some_same, takes_out, loses_last, covers_present, covers_others, covers_thins, covers_lost, covers_adds}
 
 -- ---- lists

@@ -5,7 +5,7 @@ use Rattle.std.proofs.lemmas.Bool.{false≢true}
 use Rattle.sat_base.specs.declared.literal.Lit.{Lit}
 use Rattle.sat_pool.specs.declared.pool.Ref.{Ref}
 use Rattle.sat_pool.specs.Region.{Block, reads}
-use Rattle.sat_clauses.specs.Learnt.{entries, IsTable, Thins, Adds, AddsAt, IsFree, Names, moved_at}
+use Rattle.sat_clauses.specs.Learnt.{entries, IsTable, Thins, Adds, IsFree, Names, moved_at}
 use Rattle.sat_clauses.proofs.HeldLemmas.{Keeps, some_of, is_some}
 use Rattle.sat_clauses.proofs.TruthLemmas.{same_or_not, lt_or_le}
 
@@ -171,6 +171,12 @@ free_already bs es i none c h =
 
 pub thins_trans : (a b c : List (Option (List Lit))) → Thins a b → Thins b c → Thins a c
 thins_trans a b c p q j x h = p j x (q j x h)
+
+-- no clause is there
+pub thins_none : (old new : List (Option (List Lit))) → new ≡ [] → Thins old new
+thins_none old new none j c h =
+    let e = subst (λ l. slice_get l j ≡ Some (Some c)) none h in
+    absurd (cc e)
 
 -- the reference before it moved
 pub record Moved (places : List ℕ) (o : Option (Option Ref)) (s : Ref) : Type 0 where

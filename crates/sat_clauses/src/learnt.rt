@@ -49,9 +49,12 @@ fn forget_one(pool: &mut Pool, table: &mut Vec<Option<Ref>>, i: usize)
     ensures thins { Thins (entries pool.old table.old.items) (entries pool.new table.new.items) }
     ensures gone { IsFree (entries pool.new table.new.items) i }
 {
-    if let Some(r) = ref_at(table.as_slice(), i) {
-        pool.drop_clause(r);
-        table[i] = None;
+    match ref_at(table.as_slice(), i) {
+        None => {}
+        Some(r) => {
+            pool.drop_clause(r);
+            table[i] = None;
+        }
     }
 }
 

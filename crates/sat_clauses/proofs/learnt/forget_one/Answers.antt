@@ -12,3 +12,8 @@ pub returns-in-Some-clause-gone : goal.returns-in-Some-clause-gone
 returns-in-Some-clause-gone c =
     free_set c.drop_clause.new.self c.args.table.now.items c.args.i c.in-Some.r
     (ap (λ es. slice_get es c.args.i) (sym c.as_slice.ensures.value) ∙ c.in-Some.ensures.found)
+
+pub returns-in-None-clause-gone : goal.returns-in-None-clause-gone
+returns-in-None-clause-gone c =
+    free_already c.args.pool.now c.args.table.now.items c.args.i
+    (λ r at. c.in-None.ensures.none r (ap (λ es. slice_get es c.args.i) c.as_slice.ensures.value ∙ at))
