@@ -111,7 +111,10 @@ impl Index {
 
     /// Puts a clause at the head of its chain.
     fn link(&mut self, id: usize) {
-        let (Ok(number), Some(hash)) = (u32::try_from(id), self.hashes.get(id).copied()) else {
+        let Ok(number) = u32::try_from(id) else {
+            return;
+        };
+        let Some(hash) = self.hashes.get(id).copied() else {
             return;
         };
         let chain = self.chain_of(hash);

@@ -60,10 +60,10 @@ impl Cdcl {
     }
 
     /// Answers as `solve` does. After `NoModel` the log is a certificate of the clauses with one clause of
-    /// one literal for each assumed literal: its steps add the clauses that were learnt, each of which
-    /// follows by unit propagation from those before it, and the empty clause last; what it had before is
-    /// dropped. After `Model` and after `OutOfMemory` the log is as before. The learnt clauses of earlier
-    /// questions are deleted.
+    /// one literal for each assumed literal: its steps add each clause that was learnt, which follows by
+    /// unit propagation from those that are there, take it out when it is deleted, and add the empty clause
+    /// last; what it had before is dropped. After `Model` and after `OutOfMemory` the log is as before. The
+    /// learnt clauses of earlier questions are deleted.
     pub fn solve_logged(&mut self, assumed: &[Lit], log: &mut Log) -> Result<Answer, OutOfMemory>
         requires { LitsBelow self.old.vars assumed.now }
         ensures vars { self.new.vars ≡ self.old.vars }

@@ -4,8 +4,8 @@ use Rattle.std.specs.Prelude.{◌≡◌, ℕ, ◌<◌, ◌≤◌, Bool, false, L
 use Rattle.sat_base.specs.Logic.{at}
 use Rattle.sat_trail.specs.declared.trail.Put.{Put}
 use Rattle.sat_trail.specs.declared.trail.Put.TheVariants.{Done, Taken, Absent}
-use Rattle.sat_trail.specs.declared.decide.Choice.{Choice}
-use Rattle.sat_trail.specs.declared.decide.Choice.TheVariants.{Made, Full}
+use Rattle.sat_trail.specs.declared.decisions.Choice.{Choice}
+use Rattle.sat_trail.specs.declared.decisions.Choice.TheVariants.{Made, Full}
 use Rattle.sat_trail.specs.Steps.{TrailState, AllTrue, Follows, Tells}
 use Rattle.sat_trail.specs.Weight.{trail_weight}
 

@@ -4,11 +4,11 @@
 #![tactic(auto)]
 
 mod activity;
-mod decide;
+mod decisions;
 mod propagate;
 mod trail;
 
 pub use activity::Activity;
-pub use decide::{Choice, decide};
+pub use decisions::{Choice, decide};
 pub use propagate::{open_beside, settle};
 pub use trail::{Put, Step, Trail, differs};

@@ -1,7 +1,7 @@
 -- A decision more, or none.
 use Rattle.std.proofs.Common.{refl}
 use Rattle.sat_trail.proofs.FollowLemmas.{decided_put}
-use Rattle.sat_trail.proofs.decide.decide_variable.Goals as goal
+use Rattle.sat_trail.proofs.decisions.decide_variable.Goals as goal
 
 pub returns : goal.returns
 returns c =

@@ -3,8 +3,8 @@ use Rattle.std.proofs.Common.{◌++◌, ◌∷◌, [], length, length-append, sy
 use Rattle.sat_base.specs.Logic.{at}
 use Rattle.sat_trail.specs.Decided.{IsDecision}
 use Rattle.sat_trail.proofs.FollowLemmas.{collected}
-use Rattle.sat_trail.proofs.decide.collect.Goals as goal
-use Rattle.sat_trail.proofs.decide.collect.Goals.{in-Taken, in-Absent}
+use Rattle.sat_trail.proofs.decisions.collect.Goals as goal
+use Rattle.sat_trail.proofs.decisions.collect.Goals.{in-Taken, in-Absent}
 
 pub returns-in-Done : goal.returns-in-Done
 returns-in-Done c = subst (λ t. IsDecision t c.decide_variable.new.trail) c.loop-var.invariant.same c.in-Done.ensures

@@ -1,7 +1,7 @@
 use Rattle.std.proofs.Common.{◌≡◌, ℕ, ◌<◌, Bool, length}
 use Rattle.sat_base.specs.Logic.{at}
 use Rattle.sat_trail.specs.Steps.{AllTrue}
-use Rattle.sat_trail.proofs.decide.collect.Given as goal
+use Rattle.sat_trail.proofs.decisions.collect.Given as goal
 
 abbrev pub invariant-loop-var : goal.invariant-loop-var
 invariant-loop-var l = record {
