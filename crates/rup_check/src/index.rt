@@ -28,7 +28,11 @@ pub struct Index {
 /// The number of a literal among all literals: 2 v for the variable v, and 2 v + 1 for its negation. Variables from
 /// 2^31 on have one number.
 pub fn code_of(lit: Lit) -> u32 {
-    match u32::try_from(lit.var.saturating_mul(2).saturating_add(usize::from(lit.neg))) {
+    match u32::try_from(
+        lit.var
+            .saturating_mul(2)
+            .saturating_add(usize::from(lit.neg)),
+    ) {
         Ok(code) => code,
         Err(_) => u32::MAX,
     }

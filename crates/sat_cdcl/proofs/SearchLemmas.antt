@@ -24,7 +24,7 @@ use Rattle.sat_cdcl.specs.Answered.{HasNone, IsModel, Clashes, AllFollow, Rises,
 use Rattle.sat_cdcl.specs.Progressed.{IsProgress}
 use Rattle.sat_trail.specs.Order.{differs}
 use Rattle.sat_clauses.proofs.TruthLemmas.{not_both, true_unless, false_unless, both, and_of}
-use Rattle.sat_trail.proofs.FollowLemmas.{all_push, follows_push, follows_first, follows_all, follows_flipped, follows_true, told_more}
+use Rattle.sat_trail.proofs.FollowLemmas.{all_push, follows_push, follows_first, follows_all, follows_flipped, follows_true}
 use Rattle.sat_trail.proofs.WeightLemmas.{weight-jump, weight_below}
 
 lit_same : (f g : ℕ → Bool) (n : ℕ) (l : Lit) → l.var < n → ((x : ℕ) → x < n → f x ≡ g x) → lit_true f l ≡ lit_true g l

@@ -3,7 +3,7 @@
 
 use Rattle.std.specs.Prelude.{◌≡◌, ℕ, ◌≤◌, Bool, true, false, List, [], ◌∷◌, ◌++◌, take}
 use Rattle.sat_base.specs.declared.literal.Lit.{Lit}
-use Rattle.sat_base.specs.Logic.{lit_true, some_true, all_true}
+use Rattle.sat_base.specs.Logic.{lit_true, all_true}
 use Rattle.sat_trail.specs.declared.trail.Step.{Step}
 use Rattle.sat_trail.specs.declared.trail.Put.{Put}
 use Rattle.sat_trail.specs.declared.trail.Put.TheVariants.{Done, Taken, Absent}
