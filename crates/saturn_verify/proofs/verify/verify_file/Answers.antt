@@ -11,8 +11,7 @@ returns-in-Ok-unread_line g c words named =
 
 pub returns-in-Ok-line_of : goal.returns-in-Ok-line_of
 returns-in-Ok-line_of g c words named =
-    inr
-    (
+    inr (
       due_for c.args.name.now c.in-Ok-find.finding,
       read c.args.name.now c.in-Ok.bytes.items _ named c.in-Ok.ensures.read c.in-Ok-find.ensures,
       c.say_finding.ensures,
