@@ -116,12 +116,18 @@ module _ (here : Here) where
     n ← declare_global_if (linked_if name at (has_static ss) s)
     done (declarator_of name at (declares.Global n) None)
 
-  abbrev pub variable_declared : (at_file : Bool) → List Storage → NameId → Pos → Option Init → Option CType → Check TDeclarator
-  variable_declared true ss name at x t = file_variable ss name at x t
-  variable_declared false ss name at x t =
+  -- a variable in a body
+  abbrev pub body_variable : List Storage → NameId → Pos → Option Init → Option CType → Check TDeclarator
+  body_variable ss name at x t =
       if has_extern ss
       then extern_declared name at (has_static ss) (linked_if name at false t)
       else local_declared ss name at x t
+
+  abbrev pub variable_declared : (at_file : Bool) → List Storage → NameId → Pos → Option Init → Option CType → Check TDeclarator
+  variable_declared at_file ss name at x t =
+      if at_file
+      then file_variable ss name at x t
+      else body_variable ss name at x t
 
   abbrev pub declared_as : (at_file : Bool) → List Storage → NameId → Pos → Option Init → Shape → Check TDeclarator
   declared_as at_file ss name at x s =
