@@ -123,7 +123,8 @@ module _ (here : Here) where
       then extern_declared name at (has_static ss) (linked_if name at false t)
       else local_declared ss name at x t
 
-  abbrev pub variable_declared : (at_file : Bool) → List Storage → NameId → Pos → Option Init → Option CType → Check TDeclarator
+  abbrev pub variable_declared : (at_file : Bool) → List Storage → NameId → Pos → Option Init → Option CType
+      → Check TDeclarator
   variable_declared at_file ss name at x t =
       if at_file
       then file_variable ss name at x t
@@ -137,7 +138,8 @@ module _ (here : Here) where
       then function_named (at_file && has_local ss) name at s.ctype s.own
       else variable_declared at_file ss name at x s.ctype)
 
-  abbrev pub declarator_named : (at_file : Bool) → List Storage → Option CType → Declaring → Option Init → NameId × Pos → Check TDeclarator
+  abbrev pub declarator_named : (at_file : Bool) → List Storage → Option CType → Declaring → Option Init → NameId × Pos
+      → Check TDeclarator
   declarator_named at_file ss t d x (name, at) = do
     s ← d.run at t
     declared_as at_file ss name at x s
@@ -146,7 +148,8 @@ module _ (here : Here) where
   declarator at_file ss t d =
       declarator_named at_file ss t (declaring here d.declarator) d.init (name_of (declaring here d.declarator).name)
 
-  abbrev pub declarators : (at_file : Bool) → List Storage → Option CType → List InitDeclarator → Check (List TDeclarator)
+  abbrev pub declarators : (at_file : Bool) → List Storage → Option CType → List InitDeclarator
+      → Check (List TDeclarator)
   declarators at_file ss t [] = done []
   declarators at_file ss t (d ∷ ds) = do
     x ← declarator at_file ss t d

@@ -127,14 +127,9 @@ fn completed(
 }
 
 // The type of an object at file scope is one that an object has.
-fn object_at_file(
-    walk: &mut Walk,
-    here: &Tables,
-    defines: bool,
-    at: Pos,
-    t: Option<&CType>,
-) -> bool
-    ensures judged { object_if (tables.here_of here.now).widths defines at (option_copied t.entry) walk.old ≡ (result, walk.new) }
+fn object_at_file(walk: &mut Walk, here: &Tables, defines: bool, at: Pos, t: Option<&CType>) -> bool
+    ensures judged { object_if (tables.here_of here.now).widths defines at (option_copied t.entry) walk.old
+        ≡ (result, walk.new) }
     ensures kept { walk.new.globals ≡ walk.old.globals }
 {
     objects_keep_globals();
@@ -171,7 +166,8 @@ fn file_variable(
     t: Option<CType>,
 ) -> Result<TDeclarator, OutOfMemory>
     requires { numbers.old ≡ keys_of walk.old.globals }
-    ensures declared { Gives (spec.file_variable (tables.here_of here.now) words.now name at init.now t walk.old) result walk.new }
+    ensures declared { Gives (spec.file_variable (tables.here_of here.now) words.now name at init.now
+        t walk.old) result walk.new }
     ensures tied { OnOk result (numbers.new ≡ keys_of walk.new.globals) }
 {
     let t = completed_if(alloc, walk, here, init, t)?;
@@ -197,7 +193,8 @@ fn local_named(
     init: &Option<Boxed<Init>>,
     t: Option<CType>,
 ) -> Result<TDeclarator, OutOfMemory>
-    ensures declared { Gives (spec.local_declared (tables.here_of here.now) words.now name at init.now t walk.old) result walk.new }
+    ensures declared { Gives (spec.local_declared (tables.here_of here.now) words.now name at init.now
+        t walk.old) result walk.new }
     ensures kept { OnOk result (walk.new.globals ≡ walk.old.globals) }
 {
     no_local_has_a_global();
@@ -217,7 +214,8 @@ fn body_variable(
     t: Option<CType>,
 ) -> Result<TDeclarator, OutOfMemory>
     requires { numbers.old ≡ keys_of walk.old.globals }
-    ensures declared { Gives (spec.body_variable (tables.here_of here.now) words.now name at init.now t walk.old) result walk.new }
+    ensures declared { Gives (spec.body_variable (tables.here_of here.now) words.now name at init.now
+        t walk.old) result walk.new }
     ensures tied { OnOk result (numbers.new ≡ keys_of walk.new.globals) }
 {
     if has_extern(words) {
@@ -232,7 +230,8 @@ fn body_variable(
             d.as_ref(),
         )
     } else {
-        local_named(alloc, walk, here, words, name, at, init, t)
+        let made = local_named(alloc, walk, here, words, name, at, init, t)?;
+        Ok(made)
     }
 }
 
@@ -250,7 +249,8 @@ fn variable_declared(
     t: Option<CType>,
 ) -> Result<TDeclarator, OutOfMemory>
     requires { numbers.old ≡ keys_of walk.old.globals }
-    ensures declared { Gives (spec.variable_declared (tables.here_of here.now) at_file words.now name at init.now t walk.old) result walk.new }
+    ensures declared { Gives (spec.variable_declared (tables.here_of here.now) at_file words.now name
+        at init.now t walk.old) result walk.new }
     ensures tied { OnOk result (numbers.new ≡ keys_of walk.new.globals) }
 {
     if at_file {
@@ -284,17 +284,22 @@ fn declared_as(
     shape: Shape,
 ) -> Result<TDeclarator, OutOfMemory>
     requires { numbers.old ≡ keys_of walk.old.globals }
-    ensures declared { Gives (spec.declared_as (tables.here_of here.now) at_file words.now name at init.now shape walk.old) result walk.new }
+    ensures declared { Gives (spec.declared_as (tables.here_of here.now) at_file words.now name at init.now
+        shape walk.old) result walk.new }
     ensures tied { OnOk result (numbers.new ≡ keys_of walk.new.globals) }
 {
     let Shape { ctype, own } = shape;
     if at_file && has_typedef(words) {
-        typedef_named(walk, name, at, ctype)
+        let made = typedef_named(walk, name, at, ctype)?;
+        Ok(made)
     } else if is_function_of(ctype.as_ref(), has_own(&own)) {
         let is_local = at_file && has_local(words);
-        function_named(alloc, walk, here, is_local, name, at, ctype.as_ref(), &own)
+        let made = function_named(alloc, walk, here, is_local, name, at, ctype.as_ref(), &own)?;
+        Ok(made)
     } else {
-        variable_declared(alloc, walk, numbers, here, at_file, words, name, at, init, ctype)
+        variable_declared(
+            alloc, walk, numbers, here, at_file, words, name, at, init, ctype,
+        )
     }
 }
 
@@ -323,7 +328,8 @@ fn function_named(
     t: Option<&CType>,
     own: &Option<Own>,
 ) -> Result<TDeclarator, OutOfMemory>
-    ensures declared { Gives (spec.function_named (tables.here_of here.now) is_local name at (option_copied t.entry) own.now walk.old) result walk.new }
+    ensures declared { Gives (spec.function_named (tables.here_of here.now) is_local name at
+        (option_copied t.entry) own.now walk.old) result walk.new }
     ensures kept { OnOk result (walk.new.globals ≡ walk.old.globals) }
 {
     functions_keep_globals();
@@ -431,7 +437,8 @@ fn declarator_of(
     d: &InitDeclarator,
 ) -> Result<TDeclarator, OutOfMemory>
     requires { numbers.old ≡ keys_of walk.old.globals }
-    ensures declared { Gives (spec.declarator (tables.here_of here.now) at_file words.now (option_copied t.entry) d.now walk.old) result walk.new }
+    ensures declared { Gives (spec.declarator (tables.here_of here.now) at_file words.now
+        (option_copied t.entry) d.now walk.old) result walk.new }
     ensures tied { OnOk result (numbers.new ≡ keys_of walk.new.globals) }
 {
     let name = name_of(here.declared_name(&d.declarator));
@@ -452,7 +459,8 @@ fn declarators(
     parts: &[InitDeclarator],
 ) -> Result<List<TDeclarator>, OutOfMemory>
     requires { numbers.old ≡ keys_of walk.old.globals }
-    ensures declared { Gives (spec.declarators (tables.here_of here.now) at_file words.now (option_copied t.entry) parts.now walk.old) result walk.new }
+    ensures declared { Gives (spec.declarators (tables.here_of here.now) at_file words.now
+        (option_copied t.entry) parts.now walk.old) result walk.new }
     ensures tied { OnOk result (numbers.new ≡ keys_of walk.new.globals) }
 {
     let mut made = List::new(alloc);

@@ -1,6 +1,6 @@
 // Initialisers of locals (C11 6.7.9): their expressions are typed, and the values go to the object as `sc_fill` says.
 
-ghost use Rattle.std.specs.Prelude.{◌≡◌};
+ghost use Rattle.std.specs.Prelude.{◌≡◌, is_some};
 ghost use Rattle.std.specs.Option.{option_copied};
 ghost use Rattle.sc_rules.specs.Gives.{Gives};
 ghost use Rattle.sc_typing.specs.Tables as tables;
@@ -29,11 +29,20 @@ fn item_expression(item: &InitItem) -> Option<&Expr>
     }
 }
 
+fn is_expression(item: &InitItem) -> bool
+    ensures { result ≡ is_some (spec.item_expression item.now) }
+{
+    match item_expression(item) {
+        None => false,
+        Some(_) => true,
+    }
+}
+
 // Whether each item is an expression without designators.
 fn all_expressions(items: &[InitItem]) -> bool
     ensures { result ≡ spec.all_expressions items.now }
 {
-    items.iter().all(|item| item_expression(item).is_some())
+    items.iter().all(|item| is_expression(item))
 }
 
 // Types those items that are expressions without designators, as they stand.
@@ -44,7 +53,8 @@ fn values(
     here: &Tables,
     items: &[InitItem],
 ) -> Result<List<Option<TExpr>>, OutOfMemory>
-    ensures { Gives (spec.values (tables.here_of here.now) (spec.expressions_there items.now) walk.old) result walk.new }
+    ensures { Gives (spec.values (tables.here_of here.now) (spec.expressions_there items.now) walk.old)
+        result walk.new }
 {
     let mut values = List::new(alloc);
     for item in items {
@@ -69,7 +79,8 @@ fn list_initialiser(
     t: Option<&CType>,
     items: &[InitItem],
 ) -> Result<Option<TInit>, OutOfMemory>
-    ensures { Gives (spec.list_initialiser (tables.here_of here.now) at (option_copied t.entry) (spec.item_expressions items.now) walk.old) result walk.new }
+    ensures { Gives (spec.list_initialiser (tables.here_of here.now) at (option_copied t.entry)
+        (spec.item_expressions items.now) walk.old) result walk.new }
 {
     if all_expressions(items) {
         let values = values(alloc, walk, here, items)?;
@@ -105,7 +116,8 @@ fn one_initialiser(
     t: Option<&CType>,
     e: &Expr,
 ) -> Result<Option<TInit>, OutOfMemory>
-    ensures { Gives (spec.one_initialiser (tables.here_of here.now) at (option_copied t.entry) e.now walk.old) result walk.new }
+    ensures { Gives (spec.one_initialiser (tables.here_of here.now) at (option_copied t.entry) e.now walk.old)
+        result walk.new }
 {
     let e = expression(alloc, walk, here, e)?;
     let value = value_given(alloc, walk, here, at, t, e)?;
@@ -122,7 +134,8 @@ pub fn initialiser(
     t: Option<&CType>,
     init: &Init,
 ) -> Result<Option<TInit>, OutOfMemory>
-    ensures { Gives (spec.initialiser (tables.here_of here.now) at (option_copied t.entry) init.now walk.old) result walk.new }
+    ensures { Gives (spec.initialiser (tables.here_of here.now) at (option_copied t.entry) init.now walk.old)
+        result walk.new }
 {
     match init {
         Init::One(e) => one_initialiser(alloc, walk, here, at, t, e.get()),
