@@ -124,13 +124,13 @@ module _ (here : Here) (steps : Steps here) where
       (steps.lengthening n name at (elements_set r) t)
 
   abbrev then_initialised : ℕ → NameId → Pos → CType → Init → Option ℕ → Check (Option TInit)
-  then_initialised n name at t x m = initialiser here at (sized here t m) x >>= then_lengthened n name at t
+  then_initialised n name at t x m = initialiser here at (sized t m) x >>= then_lengthened n name at t
 
   initialised_kept : (n : ℕ) (name : NameId) (at : Pos) (t : CType) (x : Init) (m : Option ℕ)
       → KeepsGlobals (then_initialised n name at t x m)
   initialised_kept n name at t x m =
-      by_then (initialiser here at (sized here t m) x) (then_lengthened n name at t)
-      (initialiser_kept at (sized here t m) x) (then_kept n name at t)
+      by_then (initialiser here at (sized t m) x) (then_lengthened n name at t)
+      (initialiser_kept at (sized t m) x) (then_kept n name at t)
 
   written_kept : (n : ℕ) (name : NameId) (at : Pos) (t : CType) (x : Init)
       → KeepsGlobals (written_initialiser here n name at t x)
@@ -147,7 +147,7 @@ module _ (here : Here) (steps : Steps here) where
   faulty_kept at (Some x) = initialiser_kept at None x
 
   abbrev of_init : NameId → Pos → ℕ → Option TInit → TDeclarator
-  of_init name at n r = declarator_of here name at (declares.Local n) r
+  of_init name at n r = declarator_of name at (declares.Local n) r
 
   abbrev then_local : NameId → Pos → Option Init → CType → ℕ → Check TDeclarator
   then_local name at x t n = local_initialiser here n name at t x >>= λ r. done (of_init name at n r)

@@ -46,6 +46,19 @@ abbrev pub params_if : Option Own → Option (List Parameter)
 params_if None = None
 params_if (Some own) = Some own.params
 
+-- a type that has a size
+abbrev pub sized : CType → Option ℕ → Option CType
+sized t None = None
+sized t (Some n) = Some t
+
+abbrev pub declarator_of : NameId → Pos → Declared → Option TInit → TDeclarator
+declarator_of name at d x = record { name = name; pos = at; declared = d; init = x }
+
+-- specifiers without declarators
+abbrev pub is_alone : List InitDeclarator → Bool
+is_alone [] = true
+is_alone (d ∷ ds) = false
+
 module _ (here : Here) where
   -- a declaration of a variable with linkage; its global has the type that all files give it, once that is known
   abbrev pub type_over_all : NameId → Option CType
@@ -55,10 +68,6 @@ module _ (here : Here) where
   linked_if name at is_static t = linked_in here.file (here.is_local name.at) (type_over_all name) name at is_static t
 
   -- Locals.
-
-  abbrev pub sized : CType → Option ℕ → Option CType
-  sized t None = None
-  sized t (Some n) = Some t
 
   abbrev pub written_initialiser : ℕ → NameId → Pos → CType → Init → Check (Option TInit)
   written_initialiser n name at t x = do
@@ -74,9 +83,6 @@ module _ (here : Here) where
   abbrev pub faulty_initialiser : Pos → Option Init → Check (Option TInit)
   faulty_initialiser at None = done None
   faulty_initialiser at (Some x) = initialiser here at None x
-
-  abbrev pub declarator_of : NameId → Pos → Declared → Option TInit → TDeclarator
-  declarator_of name at d x = record { name = name; pos = at; declared = d; init = x }
 
   -- a variable of a body without linkage; a static one is not taken
   abbrev pub typed_local : NameId → Pos → Option Init → CType → Check TDeclarator
@@ -155,10 +161,6 @@ module _ (here : Here) where
     x ← declarator at_file ss t d
     xs ← declarators at_file ss t ds
     done (x ∷ xs)
-
-  abbrev pub is_alone : List InitDeclarator → Bool
-  is_alone [] = true
-  is_alone (d ∷ ds) = false
 
   -- the type that the specifiers of a declaration name
   abbrev pub type_named : Decl → Check (Option CType)
