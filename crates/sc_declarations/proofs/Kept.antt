@@ -1,12 +1,12 @@
 -- What declares a variable of a body without linkage leaves the globals of the walk as they are.
-use Rattle.std.proofs.Common.{◌≡◌, ℕ, Bool, true, false, not, Option, Some, None, List, [], ◌∷◌, map}
-use Rattle.std.proofs.Common.{Result, Ok, Err, refl, sym, ◌∙◌, ap}
+use Rattle.std.proofs.Common.{◌≡◌, ℕ, Bool, true, false, not, ◌&&◌, if◌then◌else◌, Option, Some, None}
+use Rattle.std.proofs.Common.{List, [], ◌∷◌, map, Result, Ok, Err, refl, sym, ◌∙◌, ap}
 use Rattle.std.specs.Prelude.{OnOk}
 use Rattle.sc_base.specs.declared.pos.NameId.{NameId}
 use Rattle.sc_base.specs.declared.pos.Pos.{Pos}
 use Rattle.sc_base.specs.declared.skip.Unsupported.TheVariants as u
 use Rattle.sc_tree.specs.declared.ctype.CType.{CType}
-use Rattle.sc_tree.specs.declared.expr.Expr.{Expr}
+use Rattle.sc_tree.specs.declared.expr.Expr.{Expr, out-Expr}
 use Rattle.sc_tree.specs.declared.expr.Storage.{Storage}
 use Rattle.sc_tree.specs.declared.decl.Init.{Init, Init-F, out-Init}
 use Rattle.sc_tree.specs.declared.decl.InitItem.{InitItem}
@@ -19,18 +19,18 @@ use Rattle.sc_rules.specs.declared.walk.Walk.{Walk}
 use Rattle.sc_rules.specs.declared.walk.Fault.{Fault}
 use Rattle.sc_rules.specs.Faults.{unsupported_at}
 use Rattle.sc_rules.specs.Gives.{Gives}
-use Rattle.sc_rules.specs.Walks.{Check, then_with, ◌>>=◌, done, given}
+use Rattle.sc_rules.specs.Walks.{Check, then_with, ◌>>=◌, done, unsupported}
 use Rattle.sc_names.specs.Notes.{note_unless}
 use Rattle.sc_names.specs.Structs.{size_now}
 use Rattle.sc_declare.specs.Storage.{has_static}
 use Rattle.sc_declare.specs.Locals.{declare_local, lengthen}
-use Rattle.sc_fill.specs.Initialisers.{one, one_value, spread_if, elements_set}
+use Rattle.sc_fill.specs.Initialisers.{is_array_if, one, one_value, spread_if, elements_set}
 use Rattle.sc_typing.specs.Here.{Here}
 use Rattle.sc_typing.specs.Shapes.{Typing}
 use Rattle.sc_typing.specs.Typing.{typing}
 use Rattle.typing_laws.specs.Kept.{KeepsGlobals}
-use Rattle.sc_declarations.specs.Initialisers.{item_expressions, as_they_stand, values, list_initialiser, value_given}
-use Rattle.sc_declarations.specs.Initialisers.{one_initialiser, initialiser_layer, initialiser}
+use Rattle.sc_declarations.specs.Initialisers.{item_expressions, is_text, as_they_stand, values, list_initialiser}
+use Rattle.sc_declarations.specs.Initialisers.{value_given, one_initialiser, initialiser_layer, initialiser}
 use Rattle.sc_declarations.specs.Declarations.{sized, written_initialiser, local_initialiser, faulty_initialiser}
 use Rattle.sc_declarations.specs.Declarations.{declarator_of, typed_local, untyped_local, local_if, local_declared}
 
@@ -50,11 +50,6 @@ by_then m f first rest = record { kept = λ w. then_left (m w) f w.globals (firs
 by_done : {A B : Type 0} (m : Check A) (f : A → B) → KeepsGlobals m → KeepsGlobals (m >>= λ a. done (f a))
 by_done m f first = by_then m (λ a. done (f a)) first (λ a. keeps (λ v. refl))
 
-by_given : {A B : Type 0} (x : Option A) (f : A → Check (Option B)) → ((a : A) → KeepsGlobals (f a))
-    → KeepsGlobals (given x f)
-by_given None f rest = keeps (λ w. refl)
-by_given (Some a) f rest = rest a
-
 -- what code of such a step leaves
 pub kept_by : {A E : Type 0} (m : Check A) (r : Result A E) (w v : Walk) → KeepsGlobals m → Gives (m w) r v
     → OnOk r (v.globals ≡ w.globals)
@@ -68,7 +63,7 @@ kept_of m x w v keeps is = sym (ap (λ p. p.1.globals) is) ∙ keeps.kept w
 -- What is asked of the steps of the crates below.
 pub record Steps (here : Here) : Type 0 where
   pub expressions : (e : Expr) → KeepsGlobals (typing here e).run
-  pub one_value : (at : Pos) (t : Option CType) (e : TExpr) → KeepsGlobals (one_value here.widths at t e)
+  pub single : (at : Pos) (t : Option CType) (e : TExpr) → KeepsGlobals (one_value here.widths at t e)
   pub braces : (at : Pos) (t : Option CType) (xs : List (Option TExpr)) → KeepsGlobals (spread_if here.widths at t xs)
   pub locals : (name : NameId) (at : Pos) (t : CType) → KeepsGlobals (declare_local here.widths name at t)
   pub lengthening : (n : ℕ) (name : NameId) (at : Pos) (m : Option ℕ) (t : CType)
@@ -77,6 +72,13 @@ pub record Steps (here : Here) : Type 0 where
 note_kept : (test : Bool) (f : Fault) → KeepsGlobals (note_unless test f)
 note_kept true f = keeps (λ w. refl)
 note_kept false f = keeps (λ w. refl)
+
+abbrev fault_if : Bool → Pos → Check (Option TExpr)
+fault_if b at = if b then unsupported u.Init at else done None
+
+no_value_kept : (b : Bool) (at : Pos) → KeepsGlobals (fault_if b at)
+no_value_kept true at = keeps (λ w. refl)
+no_value_kept false at = keeps (λ w. refl)
 
 stand_kept : (type_of : Expr → Typing) → ((e : Expr) → KeepsGlobals (type_of e).run) → (es : List Expr)
     → KeepsGlobals (as_they_stand (map type_of es))
@@ -94,13 +96,23 @@ module _ (here : Here) (steps : Steps here) where
       by_then (values here es) (λ xs. spread_if here.widths at t xs) (stand_kept (typing here) steps.expressions es)
       (λ xs. steps.braces at t xs)
 
-  value_kept : (at : Pos) (t : Option CType) (x : Option TExpr) → KeepsGlobals (value_given here at t x)
-  value_kept at t x = by_given x (one_value here.widths at t) (λ e. steps.one_value at t e)
+  value_kept : (at : Pos) (t : Option CType) (text : Bool) (x : Option TExpr)
+      → KeepsGlobals (value_given here at t text x)
+  value_kept at t text None = no_value_kept (text && is_array_if t) at
+  value_kept at t text (Some x) = steps.single at t x
+
+  -- of whatever types the expression
+  abbrev one_by : Check (Option TExpr) → Pos → Option CType → (text : Bool) → Check (Option TInit)
+  one_by typed at t text = typed >>= λ x. value_given here at t text x >>= λ v. done (one v)
+
+  one_by_kept : (typed : Check (Option TExpr)) → KeepsGlobals typed → (at : Pos) (t : Option CType) (text : Bool)
+      → KeepsGlobals (one_by typed at t text)
+  one_by_kept typed k at t text =
+      by_then typed (λ x. value_given here at t text x >>= λ v. done (one v)) k
+      (λ x. by_done (value_given here at t text x) (λ v. one v) (value_kept at t text x))
 
   one_kept : (at : Pos) (t : Option CType) (e : Expr) → KeepsGlobals (one_initialiser here at t e)
-  one_kept at t e =
-      by_then (typing here e).run (λ x. value_given here at t x >>= λ v. done (one v)) (steps.expressions e)
-      (λ x. by_done (value_given here at t x) (λ v. one v) (value_kept at t x))
+  one_kept at t e = one_by_kept (typing here e).run (steps.expressions e) at t (is_text (out-Expr e))
 
   layer_kept : (at : Pos) (t : Option CType) (x : Init-F Init InitItem) → KeepsGlobals (initialiser_layer here at t x)
   layer_kept at t (Init-F.One e) = one_kept at t e

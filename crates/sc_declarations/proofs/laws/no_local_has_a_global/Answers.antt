@@ -5,7 +5,7 @@ pub returns : goal.returns
 returns c = λ here words name at x t.
     local_kept here (record {
       expressions = c.expressions_keep_globals.ensures here;
-      one_value = c.one_value_keeps_globals.ensures here.widths;
+      single = c.one_value_keeps_globals.ensures here.widths;
       braces = c.braces_keep_globals.ensures here.widths;
       locals = c.locals_keep_globals.ensures here.widths;
       lengthening = c.lengthening_keeps_globals.ensures here.widths;
