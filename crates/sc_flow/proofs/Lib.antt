@@ -1,5 +1,4 @@
 pub mod Easy
 pub mod Labels
-pub mod Lists
 pub mod Loops
 pub mod Nodes
