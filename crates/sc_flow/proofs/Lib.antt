@@ -2,3 +2,4 @@ pub mod Easy
 pub mod Labels
 pub mod Loops
 pub mod Nodes
+pub mod Whole
