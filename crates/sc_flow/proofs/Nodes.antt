@@ -1,7 +1,7 @@
 -- The list of nodes, the newest first, behind one more.
 use Rattle.std.proofs.Common.{◌≡◌, ℕ, ◌-◌, List, [], ◌∷◌, ◌++◌, length, map, take, drop, slice_index_or, zero, suc, ◌<◌, refl, sym, ap, ◌∙◌, length-drop, arith}
 use Rattle.std.specs.Prelude.{reverse, set}
-use Rattle.std.proofs.lemmas.List.{map-append, reverse-append, length-reverse, length-map, take-append-drop, append-nil}
+use Rattle.std.proofs.lemmas.List.{map-append, reverse-append, length-reverse, length-map, take-append-drop, take-append-le, append-nil}
 use Rattle.std.proofs.Math.Seq.{drop-append_seam, take-length, drop-length}
 
 pub put_step : {A B : Type 0} (f : A → B) (xs : List A) (x : A) → reverse (map f (xs ++ x ∷ [])) ≡ f x ∷ reverse (map f xs)
@@ -56,3 +56,7 @@ all_turned f t xs ys k e h =
     ∙ (ap (λ n. map t (map f (take n ys)) ++ map f (drop n ys)) e
     ∙ (ap (λ zs. map t (map f zs) ++ map f (drop (length ys) ys)) (take-length ys)
     ∙ (ap (λ zs. map t (map f ys) ++ map f zs) (drop-length ys) ∙ append-nil (map t (map f ys)))))
+
+-- the front of two lists
+pub front_of : {A : Type 0} (n : ℕ) (xs ys : List A) → n ≡ length xs → take n (xs ++ ys) ≡ xs
+front_of n xs ys e = take-append-le n xs ys (omega (arith, e)) ∙ (ap (λ k. take k xs) e ∙ take-length xs)
