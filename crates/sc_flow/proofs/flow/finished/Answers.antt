@@ -15,8 +15,8 @@ returns c =
     let first : c.deref_mut.result.now ≡ reverse (take (c.args.entry + 1) c.args.g.nodes.items) =
     cc (c.deref_mut.ensures.value, c.reverse.ensures.items, c.truncate.ensures.items) in
     let nodes : map (node structs) c.from_vec.result
-        ≡ map (turned c.args.entry)
-        (drop (length (reverse (map (node structs) c.args.g.nodes.items)) - (c.args.entry + 1)) (reverse (map (node structs) c.args.g.nodes.items))) =
+    ≡ map (turned c.args.entry)
+    (drop (length (reverse (map (node structs) c.args.g.nodes.items)) - (c.args.entry + 1)) (reverse (map (node structs) c.args.g.nodes.items))) =
     ap (map (node structs)) last
     ∙ (c.turn.ensures structs
     ∙ (ap (λ ys. map (turned c.args.entry) (map (node structs) ys)) first
