@@ -1,0 +1,45 @@
+-- What contracts see of where a run goes on, and of what it seeks.
+use Rattle.std.specs.Prelude.{Option, Some, None, Bool}
+use Rattle.sum_rows.specs.declared.report.What.{What}
+use Rattle.sum_rows.specs.declared.report.What.TheVariants as what
+use Rattle.sc_world.specs.Exec as spec
+use Rattle.run_world.specs.Seen.{cell}
+use Rattle.run_stmts.specs.declared.flow.Flow.{Flow}
+use Rattle.run_stmts.specs.declared.flow.Flow.TheVariants as flows
+use Rattle.run_stmts.specs.declared.flow.Seek.{Seek}
+use Rattle.run_stmts.specs.declared.flow.Seek.TheVariants as seeks
+use Rattle.run_stmts.specs.declared.flow.After.{After}
+use Rattle.run_stmts.specs.declared.flow.After.TheVariants as afters
+use Rattle.run_stmts.specs.Turns as turns
+use Rattle.run_stmts.specs.declared.conditions.Test.{Test}
+use Rattle.run_stmts.specs.declared.conditions.Test.TheVariants as test
+
+abbrev pub flow : Flow → spec.Flow
+flow flows.Next = spec.Next
+flow flows.Breaks = spec.Breaks
+flow flows.Continues = spec.Continues
+flow (flows.GoesTo n) = spec.GoesTo n
+flow (flows.Returns v) = spec.Returns (cell v)
+
+abbrev pub flow_if : Option Flow → Option spec.Flow
+flow_if None = None
+flow_if (Some f) = Some (flow f)
+
+abbrev pub seek : Seek → spec.Seek
+seek seeks.Here = spec.Here
+seek (seeks.AtLabel n) = spec.AtLabel n
+seek (seeks.AtCase n) = spec.AtCase n
+seek seeks.AtDefault = spec.AtDefault
+
+abbrev pub seek_if : Option Seek → Option spec.Seek
+seek_if None = None
+seek_if (Some s) = Some (seek s)
+
+abbrev pub after : After → turns.After
+after (afters.Seeks s) = turns.Seeks (seek s)
+after (afters.Ends f) = turns.Ends (flow f)
+
+-- the event of a condition
+abbrev pub asked : Test → Bool → What
+asked test.If = what.If
+asked test.Loop = what.Loop

@@ -1,0 +1,176 @@
+// Statements without statements in them.
+
+ghost use Rattle.std.specs.Prelude.{◌≡◌, ◌+◌, ◌<◌, ◌≤◌, ◌^◌, length, vec_capacity, OnOk};
+ghost use Rattle.sc_world.specs.Exec as spec;
+ghost use Rattle.sc_world.specs.View as view;
+ghost use Rattle.sc_world.specs.World.{Env};
+ghost use Rattle.layout_base.specs.Seen as laid;
+ghost use Rattle.run_world.specs.Seen as seen;
+ghost use Rattle.run_room.specs.Room.{room_if};
+ghost use Rattle.run_inits.specs.Reads.{reads_at};
+ghost use Rattle.run_stmts.specs.Room.{room_of_start};
+ghost use Rattle.run_stmts.specs.Seen.{flow};
+
+use crate::conditions::event;
+use crate::flow::Flow;
+use run_exprs::Calls;
+use run_inits::{Space, declarators, evaluate};
+use run_values::{Want, has_sign};
+use run_world::{Ended, Here, Value, World};
+use sc_base::Pos;
+use sc_tree::ctype::CType;
+use sc_typed::{TExpr, TForStart};
+use sc_types::signed;
+use sum_rows::What;
+
+/// Evaluates an expression, if there is one; its value is not used.
+pub fn evaluate_if<C: Calls>(
+    here: &Here,
+    world: &mut World,
+    space: &mut Space,
+    calls: &mut C,
+    e: &Option<TExpr>,
+) -> Result<(), Ended>
+    requires reads { C.reads calls.old ≡ reads_at (seen.env here.now) }
+    requires few { length here.now.places.now.locations.items < 2 ^ 32 }
+    requires cells { length (seen.env here.now).layout.locations ≤ vec_capacity space.old.kept.cells }
+    requires events { length world.old.trace.items + room_if (view.exp_if (seen.env here.now).source.structs e.now) ≤ vec_capacity world.old.trace }
+    requires arguments { length space.old.kept.arguments.items + room_if (view.exp_if (seen.env here.now).source.structs e.now) ≤ vec_capacity space.old.kept.arguments }
+    ensures done { seen.Does (λ _. tt) (spec.evaluate_if (view.exp_if (seen.env here.now).source.structs e.now) (seen.env here.now) (seen.world world.old))
+        result (seen.world world.new) }
+    ensures events { length world.new.trace.items ≤ length world.old.trace.items + room_if (view.exp_if (seen.env here.now).source.structs e.now) }
+    ensures trace { vec_capacity world.old.trace ≤ vec_capacity world.new.trace }
+    ensures arguments { OnOk result (space.new.kept.arguments.items ≡ space.old.kept.arguments.items) }
+    ensures capacity { vec_capacity space.old.kept.arguments ≤ vec_capacity space.new.kept.arguments }
+    ensures cells { vec_capacity space.old.kept.cells ≤ vec_capacity space.new.kept.cells }
+    ensures store_room { vec_capacity space.old.stores ≤ vec_capacity space.new.stores }
+    ensures reads { C.reads calls.new ≡ C.reads calls.old }
+{
+    match e {
+        None => Ok(()),
+        Some(e) => {
+            evaluate(here, world, space, calls, e, Want::Value)?;
+            Ok(())
+        }
+    }
+}
+
+/// What stands in the first place of `for`.
+pub fn begin<C: Calls>(
+    here: &Here,
+    world: &mut World,
+    space: &mut Space,
+    calls: &mut C,
+    start: &TForStart,
+) -> Result<(), Ended>
+    requires reads { C.reads calls.old ≡ reads_at (seen.env here.now) }
+    requires few { length here.now.places.now.locations.items < 2 ^ 32 }
+    requires cells { length (seen.env here.now).layout.locations ≤ vec_capacity space.old.kept.cells }
+    requires events { length world.old.trace.items + room_of_start (seen.env here.now) (view.start_of (seen.env here.now).source.structs start.now) ≤ vec_capacity world.old.trace }
+    requires arguments { length space.old.kept.arguments.items + room_of_start (seen.env here.now) (view.start_of (seen.env here.now).source.structs start.now) ≤ vec_capacity space.old.kept.arguments }
+    requires stores { room_of_start (seen.env here.now) (view.start_of (seen.env here.now).source.structs start.now) ≤ vec_capacity space.old.stores }
+    ensures done { seen.Does (λ _. tt) (spec.begin (view.start_of (seen.env here.now).source.structs start.now) (seen.env here.now) (seen.world world.old))
+        result (seen.world world.new) }
+    ensures events { length world.new.trace.items ≤ length world.old.trace.items + room_of_start (seen.env here.now) (view.start_of (seen.env here.now).source.structs start.now) }
+    ensures trace { vec_capacity world.old.trace ≤ vec_capacity world.new.trace }
+    ensures arguments { OnOk result (space.new.kept.arguments.items ≡ space.old.kept.arguments.items) }
+    ensures capacity { vec_capacity space.old.kept.arguments ≤ vec_capacity space.new.kept.arguments }
+    ensures cells { vec_capacity space.old.kept.cells ≤ vec_capacity space.new.kept.cells }
+    ensures store_room { vec_capacity space.old.stores ≤ vec_capacity space.new.stores }
+    ensures reads { C.reads calls.new ≡ C.reads calls.old }
+{
+    match start {
+        TForStart::Nothing => Ok(()),
+        TForStart::Expr(e) => {
+            evaluate(here, world, space, calls, e, Want::Value)?;
+            Ok(())
+        }
+        TForStart::Decl(ds, _) => { declarators(here, world, space, calls, ds.as_slice()) }
+    }
+}
+
+/// The step of a `for` behind its body: where the body goes on with the loop.
+pub fn with_step<C: Calls>(
+    here: &Here,
+    world: &mut World,
+    space: &mut Space,
+    calls: &mut C,
+    e: &Option<TExpr>,
+    behind: Flow,
+) -> Result<Flow, Ended>
+    requires reads { C.reads calls.old ≡ reads_at (seen.env here.now) }
+    requires few { length here.now.places.now.locations.items < 2 ^ 32 }
+    requires cells { length (seen.env here.now).layout.locations ≤ vec_capacity space.old.kept.cells }
+    requires events { length world.old.trace.items + room_if (view.exp_if (seen.env here.now).source.structs e.now) ≤ vec_capacity world.old.trace }
+    requires arguments { length space.old.kept.arguments.items + room_if (view.exp_if (seen.env here.now).source.structs e.now) ≤ vec_capacity space.old.kept.arguments }
+    ensures done { seen.Does flow (spec.with_step (view.exp_if (seen.env here.now).source.structs e.now) (seen.env here.now) (flow behind) (seen.world world.old))
+        result (seen.world world.new) }
+    ensures events { length world.new.trace.items ≤ length world.old.trace.items + room_if (view.exp_if (seen.env here.now).source.structs e.now) }
+    ensures trace { vec_capacity world.old.trace ≤ vec_capacity world.new.trace }
+    ensures arguments { OnOk result (space.new.kept.arguments.items ≡ space.old.kept.arguments.items) }
+    ensures capacity { vec_capacity space.old.kept.arguments ≤ vec_capacity space.new.kept.arguments }
+    ensures cells { vec_capacity space.old.kept.cells ≤ vec_capacity space.new.kept.cells }
+    ensures store_room { vec_capacity space.old.stores ≤ vec_capacity space.new.stores }
+    ensures reads { C.reads calls.new ≡ C.reads calls.old }
+{
+    match behind {
+        Flow::Next | Flow::Continues => {
+            evaluate_if(here, world, space, calls, e)?;
+            Ok(Flow::Next)
+        }
+        Flow::Breaks => Ok(Flow::Breaks),
+        Flow::GoesTo(name) => Ok(Flow::GoesTo(name)),
+        Flow::Returns(value) => Ok(Flow::Returns(value)),
+    }
+}
+
+/// `return e ;` or `return ;`
+pub fn return_value<C: Calls>(
+    here: &Here,
+    world: &mut World,
+    space: &mut Space,
+    calls: &mut C,
+    pos: Pos,
+    e: &Option<TExpr>,
+) -> Result<Flow, Ended>
+    requires reads { C.reads calls.old ≡ reads_at (seen.env here.now) }
+    requires few { length here.now.places.now.locations.items < 2 ^ 32 }
+    requires cells { length (seen.env here.now).layout.locations ≤ vec_capacity space.old.kept.cells }
+    requires events { length world.old.trace.items + (room_if (view.exp_if (seen.env here.now).source.structs e.now) + 1) ≤ vec_capacity world.old.trace }
+    requires arguments { length space.old.kept.arguments.items + (room_if (view.exp_if (seen.env here.now).source.structs e.now) + 1) ≤ vec_capacity space.old.kept.arguments }
+    ensures done { seen.Does flow (spec.return_value pos (view.exp_if (seen.env here.now).source.structs e.now) (seen.env here.now) (seen.world world.old))
+        result (seen.world world.new) }
+    ensures events { length world.new.trace.items ≤ length world.old.trace.items + (room_if (view.exp_if (seen.env here.now).source.structs e.now) + 1) }
+    ensures trace { vec_capacity world.old.trace ≤ vec_capacity world.new.trace }
+    ensures arguments { OnOk result (space.new.kept.arguments.items ≡ space.old.kept.arguments.items) }
+    ensures capacity { vec_capacity space.old.kept.arguments ≤ vec_capacity space.new.kept.arguments }
+    ensures cells { vec_capacity space.old.kept.cells ≤ vec_capacity space.new.kept.cells }
+    ensures store_room { vec_capacity space.old.stores ≤ vec_capacity space.new.stores }
+    ensures reads { C.reads calls.new ≡ C.reads calls.old }
+{
+    match e {
+        None => {
+            event(world, pos, What::Return);
+            Ok(Flow::Returns(Value::Nothing))
+        }
+        Some(e) => {
+            let value = evaluate(here, world, space, calls, e, Want::Value)?;
+            event(world, pos, What::Return);
+            Ok(Flow::Returns(value))
+        }
+    }
+}
+
+/// The number of a `switch`, as its event tells it. A number has 64 bits at most.
+pub fn switch_event(t: &CType, value: Value) -> What
+    ensures { (here : Env) → result ≡ spec.switch_event here (view.type t.now) (seen.cell value) }
+{
+    match value {
+        Value::Number(bits, n) => What::Switch(if has_sign(t) {
+            signed(bits, n)
+        } else {
+            i128::from(n)
+        }),
+        Value::Pointer(_) | Value::Nothing => What::Switch(0),
+    }
+}
