@@ -4,11 +4,10 @@
 ghost use Rattle.std.specs.Prelude.{◌≡◌, ◌+◌, ◌<◌, ◌≤◌, ◌^◌, length, map, vec_capacity, OnOk};
 ghost use Rattle.sc_world.specs.Exec as spec;
 ghost use Rattle.sc_world.specs.Tree.{Braces};
-ghost use Rattle.sc_world.specs.View.{given};
-ghost use Rattle.layout_base.specs.Seen as laid;
 ghost use Rattle.run_world.specs.Seen as seen;
-ghost use Rattle.run_room.specs.Room.{given_room, givens_room};
 ghost use Rattle.run_inits.specs.Reads.{reads_at};
+ghost use Rattle.run_inits.specs.Room.{HasRoom, Uses, room_of_given, room_of_givens};
+ghost use Rattle.run_inits.specs.Seen.{given_of, givens_of};
 ghost use Rattle.run_inits.specs.Stores.{due_of, joined, given_stores, all_stores};
 
 use crate::cells::{clear_cells, load_cells};
@@ -34,24 +33,15 @@ fn gather_given<C: Calls>(
 ) -> Result<(), Ended>
     requires reads { C.reads calls.old ≡ reads_at (seen.env here.now) }
     requires few { length here.now.places.now.locations.items < 2 ^ 32 }
-    requires cells { length (seen.env here.now).layout.locations ≤ vec_capacity space.old.kept.cells }
-    requires events { length world.old.trace.items + given_room (length (seen.env here.now).layout.locations) (given (seen.env here.now).source.structs item.now)
-        ≤ vec_capacity world.old.trace }
-    requires arguments { length space.old.kept.arguments.items + given_room (length (seen.env here.now).layout.locations) (given (seen.env here.now).source.structs item.now)
-        ≤ vec_capacity space.old.kept.arguments }
-    requires stores { length space.old.stores.items + given_room (length (seen.env here.now).layout.locations) (given (seen.env here.now).source.structs item.now)
-        ≤ vec_capacity space.old.stores }
+    requires room { HasRoom here.now world.old space.old.kept (room_of_given here.now item.now) }
+    requires stores { length space.old.stores.items + room_of_given here.now item.now ≤ vec_capacity space.old.stores }
     ensures gathered { seen.Does (λ _. map due_of space.new.stores.items)
-        (joined (map due_of space.old.stores.items) (given_stores (seen.env here.now) at (given (seen.env here.now).source.structs item.now) (seen.world world.old)))
+        (joined (map due_of space.old.stores.items)
+            (given_stores (seen.env here.now) at (given_of here.now item.now) (seen.world world.old)))
         result (seen.world world.new) }
-    ensures events { length world.new.trace.items ≤ length world.old.trace.items
-        + given_room (length (seen.env here.now).layout.locations) (given (seen.env here.now).source.structs item.now) }
-    ensures trace { vec_capacity world.old.trace ≤ vec_capacity world.new.trace }
+    ensures used { Uses world.old world.new space.old.kept space.new.kept (room_of_given here.now item.now) }
     ensures arguments { OnOk result (space.new.kept.arguments.items ≡ space.old.kept.arguments.items) }
-    ensures capacity { vec_capacity space.old.kept.arguments ≤ vec_capacity space.new.kept.arguments }
-    ensures cells { vec_capacity space.old.kept.cells ≤ vec_capacity space.new.kept.cells }
-    ensures stores { length space.new.stores.items ≤ length space.old.stores.items
-        + given_room (length (seen.env here.now).layout.locations) (given (seen.env here.now).source.structs item.now) }
+    ensures stores { length space.new.stores.items ≤ length space.old.stores.items + room_of_given here.now item.now }
     ensures store_room { vec_capacity space.old.stores ≤ vec_capacity space.new.stores }
     ensures reads { C.reads calls.new ≡ C.reads calls.old }
 {
@@ -80,21 +70,13 @@ fn gather_all<C: Calls>(
 ) -> Result<(), Ended>
     requires reads { C.reads calls.old ≡ reads_at (seen.env here.now) }
     requires few { length here.now.places.now.locations.items < 2 ^ 32 }
-    requires cells { length (seen.env here.now).layout.locations ≤ vec_capacity space.old.kept.cells }
-    requires events { length world.old.trace.items + givens_room (length (seen.env here.now).layout.locations) (map (given (seen.env here.now).source.structs) items.now)
-        ≤ vec_capacity world.old.trace }
-    requires arguments { length space.old.kept.arguments.items + givens_room (length (seen.env here.now).layout.locations) (map (given (seen.env here.now).source.structs) items.now)
-        ≤ vec_capacity space.old.kept.arguments }
-    requires stores { givens_room (length (seen.env here.now).layout.locations) (map (given (seen.env here.now).source.structs) items.now) ≤ vec_capacity space.old.stores }
+    requires room { HasRoom here.now world.old space.old.kept (room_of_givens here.now items.now) }
+    requires stores { room_of_givens here.now items.now ≤ vec_capacity space.old.stores }
     ensures gathered { seen.Does (λ _. map due_of space.new.stores.items)
-        (all_stores (seen.env here.now) at (map (given (seen.env here.now).source.structs) items.now) (seen.world world.old))
+        (all_stores (seen.env here.now) at (givens_of here.now items.now) (seen.world world.old))
         result (seen.world world.new) }
-    ensures events { length world.new.trace.items ≤ length world.old.trace.items
-        + givens_room (length (seen.env here.now).layout.locations) (map (given (seen.env here.now).source.structs) items.now) }
-    ensures trace { vec_capacity world.old.trace ≤ vec_capacity world.new.trace }
+    ensures used { Uses world.old world.new space.old.kept space.new.kept (room_of_givens here.now items.now) }
     ensures arguments { OnOk result (space.new.kept.arguments.items ≡ space.old.kept.arguments.items) }
-    ensures capacity { vec_capacity space.old.kept.arguments ≤ vec_capacity space.new.kept.arguments }
-    ensures cells { vec_capacity space.old.kept.cells ≤ vec_capacity space.new.kept.cells }
     ensures store_room { vec_capacity space.old.stores ≤ vec_capacity space.new.stores }
     ensures reads { C.reads calls.new ≡ C.reads calls.old }
 {
@@ -117,21 +99,13 @@ pub fn braces<C: Calls>(
 ) -> Result<(), Ended>
     requires reads { C.reads calls.old ≡ reads_at (seen.env here.now) }
     requires few { length here.now.places.now.locations.items < 2 ^ 32 }
-    requires cells { length (seen.env here.now).layout.locations ≤ vec_capacity space.old.kept.cells }
-    requires events { length world.old.trace.items + givens_room (length (seen.env here.now).layout.locations) (map (given (seen.env here.now).source.structs) items.now)
-        ≤ vec_capacity world.old.trace }
-    requires arguments { length space.old.kept.arguments.items + givens_room (length (seen.env here.now).layout.locations) (map (given (seen.env here.now).source.structs) items.now)
-        ≤ vec_capacity space.old.kept.arguments }
-    requires stores { givens_room (length (seen.env here.now).layout.locations) (map (given (seen.env here.now).source.structs) items.now) ≤ vec_capacity space.old.stores }
+    requires room { HasRoom here.now world.old space.old.kept (room_of_givens here.now items.now) }
+    requires stores { room_of_givens here.now items.now ≤ vec_capacity space.old.stores }
     ensures initialised { seen.Does (λ _. tt)
-        (spec.initialise at (Braces (map (given (seen.env here.now).source.structs) items.now)) (seen.env here.now) (seen.world world.old))
+        (spec.initialise at (Braces (givens_of here.now items.now)) (seen.env here.now) (seen.world world.old))
         result (seen.world world.new) }
-    ensures events { length world.new.trace.items ≤ length world.old.trace.items
-        + givens_room (length (seen.env here.now).layout.locations) (map (given (seen.env here.now).source.structs) items.now) }
-    ensures trace { vec_capacity world.old.trace ≤ vec_capacity world.new.trace }
+    ensures used { Uses world.old world.new space.old.kept space.new.kept (room_of_givens here.now items.now) }
     ensures arguments { OnOk result (space.new.kept.arguments.items ≡ space.old.kept.arguments.items) }
-    ensures capacity { vec_capacity space.old.kept.arguments ≤ vec_capacity space.new.kept.arguments }
-    ensures cells { vec_capacity space.old.kept.cells ≤ vec_capacity space.new.kept.cells }
     ensures store_room { vec_capacity space.old.stores ≤ vec_capacity space.new.stores }
     ensures reads { C.reads calls.new ≡ C.reads calls.old }
 {

@@ -83,8 +83,10 @@ pub fn belongs(places: &Places, at: u32, k: usize) -> bool
 fn load_cell(here: &Here, world: &World, at: u32, k: usize, values: &mut Vec<Value>)
     requires low { k < length (seen.env here.now).layout.locations }
     requires room { length values.old.items < vec_capacity values.old }
-    ensures loaded { map seen.cell values.new.items ++ map (store.nth_cell (seen.world world.now).places) (cells_from (seen.env here.now).layout at (k + 1))
-        ≡ map seen.cell values.old.items ++ map (store.nth_cell (seen.world world.now).places) (cells_from (seen.env here.now).layout at k) }
+    ensures loaded { map seen.cell values.new.items
+            ++ map (store.nth_cell (seen.world world.now).places) (cells_from (seen.env here.now).layout at (k + 1))
+        ≡ map seen.cell values.old.items
+            ++ map (store.nth_cell (seen.world world.now).places) (cells_from (seen.env here.now).layout at k) }
     ensures few { length values.new.items ≤ length values.old.items + 1 }
     ensures room { vec_capacity values.old ≤ vec_capacity values.new }
 {
@@ -124,7 +126,8 @@ pub fn blank(here: &Here, t: &CType) -> Value
 // The same of the location with that number.
 #[tactic(auto, unfolding(run_world::specs::Seen::env, layout_base::specs::Seen::layout_of))]
 fn blank_at(here: &Here, k: usize) -> Value
-    ensures { seen.cell result ≡ store.blank (kind_of_type (seen.env here.now).source (layouts.location (seen.env here.now).layout k).type) }
+    ensures { seen.cell result
+        ≡ store.blank (kind_of_type (seen.env here.now).source (layouts.location (seen.env here.now).layout k).type) }
 {
     match here.places.locations.get(k) {
         None => Value::Nothing,
@@ -139,7 +142,8 @@ fn blank_at(here: &Here, k: usize) -> Value
 #[tactic(auto, using(crate::proofs::Cells::clear_steps), unfolding(run_world::specs::Seen::env))]
 fn clear_cell(here: &Here, world: &mut World, at: u32, k: usize)
     requires low { k < length (seen.env here.now).layout.locations }
-    ensures cleared { exec.clear (seen.env here.now) (cells_from (seen.env here.now).layout at (k + 1)) (seen.world world.new)
+    ensures cleared { exec.clear (seen.env here.now) (cells_from (seen.env here.now).layout at (k + 1))
+            (seen.world world.new)
         ≡ exec.clear (seen.env here.now) (cells_from (seen.env here.now).layout at k) (seen.world world.old) }
     ensures trace { world.new.trace ≡ world.old.trace }
 {
@@ -151,7 +155,8 @@ fn clear_cell(here: &Here, world: &mut World, at: u32, k: usize)
 /// All cells of an object are set to 0 or null.
 #[tactic(auto, using(crate::proofs::Cells::walk_steps), unfolding(run_world::specs::Seen::env))]
 pub fn clear_cells(here: &Here, world: &mut World, at: u32)
-    ensures cleared { exec.clear (seen.env here.now) (spec.cells_of (seen.env here.now).layout at) (seen.world world.old)
+    ensures cleared { exec.clear (seen.env here.now) (spec.cells_of (seen.env here.now).layout at)
+            (seen.world world.old)
         ≡ (Ok tt, seen.world world.new) }
     ensures trace { world.new.trace ≡ world.old.trace }
 {

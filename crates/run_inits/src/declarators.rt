@@ -1,13 +1,12 @@
 // Declarations in a body (C11 6.7, 6.7.9).
 
-ghost use Rattle.std.specs.Prelude.{◌≡◌, ◌+◌, ◌<◌, ◌≤◌, ◌^◌, length, map, vec_capacity, OnOk};
+ghost use Rattle.std.specs.Prelude.{◌≡◌, ◌+◌, ◌<◌, ◌≤◌, ◌^◌, length, vec_capacity, OnOk};
 ghost use Rattle.sc_world.specs.Exec as spec;
 ghost use Rattle.sc_world.specs.Tree.{One};
-ghost use Rattle.sc_world.specs.View as view;
-ghost use Rattle.layout_base.specs.Seen as laid;
 ghost use Rattle.run_world.specs.Seen as seen;
-ghost use Rattle.run_room.specs.Room as room;
 ghost use Rattle.run_inits.specs.Reads.{reads_at};
+ghost use Rattle.run_inits.specs.Room.{HasRoom, Uses, room_of_exp, room_of_init, room_of_dec, room_of_decs};
+ghost use Rattle.run_inits.specs.Seen.{exp_of, init_of, dec_of, decs_of};
 
 use crate::braces::braces;
 use crate::evaluate::evaluate;
@@ -30,17 +29,13 @@ fn one<C: Calls>(
 ) -> Result<(), Ended>
     requires reads { C.reads calls.old ≡ reads_at (seen.env here.now) }
     requires few { length here.now.places.now.locations.items < 2 ^ 32 }
-    requires cells { length (seen.env here.now).layout.locations ≤ vec_capacity space.old.kept.cells }
-    requires events { length world.old.trace.items + room.room_if (Some (view.exp (seen.env here.now).source.structs e.now)) ≤ vec_capacity world.old.trace }
-    requires arguments { length space.old.kept.arguments.items + room.room_if (Some (view.exp (seen.env here.now).source.structs e.now)) ≤ vec_capacity space.old.kept.arguments }
-    requires stores { room.room_if (Some (view.exp (seen.env here.now).source.structs e.now)) ≤ vec_capacity space.old.stores }
-    ensures initialised { seen.Does (λ _. tt) (spec.initialise at (One (view.exp (seen.env here.now).source.structs e.now)) (seen.env here.now) (seen.world world.old))
+    requires room { HasRoom here.now world.old space.old.kept (room_of_exp here.now e.now) }
+    requires stores { room_of_exp here.now e.now ≤ vec_capacity space.old.stores }
+    ensures initialised { seen.Does (λ _. tt)
+        (spec.initialise at (One (exp_of here.now e.now)) (seen.env here.now) (seen.world world.old))
         result (seen.world world.new) }
-    ensures events { length world.new.trace.items ≤ length world.old.trace.items + room.room_if (Some (view.exp (seen.env here.now).source.structs e.now)) }
-    ensures trace { vec_capacity world.old.trace ≤ vec_capacity world.new.trace }
+    ensures used { Uses world.old world.new space.old.kept space.new.kept (room_of_exp here.now e.now) }
     ensures arguments { OnOk result (space.new.kept.arguments.items ≡ space.old.kept.arguments.items) }
-    ensures capacity { vec_capacity space.old.kept.arguments ≤ vec_capacity space.new.kept.arguments }
-    ensures cells { vec_capacity space.old.kept.cells ≤ vec_capacity space.new.kept.cells }
     ensures store_room { vec_capacity space.old.stores ≤ vec_capacity space.new.stores }
     ensures reads { C.reads calls.new ≡ C.reads calls.old }
 {
@@ -65,17 +60,13 @@ fn initialise<C: Calls>(
 ) -> Result<(), Ended>
     requires reads { C.reads calls.old ≡ reads_at (seen.env here.now) }
     requires few { length here.now.places.now.locations.items < 2 ^ 32 }
-    requires cells { length (seen.env here.now).layout.locations ≤ vec_capacity space.old.kept.cells }
-    requires events { length world.old.trace.items + room.init_room (length (seen.env here.now).layout.locations) (view.init_if (seen.env here.now).source.structs init.now) ≤ vec_capacity world.old.trace }
-    requires arguments { length space.old.kept.arguments.items + room.init_room (length (seen.env here.now).layout.locations) (view.init_if (seen.env here.now).source.structs init.now) ≤ vec_capacity space.old.kept.arguments }
-    requires stores { room.init_room (length (seen.env here.now).layout.locations) (view.init_if (seen.env here.now).source.structs init.now) ≤ vec_capacity space.old.stores }
-    ensures initialised { seen.Does (λ _. tt) (spec.initialise at (view.init_if (seen.env here.now).source.structs init.now) (seen.env here.now) (seen.world world.old))
+    requires room { HasRoom here.now world.old space.old.kept (room_of_init here.now init.now) }
+    requires stores { room_of_init here.now init.now ≤ vec_capacity space.old.stores }
+    ensures initialised { seen.Does (λ _. tt)
+        (spec.initialise at (init_of here.now init.now) (seen.env here.now) (seen.world world.old))
         result (seen.world world.new) }
-    ensures events { length world.new.trace.items ≤ length world.old.trace.items + room.init_room (length (seen.env here.now).layout.locations) (view.init_if (seen.env here.now).source.structs init.now) }
-    ensures trace { vec_capacity world.old.trace ≤ vec_capacity world.new.trace }
+    ensures used { Uses world.old world.new space.old.kept space.new.kept (room_of_init here.now init.now) }
     ensures arguments { OnOk result (space.new.kept.arguments.items ≡ space.old.kept.arguments.items) }
-    ensures capacity { vec_capacity space.old.kept.arguments ≤ vec_capacity space.new.kept.arguments }
-    ensures cells { vec_capacity space.old.kept.cells ≤ vec_capacity space.new.kept.cells }
     ensures store_room { vec_capacity space.old.stores ≤ vec_capacity space.new.stores }
     ensures reads { C.reads calls.new ≡ C.reads calls.old }
 {
@@ -99,17 +90,13 @@ fn declarator<C: Calls>(
 ) -> Result<(), Ended>
     requires reads { C.reads calls.old ≡ reads_at (seen.env here.now) }
     requires few { length here.now.places.now.locations.items < 2 ^ 32 }
-    requires cells { length (seen.env here.now).layout.locations ≤ vec_capacity space.old.kept.cells }
-    requires events { length world.old.trace.items + room.init_room (length (seen.env here.now).layout.locations) (view.dec (seen.env here.now).source.structs d.now).init ≤ vec_capacity world.old.trace }
-    requires arguments { length space.old.kept.arguments.items + room.init_room (length (seen.env here.now).layout.locations) (view.dec (seen.env here.now).source.structs d.now).init ≤ vec_capacity space.old.kept.arguments }
-    requires stores { room.init_room (length (seen.env here.now).layout.locations) (view.dec (seen.env here.now).source.structs d.now).init ≤ vec_capacity space.old.stores }
-    ensures declared { seen.Does (λ _. tt) (spec.declarator (view.dec (seen.env here.now).source.structs d.now) (seen.env here.now) (seen.world world.old))
+    requires room { HasRoom here.now world.old space.old.kept (room_of_dec here.now d.now) }
+    requires stores { room_of_dec here.now d.now ≤ vec_capacity space.old.stores }
+    ensures declared { seen.Does (λ _. tt)
+        (spec.declarator (dec_of here.now d.now) (seen.env here.now) (seen.world world.old))
         result (seen.world world.new) }
-    ensures events { length world.new.trace.items ≤ length world.old.trace.items + room.init_room (length (seen.env here.now).layout.locations) (view.dec (seen.env here.now).source.structs d.now).init }
-    ensures trace { vec_capacity world.old.trace ≤ vec_capacity world.new.trace }
+    ensures used { Uses world.old world.new space.old.kept space.new.kept (room_of_dec here.now d.now) }
     ensures arguments { OnOk result (space.new.kept.arguments.items ≡ space.old.kept.arguments.items) }
-    ensures capacity { vec_capacity space.old.kept.arguments ≤ vec_capacity space.new.kept.arguments }
-    ensures cells { vec_capacity space.old.kept.cells ≤ vec_capacity space.new.kept.cells }
     ensures store_room { vec_capacity space.old.stores ≤ vec_capacity space.new.stores }
     ensures reads { C.reads calls.new ≡ C.reads calls.old }
 {
@@ -132,17 +119,13 @@ pub fn declarators<C: Calls>(
 ) -> Result<(), Ended>
     requires reads { C.reads calls.old ≡ reads_at (seen.env here.now) }
     requires few { length here.now.places.now.locations.items < 2 ^ 32 }
-    requires cells { length (seen.env here.now).layout.locations ≤ vec_capacity space.old.kept.cells }
-    requires events { length world.old.trace.items + room.decs_room (length (seen.env here.now).layout.locations) (map (view.dec (seen.env here.now).source.structs) declarators.now) ≤ vec_capacity world.old.trace }
-    requires arguments { length space.old.kept.arguments.items + room.decs_room (length (seen.env here.now).layout.locations) (map (view.dec (seen.env here.now).source.structs) declarators.now) ≤ vec_capacity space.old.kept.arguments }
-    requires stores { room.decs_room (length (seen.env here.now).layout.locations) (map (view.dec (seen.env here.now).source.structs) declarators.now) ≤ vec_capacity space.old.stores }
-    ensures declared { seen.Does (λ _. tt) (spec.declarators (map (view.dec (seen.env here.now).source.structs) declarators.now) (seen.env here.now) (seen.world world.old))
+    requires room { HasRoom here.now world.old space.old.kept (room_of_decs here.now declarators.now) }
+    requires stores { room_of_decs here.now declarators.now ≤ vec_capacity space.old.stores }
+    ensures declared { seen.Does (λ _. tt)
+        (spec.declarators (decs_of here.now declarators.now) (seen.env here.now) (seen.world world.old))
         result (seen.world world.new) }
-    ensures events { length world.new.trace.items ≤ length world.old.trace.items + room.decs_room (length (seen.env here.now).layout.locations) (map (view.dec (seen.env here.now).source.structs) declarators.now) }
-    ensures trace { vec_capacity world.old.trace ≤ vec_capacity world.new.trace }
+    ensures used { Uses world.old world.new space.old.kept space.new.kept (room_of_decs here.now declarators.now) }
     ensures arguments { OnOk result (space.new.kept.arguments.items ≡ space.old.kept.arguments.items) }
-    ensures capacity { vec_capacity space.old.kept.arguments ≤ vec_capacity space.new.kept.arguments }
-    ensures cells { vec_capacity space.old.kept.cells ≤ vec_capacity space.new.kept.cells }
     ensures store_room { vec_capacity space.old.stores ≤ vec_capacity space.new.stores }
     ensures reads { C.reads calls.new ≡ C.reads calls.old }
 {

@@ -1,8 +1,8 @@
 //! Declarations of a run (C11 6.7, 6.7.9): what initialisers do, and expressions as statements use them.
 //!
 //! `space` has the room beside the world, `evaluate` an expression in a statement, `parts` the part that a value in
-//! braces sets, `lookup` parts of locations, `cells` the cells of an object, `stores` the stores of braces, `braces` their values, and `declarators`
-//! declarations. Nothing here takes memory but the reserving of room.
+//! braces sets, `lookup` parts of locations, `cells` the cells of an object, `stores` the stores of braces, `braces` their
+//! values, and `declarators` declarations. Nothing here takes memory but the reserving of room.
 #![tactic(auto)]
 
 mod braces;

@@ -1,3 +1,4 @@
 pub mod Room
 pub mod Seen
+pub mod Trees
 pub mod Turns

@@ -1,17 +1,46 @@
 -- The room of statements in the words of what a run reads, and the turns of the loops in them.
-use Rattle.std.specs.Prelude.{ℕ, ◌+◌, ◌*◌, ◌<◌, List, length}
-use Rattle.sc_world.specs.Tree.{Dec, Start, Stm, Stms}
+use Rattle.std.specs.Prelude.{ℕ, ◌+◌, ◌*◌, ◌<◌, Option, List, length}
+use Rattle.sc_typed.specs.declared.expr.TExpr.{TExpr}
+use Rattle.sc_typed.specs.declared.stmt.TStmt.{TStmt}
+use Rattle.sc_typed.specs.declared.stmt.TForStart.{TForStart}
+use Rattle.sc_world.specs.Tree.{Stm}
 use Rattle.sc_world.specs.World.{Env}
-use Rattle.run_room.specs.Room.{stm_room, stms_room, decs_room, start_room}
+use Rattle.run_world.specs.declared.pointers.Here.{Here}
+use Rattle.run_world.specs.Seen.{env}
+use Rattle.run_room.specs.Room.{room_if, stm_room, stms_room, start_room, loop_room}
+use Rattle.run_inits.specs.Room.{room_of_exp}
+use Rattle.run_inits.specs.Seen.{most}
+use Rattle.run_stmts.specs.Trees.{exp_if_of, start_of, stm_of, stms_of}
 
-abbrev pub room_of : Env → Stm → ℕ
-room_of env s = stm_room env.source.depth (length env.layout.locations) s
+-- the room of a statement in what a run reads
+abbrev pub room_in : Env → Stm → ℕ
+room_in env s = stm_room env.source.depth (length env.layout.locations) s
 
-abbrev pub rooms_of : Env → Stms → ℕ
-rooms_of env ss = stms_room env.source.depth (length env.layout.locations) ss
+abbrev pub room_of_if : Here → Option TExpr → ℕ
+room_of_if h e = room_if (exp_if_of h e)
 
-abbrev pub room_of_start : Env → Start → ℕ
-room_of_start env s = start_room (length env.layout.locations) s
+abbrev pub room_of_start : Here → TForStart → ℕ
+room_of_start h s = start_room (most h) (start_of h s)
+
+abbrev pub room_of : Here → TStmt → ℕ
+room_of h s = room_in (env h) (stm_of h s)
+
+abbrev pub room_of_items : Here → List TStmt → ℕ
+room_of_items h xs = stms_room (env h).source.depth (most h) (stms_of h xs)
+
+-- one turn of a loop, and all of them
+abbrev pub room_of_turn : Here → TExpr → TStmt → ℕ
+room_of_turn h e body = (room_of_exp h e + 1) + room_of h body
+
+abbrev pub room_of_turns : Here → TExpr → TStmt → ℕ
+room_of_turns h e body = loop_room (env h).source.depth (room_of_exp h e + 1) (room_of h body)
+
+abbrev pub room_of_for_turn : Here → (test step : Option TExpr) → TStmt → ℕ
+room_of_for_turn h e step body = (room_of_if h e + 1) + (room_of h body + room_of_if h step)
+
+abbrev pub room_of_for_turns : Here → (test step : Option TExpr) → TStmt → ℕ
+room_of_for_turns h e step body =
+    loop_room (env h).source.depth (room_of_if h e + 1) (room_of h body + room_of_if h step)
 
 -- In the turn at hand the turns of the loops in a statement of that room are numbers of 32 bits.
 unfoldable pub Fits : (turn room : ℕ) → Type 0

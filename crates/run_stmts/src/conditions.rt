@@ -2,13 +2,14 @@
 
 ghost use Rattle.std.specs.Prelude.{◌≡◌, ◌+◌, ◌<◌, ◌≤◌, ◌^◌, length, vec_capacity, OnOk, Ok};
 ghost use Rattle.sc_world.specs.Exec as spec;
-ghost use Rattle.sc_world.specs.View as view;
 ghost use Rattle.sc_world.specs.World as worlds;
 ghost use Rattle.run_world.specs.Seen as seen;
-ghost use Rattle.run_exprs.specs.Room.{room};
-ghost use Rattle.run_room.specs.Room.{room_if};
 ghost use Rattle.run_inits.specs.Reads.{reads_at};
+ghost use Rattle.run_inits.specs.Room.{HasRoom, Uses, room_of_exp};
+ghost use Rattle.run_inits.specs.Seen.{exp_of};
+ghost use Rattle.run_stmts.specs.Room.{room_of_if};
 ghost use Rattle.run_stmts.specs.Seen.{asked};
+ghost use Rattle.run_stmts.specs.Trees.{exp_if_of};
 
 use run_exprs::Calls;
 use run_inits::{Space, evaluate};
@@ -58,16 +59,12 @@ pub fn condition<C: Calls>(
 ) -> Result<bool, Ended>
     requires reads { C.reads calls.old ≡ reads_at (seen.env here.now) }
     requires few { length here.now.places.now.locations.items < 2 ^ 32 }
-    requires cells { length (seen.env here.now).layout.locations ≤ vec_capacity space.old.kept.cells }
-    requires events { length world.old.trace.items + (room (view.exp (seen.env here.now).source.structs e.now) + 1) ≤ vec_capacity world.old.trace }
-    requires arguments { length space.old.kept.arguments.items + (room (view.exp (seen.env here.now).source.structs e.now) + 1) ≤ vec_capacity space.old.kept.arguments }
-    ensures done { seen.Does (λ x. x) (spec.condition pos (asked test) (view.exp (seen.env here.now).source.structs e.now) (seen.env here.now) (seen.world world.old))
+    requires room { HasRoom here.now world.old space.old.kept (room_of_exp here.now e.now + 1) }
+    ensures done { seen.Does (λ x. x)
+        (spec.condition pos (asked test) (exp_of here.now e.now) (seen.env here.now) (seen.world world.old))
         result (seen.world world.new) }
-    ensures events { length world.new.trace.items ≤ length world.old.trace.items + (room (view.exp (seen.env here.now).source.structs e.now) + 1) }
-    ensures trace { vec_capacity world.old.trace ≤ vec_capacity world.new.trace }
+    ensures used { Uses world.old world.new space.old.kept space.new.kept (room_of_exp here.now e.now + 1) }
     ensures arguments { OnOk result (space.new.kept.arguments.items ≡ space.old.kept.arguments.items) }
-    ensures capacity { vec_capacity space.old.kept.arguments ≤ vec_capacity space.new.kept.arguments }
-    ensures cells { vec_capacity space.old.kept.cells ≤ vec_capacity space.new.kept.cells }
     ensures store_room { vec_capacity space.old.stores ≤ vec_capacity space.new.stores }
     ensures reads { C.reads calls.new ≡ C.reads calls.old }
 {
@@ -88,16 +85,12 @@ pub fn condition_if<C: Calls>(
 ) -> Result<bool, Ended>
     requires reads { C.reads calls.old ≡ reads_at (seen.env here.now) }
     requires few { length here.now.places.now.locations.items < 2 ^ 32 }
-    requires cells { length (seen.env here.now).layout.locations ≤ vec_capacity space.old.kept.cells }
-    requires events { length world.old.trace.items + (room_if (view.exp_if (seen.env here.now).source.structs e.now) + 1) ≤ vec_capacity world.old.trace }
-    requires arguments { length space.old.kept.arguments.items + (room_if (view.exp_if (seen.env here.now).source.structs e.now) + 1) ≤ vec_capacity space.old.kept.arguments }
-    ensures done { seen.Does (λ x. x) (spec.condition_if pos (view.exp_if (seen.env here.now).source.structs e.now) (seen.env here.now) (seen.world world.old))
+    requires room { HasRoom here.now world.old space.old.kept (room_of_if here.now e.now + 1) }
+    ensures done { seen.Does (λ x. x)
+        (spec.condition_if pos (exp_if_of here.now e.now) (seen.env here.now) (seen.world world.old))
         result (seen.world world.new) }
-    ensures events { length world.new.trace.items ≤ length world.old.trace.items + (room_if (view.exp_if (seen.env here.now).source.structs e.now) + 1) }
-    ensures trace { vec_capacity world.old.trace ≤ vec_capacity world.new.trace }
+    ensures used { Uses world.old world.new space.old.kept space.new.kept (room_of_if here.now e.now + 1) }
     ensures arguments { OnOk result (space.new.kept.arguments.items ≡ space.old.kept.arguments.items) }
-    ensures capacity { vec_capacity space.old.kept.arguments ≤ vec_capacity space.new.kept.arguments }
-    ensures cells { vec_capacity space.old.kept.cells ≤ vec_capacity space.new.kept.cells }
     ensures store_room { vec_capacity space.old.stores ≤ vec_capacity space.new.stores }
     ensures reads { C.reads calls.new ≡ C.reads calls.old }
 {

@@ -2,18 +2,14 @@
 
 ghost use Rattle.std.specs.Prelude.{◌≡◌, ◌+◌, ◌*◌, ◌<◌, ◌≤◌, ◌^◌, length, vec_capacity, OnOk};
 ghost use Rattle.sc_world.specs.Exec as spec;
-ghost use Rattle.sc_world.specs.View as view;
-ghost use Rattle.sc_world.specs.World.{◌>>=◌};
-ghost use Rattle.sc_gather.specs.Seen.{statements_of};
-ghost use Rattle.layout_base.specs.Seen as laid;
 ghost use Rattle.run_world.specs.Seen as seen;
-ghost use Rattle.run_exprs.specs.Room.{room};
-ghost use Rattle.run_room.specs.Room.{room_if, loop_room, decs_room};
 ghost use Rattle.run_inits.specs.Reads.{reads_at};
-ghost use Rattle.run_stmts.specs.Room.{Fits, room_of, rooms_of};
+ghost use Rattle.run_inits.specs.Room.{HasRoom, Uses};
+ghost use Rattle.run_inits.specs.Seen.{exp_of};
+ghost use Rattle.run_stmts.specs.Room.{Fits, room_of, room_of_items, room_of_turn, room_of_turns, room_of_for_turn, room_of_for_turns};
 ghost use Rattle.run_stmts.specs.Seen as shown;
+ghost use Rattle.run_stmts.specs.Trees.{exp_if_of, stm_of, stms_of};
 ghost use Rattle.run_stmts.specs.Turns as turns;
-ghost use Rattle.sum_rows.specs.declared.report.What.TheVariants as what;
 
 use crate::conditions::{Test, condition, condition_if, event};
 use crate::flow::{After, Flow, Seek, after, ended, left, out_of_switch};
@@ -64,18 +60,14 @@ pub fn exec<C: Calls>(
 ) -> Result<Flow, Ended>
     requires reads { C.reads calls.old ≡ reads_at (seen.env here.now) }
     requires few { length here.now.places.now.locations.items < 2 ^ 32 }
-    requires cells { length (seen.env here.now).layout.locations ≤ vec_capacity space.old.kept.cells }
-    requires events { length world.old.trace.items + room_of (seen.env here.now) (view.stm (seen.env here.now).source.structs s.now) ≤ vec_capacity world.old.trace }
-    requires arguments { length space.old.kept.arguments.items + room_of (seen.env here.now) (view.stm (seen.env here.now).source.structs s.now) ≤ vec_capacity space.old.kept.arguments }
-    requires stores { room_of (seen.env here.now) (view.stm (seen.env here.now).source.structs s.now) ≤ vec_capacity space.old.stores }
-    requires fits { Fits here.now.turn (room_of (seen.env here.now) (view.stm (seen.env here.now).source.structs s.now)) }
-    ensures done { seen.Does shown.flow (spec.exec (view.stm (seen.env here.now).source.structs s.now) (seen.env here.now) (seen.world world.old))
+    requires room { HasRoom here.now world.old space.old.kept (room_of here.now s.now) }
+    requires stores { room_of here.now s.now ≤ vec_capacity space.old.stores }
+    requires fits { Fits here.now.turn (room_of here.now s.now) }
+    ensures done { seen.Does shown.flow
+        (spec.exec (stm_of here.now s.now) (seen.env here.now) (seen.world world.old))
         result (seen.world world.new) }
-    ensures events { length world.new.trace.items ≤ length world.old.trace.items + room_of (seen.env here.now) (view.stm (seen.env here.now).source.structs s.now) }
-    ensures trace { vec_capacity world.old.trace ≤ vec_capacity world.new.trace }
+    ensures used { Uses world.old world.new space.old.kept space.new.kept (room_of here.now s.now) }
     ensures arguments { OnOk result (space.new.kept.arguments.items ≡ space.old.kept.arguments.items) }
-    ensures capacity { vec_capacity space.old.kept.arguments ≤ vec_capacity space.new.kept.arguments }
-    ensures cells { vec_capacity space.old.kept.cells ≤ vec_capacity space.new.kept.cells }
     ensures store_room { vec_capacity space.old.stores ≤ vec_capacity space.new.stores }
     ensures reads { C.reads calls.new ≡ C.reads calls.old }
 {
@@ -137,8 +129,8 @@ pub fn exec<C: Calls>(
     }
 }
 
-// Passes an item, or executes it where it is what is sought: what is sought behind it, or where the run goes on behind the
-// items.
+// Passes an item, or executes it where it is what is sought: what is sought behind it, or where the run goes on behind
+// the items.
 #[cycle(execute)]
 fn exec_item<C: Calls>(
     here: &Here,
@@ -150,18 +142,14 @@ fn exec_item<C: Calls>(
 ) -> Result<After, Ended>
     requires reads { C.reads calls.old ≡ reads_at (seen.env here.now) }
     requires few { length here.now.places.now.locations.items < 2 ^ 32 }
-    requires cells { length (seen.env here.now).layout.locations ≤ vec_capacity space.old.kept.cells }
-    requires events { length world.old.trace.items + room_of (seen.env here.now) (view.stm (seen.env here.now).source.structs s.now) ≤ vec_capacity world.old.trace }
-    requires arguments { length space.old.kept.arguments.items + room_of (seen.env here.now) (view.stm (seen.env here.now).source.structs s.now) ≤ vec_capacity space.old.kept.arguments }
-    requires stores { room_of (seen.env here.now) (view.stm (seen.env here.now).source.structs s.now) ≤ vec_capacity space.old.stores }
-    requires fits { Fits here.now.turn (room_of (seen.env here.now) (view.stm (seen.env here.now).source.structs s.now)) }
-    ensures done { seen.Does shown.after (turns.one_item (view.stm (seen.env here.now).source.structs s.now) (shown.seek seek) (seen.env here.now) (seen.world world.old))
+    requires room { HasRoom here.now world.old space.old.kept (room_of here.now s.now) }
+    requires stores { room_of here.now s.now ≤ vec_capacity space.old.stores }
+    requires fits { Fits here.now.turn (room_of here.now s.now) }
+    ensures done { seen.Does shown.after
+        (turns.one_item (stm_of here.now s.now) (shown.seek seek) (seen.env here.now) (seen.world world.old))
         result (seen.world world.new) }
-    ensures events { length world.new.trace.items ≤ length world.old.trace.items + room_of (seen.env here.now) (view.stm (seen.env here.now).source.structs s.now) }
-    ensures trace { vec_capacity world.old.trace ≤ vec_capacity world.new.trace }
+    ensures used { Uses world.old world.new space.old.kept space.new.kept (room_of here.now s.now) }
     ensures arguments { OnOk result (space.new.kept.arguments.items ≡ space.old.kept.arguments.items) }
-    ensures capacity { vec_capacity space.old.kept.arguments ≤ vec_capacity space.new.kept.arguments }
-    ensures cells { vec_capacity space.old.kept.cells ≤ vec_capacity space.new.kept.cells }
     ensures store_room { vec_capacity space.old.stores ≤ vec_capacity space.new.stores }
     ensures reads { C.reads calls.new ≡ C.reads calls.old }
 {
@@ -185,18 +173,14 @@ fn exec_items<C: Calls>(
 ) -> Result<Flow, Ended>
     requires reads { C.reads calls.old ≡ reads_at (seen.env here.now) }
     requires few { length here.now.places.now.locations.items < 2 ^ 32 }
-    requires cells { length (seen.env here.now).layout.locations ≤ vec_capacity space.old.kept.cells }
-    requires events { length world.old.trace.items + rooms_of (seen.env here.now) (statements_of (seen.env here.now).source.structs xs.now) ≤ vec_capacity world.old.trace }
-    requires arguments { length space.old.kept.arguments.items + rooms_of (seen.env here.now) (statements_of (seen.env here.now).source.structs xs.now) ≤ vec_capacity space.old.kept.arguments }
-    requires stores { rooms_of (seen.env here.now) (statements_of (seen.env here.now).source.structs xs.now) ≤ vec_capacity space.old.stores }
-    requires fits { Fits here.now.turn (rooms_of (seen.env here.now) (statements_of (seen.env here.now).source.structs xs.now)) }
-    ensures done { seen.Does shown.flow (spec.exec_all (statements_of (seen.env here.now).source.structs xs.now) (shown.seek seek) (seen.env here.now) (seen.world world.old))
+    requires room { HasRoom here.now world.old space.old.kept (room_of_items here.now xs.now) }
+    requires stores { room_of_items here.now xs.now ≤ vec_capacity space.old.stores }
+    requires fits { Fits here.now.turn (room_of_items here.now xs.now) }
+    ensures done { seen.Does shown.flow
+        (spec.exec_all (stms_of here.now xs.now) (shown.seek seek) (seen.env here.now) (seen.world world.old))
         result (seen.world world.new) }
-    ensures events { length world.new.trace.items ≤ length world.old.trace.items + rooms_of (seen.env here.now) (statements_of (seen.env here.now).source.structs xs.now) }
-    ensures trace { vec_capacity world.old.trace ≤ vec_capacity world.new.trace }
+    ensures used { Uses world.old world.new space.old.kept space.new.kept (room_of_items here.now xs.now) }
     ensures arguments { OnOk result (space.new.kept.arguments.items ≡ space.old.kept.arguments.items) }
-    ensures capacity { vec_capacity space.old.kept.arguments ≤ vec_capacity space.new.kept.arguments }
-    ensures cells { vec_capacity space.old.kept.cells ≤ vec_capacity space.new.kept.cells }
     ensures store_room { vec_capacity space.old.stores ≤ vec_capacity space.new.stores }
     ensures reads { C.reads calls.new ≡ C.reads calls.old }
 {
@@ -225,19 +209,16 @@ fn while_turn<C: Calls>(
 ) -> Result<Option<Flow>, Ended>
     requires reads { C.reads calls.old ≡ reads_at (seen.env here.now) }
     requires few { length here.now.places.now.locations.items < 2 ^ 32 }
-    requires cells { length (seen.env here.now).layout.locations ≤ vec_capacity space.old.kept.cells }
-    requires events { length world.old.trace.items + ((room (view.exp (seen.env here.now).source.structs e.now) + 1) + (room_of (seen.env here.now) (view.stm (seen.env here.now).source.structs body.now))) ≤ vec_capacity world.old.trace }
-    requires arguments { length space.old.kept.arguments.items + ((room (view.exp (seen.env here.now).source.structs e.now) + 1) + (room_of (seen.env here.now) (view.stm (seen.env here.now).source.structs body.now))) ≤ vec_capacity space.old.kept.arguments }
-    requires stores { ((room (view.exp (seen.env here.now).source.structs e.now) + 1) + (room_of (seen.env here.now) (view.stm (seen.env here.now).source.structs body.now))) ≤ vec_capacity space.old.stores }
-    requires fits { Fits here.now.turn (loop_room (seen.env here.now).source.depth (room (view.exp (seen.env here.now).source.structs e.now) + 1) (room_of (seen.env here.now) (view.stm (seen.env here.now).source.structs body.now))) }
+    requires room { HasRoom here.now world.old space.old.kept (room_of_turn here.now e.now body.now) }
+    requires stores { room_of_turn here.now e.now body.now ≤ vec_capacity space.old.stores }
+    requires fits { Fits here.now.turn (room_of_turns here.now e.now body.now) }
     requires low { turn < (seen.env here.now).source.depth }
-    ensures done { seen.Does shown.flow_if (turns.one_turn (spec.condition pos what.Loop (view.exp (seen.env here.now).source.structs e.now) (spec.in_turn (seen.env here.now) ((seen.env here.now).source.depth + 1) turn)) (spec.exec (view.stm (seen.env here.now).source.structs body.now) (spec.in_turn (seen.env here.now) (seen.env here.now).source.depth turn)) (seen.world world.old))
+    ensures done { seen.Does shown.flow_if
+        (turns.one_turn (turns.while_test pos (exp_of here.now e.now) (seen.env here.now) turn)
+            (turns.body_in (stm_of here.now body.now) (seen.env here.now) turn) (seen.world world.old))
         result (seen.world world.new) }
-    ensures events { length world.new.trace.items ≤ length world.old.trace.items + ((room (view.exp (seen.env here.now).source.structs e.now) + 1) + (room_of (seen.env here.now) (view.stm (seen.env here.now).source.structs body.now))) }
-    ensures trace { vec_capacity world.old.trace ≤ vec_capacity world.new.trace }
+    ensures used { Uses world.old world.new space.old.kept space.new.kept (room_of_turn here.now e.now body.now) }
     ensures arguments { OnOk result (space.new.kept.arguments.items ≡ space.old.kept.arguments.items) }
-    ensures capacity { vec_capacity space.old.kept.arguments ≤ vec_capacity space.new.kept.arguments }
-    ensures cells { vec_capacity space.old.kept.cells ≤ vec_capacity space.new.kept.cells }
     ensures store_room { vec_capacity space.old.stores ≤ vec_capacity space.new.stores }
     ensures reads { C.reads calls.new ≡ C.reads calls.old }
 {
@@ -264,18 +245,15 @@ fn exec_while<C: Calls>(
 ) -> Result<Flow, Ended>
     requires reads { C.reads calls.old ≡ reads_at (seen.env here.now) }
     requires few { length here.now.places.now.locations.items < 2 ^ 32 }
-    requires cells { length (seen.env here.now).layout.locations ≤ vec_capacity space.old.kept.cells }
-    requires events { length world.old.trace.items + loop_room (seen.env here.now).source.depth (room (view.exp (seen.env here.now).source.structs e.now) + 1) (room_of (seen.env here.now) (view.stm (seen.env here.now).source.structs body.now)) ≤ vec_capacity world.old.trace }
-    requires arguments { length space.old.kept.arguments.items + loop_room (seen.env here.now).source.depth (room (view.exp (seen.env here.now).source.structs e.now) + 1) (room_of (seen.env here.now) (view.stm (seen.env here.now).source.structs body.now)) ≤ vec_capacity space.old.kept.arguments }
-    requires stores { loop_room (seen.env here.now).source.depth (room (view.exp (seen.env here.now).source.structs e.now) + 1) (room_of (seen.env here.now) (view.stm (seen.env here.now).source.structs body.now)) ≤ vec_capacity space.old.stores }
-    requires fits { Fits here.now.turn (loop_room (seen.env here.now).source.depth (room (view.exp (seen.env here.now).source.structs e.now) + 1) (room_of (seen.env here.now) (view.stm (seen.env here.now).source.structs body.now))) }
-    ensures done { seen.Does shown.flow (spec.while_by pos (view.exp (seen.env here.now).source.structs e.now) (seen.env here.now) (spec.exec (view.stm (seen.env here.now).source.structs body.now)) (seen.world world.old))
+    requires room { HasRoom here.now world.old space.old.kept (room_of_turns here.now e.now body.now) }
+    requires stores { room_of_turns here.now e.now body.now ≤ vec_capacity space.old.stores }
+    requires fits { Fits here.now.turn (room_of_turns here.now e.now body.now) }
+    ensures done { seen.Does shown.flow
+        (spec.while_by pos (exp_of here.now e.now) (seen.env here.now) (spec.exec (stm_of here.now body.now))
+            (seen.world world.old))
         result (seen.world world.new) }
-    ensures events { length world.new.trace.items ≤ length world.old.trace.items + loop_room (seen.env here.now).source.depth (room (view.exp (seen.env here.now).source.structs e.now) + 1) (room_of (seen.env here.now) (view.stm (seen.env here.now).source.structs body.now)) }
-    ensures trace { vec_capacity world.old.trace ≤ vec_capacity world.new.trace }
+    ensures used { Uses world.old world.new space.old.kept space.new.kept (room_of_turns here.now e.now body.now) }
     ensures arguments { OnOk result (space.new.kept.arguments.items ≡ space.old.kept.arguments.items) }
-    ensures capacity { vec_capacity space.old.kept.arguments ≤ vec_capacity space.new.kept.arguments }
-    ensures cells { vec_capacity space.old.kept.cells ≤ vec_capacity space.new.kept.cells }
     ensures store_room { vec_capacity space.old.stores ≤ vec_capacity space.new.stores }
     ensures reads { C.reads calls.new ≡ C.reads calls.old }
 {
@@ -308,19 +286,16 @@ fn do_turn<C: Calls>(
 ) -> Result<Option<Flow>, Ended>
     requires reads { C.reads calls.old ≡ reads_at (seen.env here.now) }
     requires few { length here.now.places.now.locations.items < 2 ^ 32 }
-    requires cells { length (seen.env here.now).layout.locations ≤ vec_capacity space.old.kept.cells }
-    requires events { length world.old.trace.items + ((room (view.exp (seen.env here.now).source.structs e.now) + 1) + (room_of (seen.env here.now) (view.stm (seen.env here.now).source.structs body.now))) ≤ vec_capacity world.old.trace }
-    requires arguments { length space.old.kept.arguments.items + ((room (view.exp (seen.env here.now).source.structs e.now) + 1) + (room_of (seen.env here.now) (view.stm (seen.env here.now).source.structs body.now))) ≤ vec_capacity space.old.kept.arguments }
-    requires stores { ((room (view.exp (seen.env here.now).source.structs e.now) + 1) + (room_of (seen.env here.now) (view.stm (seen.env here.now).source.structs body.now))) ≤ vec_capacity space.old.stores }
-    requires fits { Fits here.now.turn (loop_room (seen.env here.now).source.depth (room (view.exp (seen.env here.now).source.structs e.now) + 1) (room_of (seen.env here.now) (view.stm (seen.env here.now).source.structs body.now))) }
+    requires room { HasRoom here.now world.old space.old.kept (room_of_turn here.now e.now body.now) }
+    requires stores { room_of_turn here.now e.now body.now ≤ vec_capacity space.old.stores }
+    requires fits { Fits here.now.turn (room_of_turns here.now e.now body.now) }
     requires low { turn < (seen.env here.now).source.depth }
-    ensures done { seen.Does shown.flow_if (turns.one_do_turn (spec.condition pos what.Loop (view.exp (seen.env here.now).source.structs e.now) (spec.in_turn (seen.env here.now) (seen.env here.now).source.depth turn)) (spec.exec (view.stm (seen.env here.now).source.structs body.now) (spec.in_turn (seen.env here.now) (seen.env here.now).source.depth turn)) (seen.world world.old))
+    ensures done { seen.Does shown.flow_if
+        (turns.one_do_turn (turns.do_test pos (exp_of here.now e.now) (seen.env here.now) turn)
+            (turns.body_in (stm_of here.now body.now) (seen.env here.now) turn) (seen.world world.old))
         result (seen.world world.new) }
-    ensures events { length world.new.trace.items ≤ length world.old.trace.items + ((room (view.exp (seen.env here.now).source.structs e.now) + 1) + (room_of (seen.env here.now) (view.stm (seen.env here.now).source.structs body.now))) }
-    ensures trace { vec_capacity world.old.trace ≤ vec_capacity world.new.trace }
+    ensures used { Uses world.old world.new space.old.kept space.new.kept (room_of_turn here.now e.now body.now) }
     ensures arguments { OnOk result (space.new.kept.arguments.items ≡ space.old.kept.arguments.items) }
-    ensures capacity { vec_capacity space.old.kept.arguments ≤ vec_capacity space.new.kept.arguments }
-    ensures cells { vec_capacity space.old.kept.cells ≤ vec_capacity space.new.kept.cells }
     ensures store_room { vec_capacity space.old.stores ≤ vec_capacity space.new.stores }
     ensures reads { C.reads calls.new ≡ C.reads calls.old }
 {
@@ -352,18 +327,15 @@ fn exec_do<C: Calls>(
 ) -> Result<Flow, Ended>
     requires reads { C.reads calls.old ≡ reads_at (seen.env here.now) }
     requires few { length here.now.places.now.locations.items < 2 ^ 32 }
-    requires cells { length (seen.env here.now).layout.locations ≤ vec_capacity space.old.kept.cells }
-    requires events { length world.old.trace.items + loop_room (seen.env here.now).source.depth (room (view.exp (seen.env here.now).source.structs e.now) + 1) (room_of (seen.env here.now) (view.stm (seen.env here.now).source.structs body.now)) ≤ vec_capacity world.old.trace }
-    requires arguments { length space.old.kept.arguments.items + loop_room (seen.env here.now).source.depth (room (view.exp (seen.env here.now).source.structs e.now) + 1) (room_of (seen.env here.now) (view.stm (seen.env here.now).source.structs body.now)) ≤ vec_capacity space.old.kept.arguments }
-    requires stores { loop_room (seen.env here.now).source.depth (room (view.exp (seen.env here.now).source.structs e.now) + 1) (room_of (seen.env here.now) (view.stm (seen.env here.now).source.structs body.now)) ≤ vec_capacity space.old.stores }
-    requires fits { Fits here.now.turn (loop_room (seen.env here.now).source.depth (room (view.exp (seen.env here.now).source.structs e.now) + 1) (room_of (seen.env here.now) (view.stm (seen.env here.now).source.structs body.now))) }
-    ensures done { seen.Does shown.flow (spec.do_by pos (view.exp (seen.env here.now).source.structs e.now) (seen.env here.now) (spec.exec (view.stm (seen.env here.now).source.structs body.now)) (seen.world world.old))
+    requires room { HasRoom here.now world.old space.old.kept (room_of_turns here.now e.now body.now) }
+    requires stores { room_of_turns here.now e.now body.now ≤ vec_capacity space.old.stores }
+    requires fits { Fits here.now.turn (room_of_turns here.now e.now body.now) }
+    ensures done { seen.Does shown.flow
+        (spec.do_by pos (exp_of here.now e.now) (seen.env here.now) (spec.exec (stm_of here.now body.now))
+            (seen.world world.old))
         result (seen.world world.new) }
-    ensures events { length world.new.trace.items ≤ length world.old.trace.items + loop_room (seen.env here.now).source.depth (room (view.exp (seen.env here.now).source.structs e.now) + 1) (room_of (seen.env here.now) (view.stm (seen.env here.now).source.structs body.now)) }
-    ensures trace { vec_capacity world.old.trace ≤ vec_capacity world.new.trace }
+    ensures used { Uses world.old world.new space.old.kept space.new.kept (room_of_turns here.now e.now body.now) }
     ensures arguments { OnOk result (space.new.kept.arguments.items ≡ space.old.kept.arguments.items) }
-    ensures capacity { vec_capacity space.old.kept.arguments ≤ vec_capacity space.new.kept.arguments }
-    ensures cells { vec_capacity space.old.kept.cells ≤ vec_capacity space.new.kept.cells }
     ensures store_room { vec_capacity space.old.stores ≤ vec_capacity space.new.stores }
     ensures reads { C.reads calls.new ≡ C.reads calls.old }
 {
@@ -392,19 +364,18 @@ fn for_turn<C: Calls>(
 ) -> Result<Option<Flow>, Ended>
     requires reads { C.reads calls.old ≡ reads_at (seen.env here.now) }
     requires few { length here.now.places.now.locations.items < 2 ^ 32 }
-    requires cells { length (seen.env here.now).layout.locations ≤ vec_capacity space.old.kept.cells }
-    requires events { length world.old.trace.items + ((room_if (view.exp_if (seen.env here.now).source.structs e.now) + 1) + (room_of (seen.env here.now) (view.stm (seen.env here.now).source.structs body.now) + room_if (view.exp_if (seen.env here.now).source.structs step.now))) ≤ vec_capacity world.old.trace }
-    requires arguments { length space.old.kept.arguments.items + ((room_if (view.exp_if (seen.env here.now).source.structs e.now) + 1) + (room_of (seen.env here.now) (view.stm (seen.env here.now).source.structs body.now) + room_if (view.exp_if (seen.env here.now).source.structs step.now))) ≤ vec_capacity space.old.kept.arguments }
-    requires stores { ((room_if (view.exp_if (seen.env here.now).source.structs e.now) + 1) + (room_of (seen.env here.now) (view.stm (seen.env here.now).source.structs body.now) + room_if (view.exp_if (seen.env here.now).source.structs step.now))) ≤ vec_capacity space.old.stores }
-    requires fits { Fits here.now.turn (loop_room (seen.env here.now).source.depth (room_if (view.exp_if (seen.env here.now).source.structs e.now) + 1) (room_of (seen.env here.now) (view.stm (seen.env here.now).source.structs body.now) + room_if (view.exp_if (seen.env here.now).source.structs step.now))) }
+    requires room { HasRoom here.now world.old space.old.kept (room_of_for_turn here.now e.now step.now body.now) }
+    requires stores { room_of_for_turn here.now e.now step.now body.now ≤ vec_capacity space.old.stores }
+    requires fits { Fits here.now.turn (room_of_for_turns here.now e.now step.now body.now) }
     requires low { turn < (seen.env here.now).source.depth }
-    ensures done { seen.Does shown.flow_if (turns.one_turn (spec.condition_if pos (view.exp_if (seen.env here.now).source.structs e.now) (spec.in_turn (seen.env here.now) ((seen.env here.now).source.depth + 1) turn)) ((spec.exec (view.stm (seen.env here.now).source.structs body.now) (spec.in_turn (seen.env here.now) (seen.env here.now).source.depth turn)) >>= (λ f. spec.with_step (view.exp_if (seen.env here.now).source.structs step.now) (spec.in_turn (seen.env here.now) (seen.env here.now).source.depth turn) f)) (seen.world world.old))
+    ensures done { seen.Does shown.flow_if
+        (turns.one_turn (turns.for_test pos (exp_if_of here.now e.now) (seen.env here.now) turn)
+            (turns.for_body (exp_if_of here.now step.now) (stm_of here.now body.now) (seen.env here.now) turn)
+            (seen.world world.old))
         result (seen.world world.new) }
-    ensures events { length world.new.trace.items ≤ length world.old.trace.items + ((room_if (view.exp_if (seen.env here.now).source.structs e.now) + 1) + (room_of (seen.env here.now) (view.stm (seen.env here.now).source.structs body.now) + room_if (view.exp_if (seen.env here.now).source.structs step.now))) }
-    ensures trace { vec_capacity world.old.trace ≤ vec_capacity world.new.trace }
+    ensures used { Uses world.old world.new space.old.kept space.new.kept
+        (room_of_for_turn here.now e.now step.now body.now) }
     ensures arguments { OnOk result (space.new.kept.arguments.items ≡ space.old.kept.arguments.items) }
-    ensures capacity { vec_capacity space.old.kept.arguments ≤ vec_capacity space.new.kept.arguments }
-    ensures cells { vec_capacity space.old.kept.cells ≤ vec_capacity space.new.kept.cells }
     ensures store_room { vec_capacity space.old.stores ≤ vec_capacity space.new.stores }
     ensures reads { C.reads calls.new ≡ C.reads calls.old }
 {
@@ -433,18 +404,16 @@ fn exec_for<C: Calls>(
 ) -> Result<Flow, Ended>
     requires reads { C.reads calls.old ≡ reads_at (seen.env here.now) }
     requires few { length here.now.places.now.locations.items < 2 ^ 32 }
-    requires cells { length (seen.env here.now).layout.locations ≤ vec_capacity space.old.kept.cells }
-    requires events { length world.old.trace.items + loop_room (seen.env here.now).source.depth (room_if (view.exp_if (seen.env here.now).source.structs e.now) + 1) (room_of (seen.env here.now) (view.stm (seen.env here.now).source.structs body.now) + room_if (view.exp_if (seen.env here.now).source.structs step.now)) ≤ vec_capacity world.old.trace }
-    requires arguments { length space.old.kept.arguments.items + loop_room (seen.env here.now).source.depth (room_if (view.exp_if (seen.env here.now).source.structs e.now) + 1) (room_of (seen.env here.now) (view.stm (seen.env here.now).source.structs body.now) + room_if (view.exp_if (seen.env here.now).source.structs step.now)) ≤ vec_capacity space.old.kept.arguments }
-    requires stores { loop_room (seen.env here.now).source.depth (room_if (view.exp_if (seen.env here.now).source.structs e.now) + 1) (room_of (seen.env here.now) (view.stm (seen.env here.now).source.structs body.now) + room_if (view.exp_if (seen.env here.now).source.structs step.now)) ≤ vec_capacity space.old.stores }
-    requires fits { Fits here.now.turn (loop_room (seen.env here.now).source.depth (room_if (view.exp_if (seen.env here.now).source.structs e.now) + 1) (room_of (seen.env here.now) (view.stm (seen.env here.now).source.structs body.now) + room_if (view.exp_if (seen.env here.now).source.structs step.now))) }
-    ensures done { seen.Does shown.flow (spec.for_by pos (view.exp_if (seen.env here.now).source.structs e.now) (view.exp_if (seen.env here.now).source.structs step.now) (seen.env here.now) (spec.exec (view.stm (seen.env here.now).source.structs body.now)) (seen.world world.old))
+    requires room { HasRoom here.now world.old space.old.kept (room_of_for_turns here.now e.now step.now body.now) }
+    requires stores { room_of_for_turns here.now e.now step.now body.now ≤ vec_capacity space.old.stores }
+    requires fits { Fits here.now.turn (room_of_for_turns here.now e.now step.now body.now) }
+    ensures done { seen.Does shown.flow
+        (spec.for_by pos (exp_if_of here.now e.now) (exp_if_of here.now step.now) (seen.env here.now)
+            (spec.exec (stm_of here.now body.now)) (seen.world world.old))
         result (seen.world world.new) }
-    ensures events { length world.new.trace.items ≤ length world.old.trace.items + loop_room (seen.env here.now).source.depth (room_if (view.exp_if (seen.env here.now).source.structs e.now) + 1) (room_of (seen.env here.now) (view.stm (seen.env here.now).source.structs body.now) + room_if (view.exp_if (seen.env here.now).source.structs step.now)) }
-    ensures trace { vec_capacity world.old.trace ≤ vec_capacity world.new.trace }
+    ensures used { Uses world.old world.new space.old.kept space.new.kept
+        (room_of_for_turns here.now e.now step.now body.now) }
     ensures arguments { OnOk result (space.new.kept.arguments.items ≡ space.old.kept.arguments.items) }
-    ensures capacity { vec_capacity space.old.kept.arguments ≤ vec_capacity space.new.kept.arguments }
-    ensures cells { vec_capacity space.old.kept.cells ≤ vec_capacity space.new.kept.cells }
     ensures store_room { vec_capacity space.old.stores ≤ vec_capacity space.new.stores }
     ensures reads { C.reads calls.new ≡ C.reads calls.old }
 {

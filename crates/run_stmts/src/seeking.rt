@@ -2,11 +2,8 @@
 
 ghost use Rattle.std.specs.Prelude.{◌≡◌};
 ghost use Rattle.sc_world.specs.Exec as spec;
-ghost use Rattle.sc_world.specs.Source.{Struct};
-ghost use Rattle.sc_world.specs.View.{stm};
-ghost use Rattle.sc_gather.specs.Seen.{statements_of};
-ghost use Rattle.run_world.specs.Seen.{env};
 ghost use Rattle.run_stmts.specs.Seen as seen;
+ghost use Rattle.run_stmts.specs.Trees.{stm_of, stms_of};
 
 use crate::flow::Seek;
 use run_world::Here;
@@ -15,7 +12,7 @@ use sc_typed::TStmt;
 
 // Whether a label stands before an item, directly or behind other labels.
 fn has_label(here: &Here, name: NameId, s: &TStmt) -> bool
-    ensures { result ≡ spec.has_label name (stm (env here.now).source.structs s.now) }
+    ensures { result ≡ spec.has_label name (stm_of here.now s.now) }
 {
     match s {
         TStmt::Label(label, x, _) => name.at == label.at || has_label(here, name, x.get()),
@@ -28,7 +25,7 @@ fn has_label(here: &Here, name: NameId, s: &TStmt) -> bool
 }
 
 fn is_case(here: &Here, number: u64, s: &TStmt) -> bool
-    ensures { result ≡ spec.is_case number (stm (env here.now).source.structs s.now) }
+    ensures { result ≡ spec.is_case number (stm_of here.now s.now) }
 {
     match s {
         TStmt::Case(n, _, _) => number == *n,
@@ -42,7 +39,7 @@ fn is_case(here: &Here, number: u64, s: &TStmt) -> bool
 }
 
 fn is_default(here: &Here, s: &TStmt) -> bool
-    ensures { result ≡ spec.is_default (stm (env here.now).source.structs s.now) }
+    ensures { result ≡ spec.is_default (stm_of here.now s.now) }
 {
     match s {
         TStmt::Default(_) => true,
@@ -57,7 +54,7 @@ fn is_default(here: &Here, s: &TStmt) -> bool
 
 /// Whether an item is what is sought.
 pub fn found(here: &Here, seek: Seek, s: &TStmt) -> bool
-    ensures { result ≡ spec.found (seen.seek seek) (stm (env here.now).source.structs s.now) }
+    ensures { result ≡ spec.found (seen.seek seek) (stm_of here.now s.now) }
 {
     match seek {
         Seek::Here => true,
@@ -69,7 +66,7 @@ pub fn found(here: &Here, seek: Seek, s: &TStmt) -> bool
 
 // Whether an item is that case.
 fn some_case(here: &Here, number: u64, xs: &List<TStmt>) -> bool
-    ensures { result ≡ spec.some_item (spec.is_case number) (statements_of (env here.now).source.structs xs.now) }
+    ensures { result ≡ spec.some_item (spec.is_case number) (stms_of here.now xs.now) }
 {
     for x in xs.as_slice() {
         if is_case(here, number, x) {
@@ -81,7 +78,7 @@ fn some_case(here: &Here, number: u64, xs: &List<TStmt>) -> bool
 
 // Whether an item is `default`.
 fn some_default(here: &Here, xs: &List<TStmt>) -> bool
-    ensures { result ≡ spec.some_item spec.is_default (statements_of (env here.now).source.structs xs.now) }
+    ensures { result ≡ spec.some_item spec.is_default (stms_of here.now xs.now) }
 {
     for x in xs.as_slice() {
         if is_default(here, x) {
@@ -93,7 +90,7 @@ fn some_default(here: &Here, xs: &List<TStmt>) -> bool
 
 /// What a `switch` over that number seeks among its items; none where no item is meant.
 pub fn chosen_item(here: &Here, number: u64, xs: &List<TStmt>) -> Option<Seek>
-    ensures { seen.seek_if result ≡ spec.chosen_item number (statements_of (env here.now).source.structs xs.now) }
+    ensures { seen.seek_if result ≡ spec.chosen_item number (stms_of here.now xs.now) }
 {
     if some_case(here, number, xs) {
         Some(Seek::AtCase(number))

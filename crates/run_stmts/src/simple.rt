@@ -4,12 +4,12 @@ ghost use Rattle.std.specs.Prelude.{◌≡◌, ◌+◌, ◌<◌, ◌≤◌, ◌^
 ghost use Rattle.sc_world.specs.Exec as spec;
 ghost use Rattle.sc_world.specs.View as view;
 ghost use Rattle.sc_world.specs.World.{Env};
-ghost use Rattle.layout_base.specs.Seen as laid;
 ghost use Rattle.run_world.specs.Seen as seen;
-ghost use Rattle.run_room.specs.Room.{room_if};
 ghost use Rattle.run_inits.specs.Reads.{reads_at};
-ghost use Rattle.run_stmts.specs.Room.{room_of_start};
+ghost use Rattle.run_inits.specs.Room.{HasRoom, Uses};
+ghost use Rattle.run_stmts.specs.Room.{room_of_if, room_of_start};
 ghost use Rattle.run_stmts.specs.Seen.{flow};
+ghost use Rattle.run_stmts.specs.Trees.{exp_if_of, start_of};
 
 use crate::conditions::event;
 use crate::flow::Flow;
@@ -33,16 +33,12 @@ pub fn evaluate_if<C: Calls>(
 ) -> Result<(), Ended>
     requires reads { C.reads calls.old ≡ reads_at (seen.env here.now) }
     requires few { length here.now.places.now.locations.items < 2 ^ 32 }
-    requires cells { length (seen.env here.now).layout.locations ≤ vec_capacity space.old.kept.cells }
-    requires events { length world.old.trace.items + room_if (view.exp_if (seen.env here.now).source.structs e.now) ≤ vec_capacity world.old.trace }
-    requires arguments { length space.old.kept.arguments.items + room_if (view.exp_if (seen.env here.now).source.structs e.now) ≤ vec_capacity space.old.kept.arguments }
-    ensures done { seen.Does (λ _. tt) (spec.evaluate_if (view.exp_if (seen.env here.now).source.structs e.now) (seen.env here.now) (seen.world world.old))
+    requires room { HasRoom here.now world.old space.old.kept (room_of_if here.now e.now) }
+    ensures done { seen.Does (λ _. tt)
+        (spec.evaluate_if (exp_if_of here.now e.now) (seen.env here.now) (seen.world world.old))
         result (seen.world world.new) }
-    ensures events { length world.new.trace.items ≤ length world.old.trace.items + room_if (view.exp_if (seen.env here.now).source.structs e.now) }
-    ensures trace { vec_capacity world.old.trace ≤ vec_capacity world.new.trace }
+    ensures used { Uses world.old world.new space.old.kept space.new.kept (room_of_if here.now e.now) }
     ensures arguments { OnOk result (space.new.kept.arguments.items ≡ space.old.kept.arguments.items) }
-    ensures capacity { vec_capacity space.old.kept.arguments ≤ vec_capacity space.new.kept.arguments }
-    ensures cells { vec_capacity space.old.kept.cells ≤ vec_capacity space.new.kept.cells }
     ensures store_room { vec_capacity space.old.stores ≤ vec_capacity space.new.stores }
     ensures reads { C.reads calls.new ≡ C.reads calls.old }
 {
@@ -65,17 +61,13 @@ pub fn begin<C: Calls>(
 ) -> Result<(), Ended>
     requires reads { C.reads calls.old ≡ reads_at (seen.env here.now) }
     requires few { length here.now.places.now.locations.items < 2 ^ 32 }
-    requires cells { length (seen.env here.now).layout.locations ≤ vec_capacity space.old.kept.cells }
-    requires events { length world.old.trace.items + room_of_start (seen.env here.now) (view.start_of (seen.env here.now).source.structs start.now) ≤ vec_capacity world.old.trace }
-    requires arguments { length space.old.kept.arguments.items + room_of_start (seen.env here.now) (view.start_of (seen.env here.now).source.structs start.now) ≤ vec_capacity space.old.kept.arguments }
-    requires stores { room_of_start (seen.env here.now) (view.start_of (seen.env here.now).source.structs start.now) ≤ vec_capacity space.old.stores }
-    ensures done { seen.Does (λ _. tt) (spec.begin (view.start_of (seen.env here.now).source.structs start.now) (seen.env here.now) (seen.world world.old))
+    requires room { HasRoom here.now world.old space.old.kept (room_of_start here.now start.now) }
+    requires stores { room_of_start here.now start.now ≤ vec_capacity space.old.stores }
+    ensures done { seen.Does (λ _. tt)
+        (spec.begin (start_of here.now start.now) (seen.env here.now) (seen.world world.old))
         result (seen.world world.new) }
-    ensures events { length world.new.trace.items ≤ length world.old.trace.items + room_of_start (seen.env here.now) (view.start_of (seen.env here.now).source.structs start.now) }
-    ensures trace { vec_capacity world.old.trace ≤ vec_capacity world.new.trace }
+    ensures used { Uses world.old world.new space.old.kept space.new.kept (room_of_start here.now start.now) }
     ensures arguments { OnOk result (space.new.kept.arguments.items ≡ space.old.kept.arguments.items) }
-    ensures capacity { vec_capacity space.old.kept.arguments ≤ vec_capacity space.new.kept.arguments }
-    ensures cells { vec_capacity space.old.kept.cells ≤ vec_capacity space.new.kept.cells }
     ensures store_room { vec_capacity space.old.stores ≤ vec_capacity space.new.stores }
     ensures reads { C.reads calls.new ≡ C.reads calls.old }
 {
@@ -100,16 +92,12 @@ pub fn with_step<C: Calls>(
 ) -> Result<Flow, Ended>
     requires reads { C.reads calls.old ≡ reads_at (seen.env here.now) }
     requires few { length here.now.places.now.locations.items < 2 ^ 32 }
-    requires cells { length (seen.env here.now).layout.locations ≤ vec_capacity space.old.kept.cells }
-    requires events { length world.old.trace.items + room_if (view.exp_if (seen.env here.now).source.structs e.now) ≤ vec_capacity world.old.trace }
-    requires arguments { length space.old.kept.arguments.items + room_if (view.exp_if (seen.env here.now).source.structs e.now) ≤ vec_capacity space.old.kept.arguments }
-    ensures done { seen.Does flow (spec.with_step (view.exp_if (seen.env here.now).source.structs e.now) (seen.env here.now) (flow behind) (seen.world world.old))
+    requires room { HasRoom here.now world.old space.old.kept (room_of_if here.now e.now) }
+    ensures done { seen.Does flow
+        (spec.with_step (exp_if_of here.now e.now) (seen.env here.now) (flow behind) (seen.world world.old))
         result (seen.world world.new) }
-    ensures events { length world.new.trace.items ≤ length world.old.trace.items + room_if (view.exp_if (seen.env here.now).source.structs e.now) }
-    ensures trace { vec_capacity world.old.trace ≤ vec_capacity world.new.trace }
+    ensures used { Uses world.old world.new space.old.kept space.new.kept (room_of_if here.now e.now) }
     ensures arguments { OnOk result (space.new.kept.arguments.items ≡ space.old.kept.arguments.items) }
-    ensures capacity { vec_capacity space.old.kept.arguments ≤ vec_capacity space.new.kept.arguments }
-    ensures cells { vec_capacity space.old.kept.cells ≤ vec_capacity space.new.kept.cells }
     ensures store_room { vec_capacity space.old.stores ≤ vec_capacity space.new.stores }
     ensures reads { C.reads calls.new ≡ C.reads calls.old }
 {
@@ -135,16 +123,12 @@ pub fn return_value<C: Calls>(
 ) -> Result<Flow, Ended>
     requires reads { C.reads calls.old ≡ reads_at (seen.env here.now) }
     requires few { length here.now.places.now.locations.items < 2 ^ 32 }
-    requires cells { length (seen.env here.now).layout.locations ≤ vec_capacity space.old.kept.cells }
-    requires events { length world.old.trace.items + (room_if (view.exp_if (seen.env here.now).source.structs e.now) + 1) ≤ vec_capacity world.old.trace }
-    requires arguments { length space.old.kept.arguments.items + (room_if (view.exp_if (seen.env here.now).source.structs e.now) + 1) ≤ vec_capacity space.old.kept.arguments }
-    ensures done { seen.Does flow (spec.return_value pos (view.exp_if (seen.env here.now).source.structs e.now) (seen.env here.now) (seen.world world.old))
+    requires room { HasRoom here.now world.old space.old.kept (room_of_if here.now e.now + 1) }
+    ensures done { seen.Does flow
+        (spec.return_value pos (exp_if_of here.now e.now) (seen.env here.now) (seen.world world.old))
         result (seen.world world.new) }
-    ensures events { length world.new.trace.items ≤ length world.old.trace.items + (room_if (view.exp_if (seen.env here.now).source.structs e.now) + 1) }
-    ensures trace { vec_capacity world.old.trace ≤ vec_capacity world.new.trace }
+    ensures used { Uses world.old world.new space.old.kept space.new.kept (room_of_if here.now e.now + 1) }
     ensures arguments { OnOk result (space.new.kept.arguments.items ≡ space.old.kept.arguments.items) }
-    ensures capacity { vec_capacity space.old.kept.arguments ≤ vec_capacity space.new.kept.arguments }
-    ensures cells { vec_capacity space.old.kept.cells ≤ vec_capacity space.new.kept.cells }
     ensures store_room { vec_capacity space.old.stores ≤ vec_capacity space.new.stores }
     ensures reads { C.reads calls.new ≡ C.reads calls.old }
 {

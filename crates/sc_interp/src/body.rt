@@ -7,11 +7,12 @@ ghost use Rattle.sc_gather.specs.Seen.{body_of};
 ghost use Rattle.sc_world.specs.View.{type};
 ghost use Rattle.sc_world.specs.World as worlds;
 ghost use Rattle.run_store.specs.Concrete as store;
-ghost use Rattle.layout_base.specs.Seen as laid;
 ghost use Rattle.run_world.specs.Seen as seen;
 ghost use Rattle.run_inits.specs.Reads.{reads_at};
-ghost use Rattle.run_stmts.specs.Room.{Fits, room_of};
+ghost use Rattle.run_inits.specs.Room.{HasRoom, Uses};
+ghost use Rattle.run_stmts.specs.Room.{Fits};
 ghost use Rattle.run_stmts.specs.Seen.{flow};
+ghost use Rattle.sc_interp.specs.Room.{body_room};
 
 use run_exprs::Calls;
 use run_inits::{Space, blank};
@@ -98,16 +99,13 @@ fn execute<C: Calls>(
 ) -> Result<Flow, Ended>
     requires reads { C.reads calls.old ≡ reads_at (seen.env here.now) }
     requires few { length here.now.places.now.locations.items < 2 ^ 32 }
-    requires cells { length (seen.env here.now).layout.locations ≤ vec_capacity space.old.kept.cells }
-    requires events { length world.old.trace.items + room_of (seen.env here.now) (seen.env here.now).source.body ≤ vec_capacity world.old.trace }
-    requires arguments { length space.old.kept.arguments.items + room_of (seen.env here.now) (seen.env here.now).source.body ≤ vec_capacity space.old.kept.arguments }
-    requires stores { room_of (seen.env here.now) (seen.env here.now).source.body ≤ vec_capacity space.old.stores }
-    requires fits { Fits here.now.turn (room_of (seen.env here.now) (seen.env here.now).source.body) }
-    ensures executed { seen.Does flow (spec.exec (seen.env here.now).source.body (seen.env here.now) (seen.world world.old)) result (seen.world world.new) }
-    ensures events { length world.new.trace.items ≤ length world.old.trace.items + room_of (seen.env here.now) (seen.env here.now).source.body }
-    ensures trace { vec_capacity world.old.trace ≤ vec_capacity world.new.trace }
-    ensures capacity { vec_capacity space.old.kept.arguments ≤ vec_capacity space.new.kept.arguments }
-    ensures cells { vec_capacity space.old.kept.cells ≤ vec_capacity space.new.kept.cells }
+    requires room { HasRoom here.now world.old space.old.kept (body_room here.now) }
+    requires stores { body_room here.now ≤ vec_capacity space.old.stores }
+    requires fits { Fits here.now.turn (body_room here.now) }
+    ensures executed { seen.Does flow
+        (spec.exec (seen.env here.now).source.body (seen.env here.now) (seen.world world.old))
+        result (seen.world world.new) }
+    ensures used { Uses world.old world.new space.old.kept space.new.kept (body_room here.now) }
     ensures store_room { vec_capacity space.old.stores ≤ vec_capacity space.new.stores }
     ensures reads { C.reads calls.new ≡ C.reads calls.old }
 {
@@ -126,12 +124,12 @@ pub fn run_body<C: Calls>(
 ) -> Result<Value, Ended>
     requires reads { C.reads calls.old ≡ reads_at (seen.env here.now) }
     requires few { length here.now.places.now.locations.items < 2 ^ 32 }
-    requires cells { length (seen.env here.now).layout.locations ≤ vec_capacity space.old.kept.cells }
-    requires events { length world.old.trace.items + (room_of (seen.env here.now) (seen.env here.now).source.body + 1) ≤ vec_capacity world.old.trace }
-    requires arguments { length space.old.kept.arguments.items + room_of (seen.env here.now) (seen.env here.now).source.body ≤ vec_capacity space.old.kept.arguments }
-    requires stores { room_of (seen.env here.now) (seen.env here.now).source.body ≤ vec_capacity space.old.stores }
-    requires fits { Fits here.now.turn (room_of (seen.env here.now) (seen.env here.now).source.body) }
-    ensures run { seen.Does seen.cell (goes_on (spec.exec (seen.env here.now).source.body (seen.env here.now) (seen.world world.old)) (spec.finished (seen.env here.now).source))
+    requires room { HasRoom here.now world.old space.old.kept (body_room here.now + 1) }
+    requires stores { body_room here.now ≤ vec_capacity space.old.stores }
+    requires fits { Fits here.now.turn (body_room here.now) }
+    ensures run { seen.Does seen.cell
+        (goes_on (spec.exec (seen.env here.now).source.body (seen.env here.now) (seen.world world.old))
+            (spec.finished (seen.env here.now).source))
         result (seen.world world.new) }
     ensures trace { vec_capacity world.old.trace ≤ vec_capacity world.new.trace }
     ensures capacity { vec_capacity space.old.kept.arguments ≤ vec_capacity space.new.kept.arguments }
