@@ -1,3 +1,3 @@
-pub mod Cells
-pub mod Stores
+pub mod CellLaws
+pub mod StoreLaws
 pub mod Turns

@@ -11,7 +11,7 @@ ghost use Rattle.run_inits.specs.Seen.{given_of, givens_of};
 ghost use Rattle.run_inits.specs.Stores.{due_of, joined, given_stores, all_stores};
 
 use crate::cells::{clear_cells, load_cells};
-use crate::evaluate::evaluate;
+use crate::evaluating::evaluate;
 use crate::parts::part_at;
 use crate::space::Space;
 use crate::stores::{make_stores, set_part};
@@ -22,7 +22,7 @@ use run_world::{Ended, Here, World};
 use sc_typed::TInitItem;
 
 // Evaluates a value in braces; the stores that it is to make stand behind those of the values before.
-#[tactic(auto, using(crate::proofs::Stores::given_steps))]
+#[tactic(auto, using(crate::proofs::StoreLaws::given_steps))]
 fn gather_given<C: Calls>(
     here: &Here,
     world: &mut World,
@@ -59,7 +59,7 @@ fn gather_given<C: Calls>(
 }
 
 // Evaluates all values: the stores that they are to make.
-#[tactic(auto, using(crate::proofs::Stores::gather_steps))]
+#[tactic(auto, using(crate::proofs::StoreLaws::gather_steps))]
 fn gather_all<C: Calls>(
     here: &Here,
     world: &mut World,
@@ -88,7 +88,7 @@ fn gather_all<C: Calls>(
 }
 
 /// Sets an object to values in braces.
-#[tactic(auto, using(crate::proofs::Stores::braces_steps))]
+#[tactic(auto, using(crate::proofs::StoreLaws::braces_steps))]
 pub fn braces<C: Calls>(
     here: &Here,
     world: &mut World,

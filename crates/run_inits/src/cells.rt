@@ -34,7 +34,7 @@ fn origin_at(places: &Places, k: usize) -> Origin
 }
 
 // Whether a location is the one at `at` or a part of it, through so many steps at most.
-#[tactic(auto, using(crate::proofs::Cells::within_steps))]
+#[tactic(auto, using(crate::proofs::CellLaws::within_steps))]
 fn is_within(places: &Places, steps: u32, at: u32, k: usize) -> bool
     ensures { result ≡ spec.is_within steps (laid.layout_of places.now) at k }
 {
@@ -79,7 +79,7 @@ pub fn belongs(places: &Places, at: u32, k: usize) -> bool
 }
 
 // Location k is passed: where it is a cell of the object, its value stands behind those that were read before.
-#[tactic(auto, using(crate::proofs::Cells::load_steps), unfolding(run_world::specs::Seen::env))]
+#[tactic(auto, using(crate::proofs::CellLaws::load_steps), unfolding(run_world::specs::Seen::env))]
 fn load_cell(here: &Here, world: &World, at: u32, k: usize, values: &mut Vec<Value>)
     requires low { k < length (seen.env here.now).layout.locations }
     requires room { length values.old.items < vec_capacity values.old }
@@ -96,7 +96,7 @@ fn load_cell(here: &Here, world: &World, at: u32, k: usize, values: &mut Vec<Val
 }
 
 /// The values of the cells of an object, in order. They are put where there is room for a value of each location.
-#[tactic(auto, using(crate::proofs::Cells::walk_steps), unfolding(run_world::specs::Seen::env))]
+#[tactic(auto, using(crate::proofs::CellLaws::walk_steps), unfolding(run_world::specs::Seen::env))]
 pub fn load_cells(here: &Here, world: &World, at: u32, values: &mut Vec<Value>)
     requires room { length (seen.env here.now).layout.locations ≤ vec_capacity values.old }
     ensures loaded { spec.load_all (spec.cells_of (seen.env here.now).layout at) (seen.world world.now)
@@ -139,7 +139,7 @@ fn blank_at(here: &Here, k: usize) -> Value
 }
 
 // Location k is passed: where it is a cell of the object, it is set to 0 or null.
-#[tactic(auto, using(crate::proofs::Cells::clear_steps), unfolding(run_world::specs::Seen::env))]
+#[tactic(auto, using(crate::proofs::CellLaws::clear_steps), unfolding(run_world::specs::Seen::env))]
 fn clear_cell(here: &Here, world: &mut World, at: u32, k: usize)
     requires low { k < length (seen.env here.now).layout.locations }
     ensures cleared { exec.clear (seen.env here.now) (cells_from (seen.env here.now).layout at (k + 1))
@@ -153,7 +153,7 @@ fn clear_cell(here: &Here, world: &mut World, at: u32, k: usize)
 }
 
 /// All cells of an object are set to 0 or null.
-#[tactic(auto, using(crate::proofs::Cells::walk_steps), unfolding(run_world::specs::Seen::env))]
+#[tactic(auto, using(crate::proofs::CellLaws::walk_steps), unfolding(run_world::specs::Seen::env))]
 pub fn clear_cells(here: &Here, world: &mut World, at: u32)
     ensures cleared { exec.clear (seen.env here.now) (spec.cells_of (seen.env here.now).layout at)
             (seen.world world.old)

@@ -33,7 +33,7 @@ fn value_at(values: &[Value], number: usize) -> Option<Value>
 }
 
 // Location k is passed: where it is a cell of the object, it is to have the next value. Answers which value is next.
-#[tactic(auto, using(crate::proofs::Cells::pair_steps), unfolding(run_world::specs::Seen::env))]
+#[tactic(auto, using(crate::proofs::CellLaws::pair_steps), unfolding(run_world::specs::Seen::env))]
 fn pair_cell(
     here: &Here,
     at: u32,
@@ -66,7 +66,7 @@ fn pair_cell(
 }
 
 // The cells of an object are to have these values, in order, as long as there are both.
-#[tactic(auto, using(crate::proofs::Cells::pairs_steps), unfolding(run_world::specs::Seen::env))]
+#[tactic(auto, using(crate::proofs::CellLaws::pairs_steps), unfolding(run_world::specs::Seen::env))]
 fn pair_cells(here: &Here, at: u32, values: &[Value], stores: &mut Vec<Store>)
     requires room { length stores.old.items + length values.now ≤ vec_capacity stores.old }
     ensures paired { map spec.due_of stores.new.items
@@ -82,7 +82,7 @@ fn pair_cells(here: &Here, at: u32, values: &[Value], stores: &mut Vec<Store>)
 }
 
 /// A part, if there is one, is to have these values.
-#[tactic(auto, using(crate::proofs::Cells::append_steps))]
+#[tactic(auto, using(crate::proofs::CellLaws::append_steps))]
 pub fn set_part(here: &Here, part: Option<u32>, values: &[Value], stores: &mut Vec<Store>)
     requires room { length stores.old.items + length values.now ≤ vec_capacity stores.old }
     ensures stores { map spec.due_of stores.new.items

@@ -14,7 +14,7 @@ ghost use Rattle.sc_interp.specs.Seen.{ended};
 
 use crate::body::{body_at, run_body};
 use crate::calling::Calling;
-use crate::outcome::{Outcome, outcome};
+use crate::outcome::Outcome;
 use layout_base::{Ground, Places};
 use run_entry::{enter, reserve};
 use run_inits::Space;
@@ -168,7 +168,7 @@ impl<'p, 'm, 'f> Machine<'p, 'm, 'f> {
             choice,
             turn: 0,
         };
-        outcome(run_with(
+        Outcome::of(run_with(
             &here,
             &mut self.world,
             &mut self.space,

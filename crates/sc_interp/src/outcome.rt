@@ -1,7 +1,6 @@
 // How a run ends.
 
-ghost use Rattle.std.specs.Prelude.{◌≡◌, map};
-ghost use Rattle.run_world.specs.Seen as seen;
+ghost use Rattle.std.specs.Prelude.{◌≡◌};
 ghost use Rattle.sc_interp.specs.Seen.{ended, gone};
 
 use run_world::{Ended, Value};
@@ -20,14 +19,16 @@ pub enum Outcome {
     Aside(Reason),
 }
 
-/// The outcome of a run that gives that, or ends so before.
-pub fn outcome(run: Result<Value, Ended>) -> Outcome
-    ensures { ended result ≡ gone run }
-{
-    match run {
-        Ok(value) => Outcome::Exit(value),
-        Err(Ended::Error(at)) => Outcome::Error(at),
-        Err(Ended::Inner(at)) => Outcome::Inner(at),
-        Err(Ended::Aside(reason)) => Outcome::Aside(reason),
+impl Outcome {
+    /// The outcome of a run that gives that, or ends so before.
+    pub fn of(run: Result<Value, Ended>) -> Outcome
+        ensures { ended result ≡ gone run }
+    {
+        match run {
+            Ok(value) => Outcome::Exit(value),
+            Err(Ended::Error(at)) => Outcome::Error(at),
+            Err(Ended::Inner(at)) => Outcome::Inner(at),
+            Err(Ended::Aside(reason)) => Outcome::Aside(reason),
+        }
     }
 }

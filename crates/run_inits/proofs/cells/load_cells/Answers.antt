@@ -1,6 +1,6 @@
 use Rattle.std.proofs.Common.{◌≤◌, length, map, arith}
 use Rattle.run_world.specs.Seen.{cell, world, env}
-use Rattle.run_inits.proofs.Cells.{loaded_all}
+use Rattle.run_inits.proofs.CellLaws.{loaded_all}
 use Rattle.run_inits.proofs.cells.load_cells.Goals as goal
 
 pub returns-clause-loaded : goal.returns-clause-loaded

@@ -4,7 +4,7 @@ use Rattle.run_world.specs.Seen.{world, env}
 use Rattle.run_inits.specs.Reads.{reads_at}
 use Rattle.run_inits.specs.Room.{room_of_decs}
 use Rattle.run_inits.specs.Seen.{decs_of, most}
-use Rattle.run_inits.proofs.declarators.declarators.Given as goal
+use Rattle.run_inits.proofs.declaring.declarators.Given as goal
 
 abbrev pub invariant-loop-d : goal.invariant-loop-d
 invariant-loop-d g l = record {

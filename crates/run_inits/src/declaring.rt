@@ -9,7 +9,7 @@ ghost use Rattle.run_inits.specs.Room.{HasRoom, Uses, room_of_exp, room_of_init,
 ghost use Rattle.run_inits.specs.Seen.{exp_of, init_of, dec_of, decs_of};
 
 use crate::braces::braces;
-use crate::evaluate::evaluate;
+use crate::evaluating::evaluate;
 use crate::space::Space;
 use run_exprs::Calls;
 use run_room::is_scalar;
