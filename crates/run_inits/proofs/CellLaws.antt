@@ -1,5 +1,6 @@
 -- The cells of an object, one location after another.
-use Rattle.std.proofs.Common.{◌≡◌, ℕ, zero, suc, ◌+◌, ◌-◌, ◌<◌, ◌≤◌, nat_eq, Bool, true, false, ◌||◌, List, [], ◌∷◌, length, map, refl, sym, ap, ◌∙◌, arith, ◌++◌, append_assoc, add-one, drop}
+use Rattle.std.proofs.Common.{◌≡◌, ℕ, zero, suc, ◌+◌, ◌-◌, ◌<◌, ◌≤◌, nat_eq, Bool, true, false, ◌||◌, List, [], ◌∷◌}
+use Rattle.std.proofs.Common.{length, map, refl, sym, ap, ◌∙◌, arith, ◌++◌, append_assoc, add-one, drop}
 use Rattle.std.proofs.lemmas.List.{map-append, append-nil}
 use Rattle.std.specs.Prelude.{Some, None, Result, Err, slice_get}
 use Rattle.run_world.specs.declared.value.Value.{Value}
@@ -42,7 +43,9 @@ next_if : (p : Layout) (at k n : ℕ) (b : Bool) → is_cell_of p at k ≡ b
     → cells_among p at (range_with_len k (suc n))
     ≡ (if b then k ∷ cells_among p at (range_with_len (k + 1) n) else cells_among p at (range_with_len (k + 1) n))
 unfolding is_cell_of
-next_if p at k n b e = ap (λ x. if x then k ∷ cells_among p at (range_with_len (k + 1) n) else cells_among p at (range_with_len (k + 1) n)) e
+next_if p at k n b e =
+    ap (λ x. if x then k ∷ cells_among p at (range_with_len (k + 1) n) else cells_among p at
+    (range_with_len (k + 1) n)) e
 
 pub cells_in : (p : Layout) (at k : ℕ) → k < length p.locations → is_cell_of p at k ≡ true
     → cells_from p at k ≡ k ∷ cells_from p at (k + 1)
@@ -74,9 +77,11 @@ cell_of (Ok c, w) = c
 cell_of (Err e, w) = Nothing
 
 -- a cell that is read stands behind those that were read before; another location is passed over
-pub loaded_in : (p : Layout) (at k : ℕ) (w : World) (old new : List Value) (v : Value) → k < length p.locations → is_cell_of p at k ≡ true
+pub loaded_in : (p : Layout) (at k : ℕ) (w : World) (old new : List Value) (v : Value) → k < length p.locations
+    → is_cell_of p at k ≡ true
     → load k w ≡ (Ok (cell v), w) → new ≡ old ++ v ∷ []
-    → map cell new ++ map (nth_cell w.places) (cells_from p at (k + 1)) ≡ map cell old ++ map (nth_cell w.places) (cells_from p at k)
+    → map cell new ++ map (nth_cell w.places) (cells_from p at (k + 1)) ≡ map cell old
+        ++ map (nth_cell w.places) (cells_from p at k)
 loaded_in p at k w old new v low e read kept =
     let is : nth_cell w.places k ≡ cell v = ap cell_of read in
     let rest = map (nth_cell w.places) (cells_from p at (k + 1)) in
@@ -86,7 +91,8 @@ loaded_in p at k w old new v low e read kept =
     ∙ (ap (λ c. map cell old ++ c ∷ rest) (sym is)
     ∙ ap (λ ks. map cell old ++ map (nth_cell w.places) ks) (sym (cells_in p at k low e)))))
 
-pub loaded_out : (p : Layout) (at k : ℕ) (w : World) (vs : List Cell) → k < length p.locations → is_cell_of p at k ≡ false
+pub loaded_out : (p : Layout) (at k : ℕ) (w : World) (vs : List Cell) → k < length p.locations → is_cell_of p at k
+    ≡ false
     → vs ++ map (nth_cell w.places) (cells_from p at (k + 1)) ≡ vs ++ map (nth_cell w.places) (cells_from p at k)
 loaded_out p at k w vs low e = ap (λ ks. vs ++ map (nth_cell w.places) ks) (sym (cells_out p at k low e))
 
@@ -95,12 +101,14 @@ pub loaded_all : (p : Layout) (at k : ℕ) (w : World) (vs : List Cell) → leng
     → vs ++ map (nth_cell w.places) (cells_from p at k) ≡ map (nth_cell w.places) (cells_from p at 0)
     → load_all (cells_of p at) w ≡ (Ok vs, w)
 loaded_all p at k w vs past h =
-    let none : vs ++ map (nth_cell w.places) (cells_from p at k) ≡ vs = ap (λ ks. vs ++ map (nth_cell w.places) ks) (cells_end p at k past) ∙ append-nil vs in
+    let none : vs ++ map (nth_cell w.places) (cells_from p at k) ≡ vs =
+        ap (λ ks. vs ++ map (nth_cell w.places) ks) (cells_end p at k past) ∙ append-nil vs in
     load_is (cells_of p at) w
     ∙ ap (λ cs. (Ok cs, w)) (ap (map (nth_cell w.places)) (cells_all p at) ∙ (sym h ∙ none))
 
 -- the next cell is set to 0 or null; another location is passed over
-pub cleared_in : (env : Env) (at k : ℕ) (c : Cell) (w after : World) → k < length env.layout.locations → is_cell_of env.layout at k ≡ true
+pub cleared_in : (env : Env) (at k : ℕ) (c : Cell) (w after : World) → k < length env.layout.locations
+    → is_cell_of env.layout at k ≡ true
     → c ≡ blank (kind_of_type env.source (location env.layout k).type) → store k c w ≡ (Ok tt, after)
     → clear env (cells_from env.layout at (k + 1)) after ≡ clear env (cells_from env.layout at k) w
 cleared_in env at k c w after low e is h =
@@ -108,7 +116,8 @@ cleared_in env at k c w after low e is h =
     ∙ (ap (λ v. goes_on (store k v w) (λ _. clear env (cells_from env.layout at (k + 1)))) (sym is)
     ∙ ap (λ r. goes_on r (λ _. clear env (cells_from env.layout at (k + 1)))) h))
 
-pub cleared_out : (env : Env) (at k : ℕ) (w : World) → k < length env.layout.locations → is_cell_of env.layout at k ≡ false
+pub cleared_out : (env : Env) (at k : ℕ) (w : World) → k < length env.layout.locations → is_cell_of env.layout at k
+    ≡ false
     → clear env (cells_from env.layout at (k + 1)) w ≡ clear env (cells_from env.layout at k) w
 cleared_out env at k w low e = ap (λ ks. clear env ks w) (sym (cells_out env.layout at k low e))
 
@@ -131,22 +140,27 @@ past_end [] (suc n) h = refl
 past_end (v ∷ vs) zero h = absurd (cc)
 past_end (v ∷ vs) (suc n) h = past_end vs n h
 
-pub paired_past : (p : Layout) (at k : ℕ) (values : List Value) (next : ℕ) (front : List Due) → None ≡ slice_get values next
-    → front ++ paired (cells_from p at (k + 1)) (map cell (drop next values)) ≡ front ++ paired (cells_from p at k) (map cell (drop next values))
+pub paired_past : (p : Layout) (at k : ℕ) (values : List Value) (next : ℕ) (front : List Due) → None
+    ≡ slice_get values next
+    → front ++ paired (cells_from p at (k + 1)) (map cell (drop next values)) ≡ front
+        ++ paired (cells_from p at k) (map cell (drop next values))
 paired_past p at k values next front past =
     let e : drop next values ≡ [] = past_end values next past in
-    let one : (ks : List ℕ) → paired ks (map cell (drop next values)) ≡ [] = λ ks. ap (λ vs. paired ks (map cell vs)) e ∙ pair_none ks in
+    let one : (ks : List ℕ) → paired ks (map cell (drop next values)) ≡ [] =
+        λ ks. ap (λ vs. paired ks (map cell vs)) e ∙ pair_none ks in
     ap (λ ds. front ++ ds) (one (cells_from p at (k + 1)) ∙ sym (one (cells_from p at k)))
 
 -- the next value
-value_here : (values : List Value) (next : ℕ) (v : Value) → Some v ≡ slice_get values next → drop next values ≡ v ∷ drop (suc next) values
+value_here : (values : List Value) (next : ℕ) (v : Value) → Some v ≡ slice_get values next → drop next values
+    ≡ v ∷ drop (suc next) values
 value_here [] zero v h = absurd (cc)
 value_here [] (suc n) v h = absurd (cc)
 value_here (x ∷ vs) zero v h = let e : x ≡ v = (cc) in ap (λ y. y ∷ vs) e
 value_here (x ∷ vs) (suc n) v h = value_here vs n v h
 
 -- the next cell is to have it; another location is passed over
-pub paired_in : (p : Layout) (at k : ℕ) (values : List Value) (next : ℕ) (v : Value) (old new : List Store) → k < length p.locations
+pub paired_in : (p : Layout) (at k : ℕ) (values : List Value) (next : ℕ) (v : Value) (old new : List Store)
+    → k < length p.locations
     → is_cell_of p at k ≡ true → Some v ≡ slice_get values next → new ≡ old ++ record { at = k; value = v } ∷ []
     → map due_of new ++ paired (cells_from p at (k + 1)) (map cell (drop (next + 1) values))
     ≡ map due_of old ++ paired (cells_from p at k) (map cell (drop next values))
@@ -160,7 +174,8 @@ paired_in p at k values next v old new low e is kept =
     ∙ sym (ap (λ ks. map due_of old ++ paired ks (map cell (drop next values))) (cells_in p at k low e)
     ∙ ap (λ vs. map due_of old ++ paired (k ∷ cells_from p at (k + 1)) (map cell vs)) (value_here values next v is)))))
 
-pub paired_out : (p : Layout) (at k : ℕ) (front : List Due) (cs : List Cell) → k < length p.locations → is_cell_of p at k ≡ false
+pub paired_out : (p : Layout) (at k : ℕ) (front : List Due) (cs : List Cell) → k < length p.locations
+    → is_cell_of p at k ≡ false
     → front ++ paired (cells_from p at (k + 1)) cs ≡ front ++ paired (cells_from p at k) cs
 paired_out p at k front cs low e = ap (λ ks. front ++ paired ks cs) (sym (cells_out p at k low e))
 

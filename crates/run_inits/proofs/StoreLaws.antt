@@ -1,5 +1,6 @@
 -- The stores of braces make what the initialiser does.
-use Rattle.std.proofs.Common.{◌≡◌, ℕ, List, [], ◌∷◌, ◌++◌, map, refl, sym, ap, ◌∙◌, append_assoc, Option, Bool, true, false}
+use Rattle.std.proofs.Common.{◌≡◌, ℕ, List, [], ◌∷◌, ◌++◌, map, refl, sym, ap, ◌∙◌, append_assoc, Option, Bool, true}
+use Rattle.std.proofs.Common.{false}
 use Rattle.std.proofs.lemmas.List.{append-nil}
 use Rattle.std.specs.Prelude.{Ok, Err, Result, Some, None}
 use Rattle.run_store.specs.Concrete.{Cell}
@@ -26,7 +27,8 @@ abbrev goes : {A : Type 0} → Result A Ended × World → Bool
 goes (Ok a, w) = true
 goes (Err e, w) = false
 
-pub joined_next : {A : Type 0} (front new : List A) (after : World) (r : Result (List A) Ended × World) (f : Run (List A))
+pub joined_next : {A : Type 0} (front new : List A) (after : World) (r : Result (List A) Ended × World)
+    (f : Run (List A))
     → joined front r ≡ (Ok new, after)
     → joined front (goes_on r (λ p. λ w. goes_on (f w) (λ ps. done (p ++ ps)))) ≡ joined new (f after)
 joined_next front new after (Ok p, w) f h =
@@ -35,7 +37,8 @@ joined_next front new after (Ok p, w) f h =
     then_more front p (f w) ∙ (ap (λ xs. joined xs (f w)) is ∙ ap (λ u. joined new (f u)) at)
 joined_next front new after (Err e, w) f h = let no : false ≡ true = ap goes h in absurd (cc)
 
-pub joined_ends : {A : Type 0} (front : List A) (e : Ended) (after : World) (r : Result (List A) Ended × World) (f : Run (List A))
+pub joined_ends : {A : Type 0} (front : List A) (e : Ended) (after : World) (r : Result (List A) Ended × World)
+    (f : Run (List A))
     → joined front r ≡ (Err e, after)
     → joined front (goes_on r (λ p. λ w. goes_on (f w) (λ ps. done (p ++ ps)))) ≡ (Err e, after)
 joined_ends front e after (Ok p, w) f h = let no : true ≡ false = ap goes h in absurd (cc)
@@ -53,7 +56,8 @@ pub given_done : (env : Env) (at : ℕ) (x : Given) (front new : List Due) (c : 
     → cells_given x.value env w ≡ (Ok c, after) → new ≡ front ++ part_stores env (part_at env at x.way) c
     → joined front (given_stores env at x w) ≡ (Ok new, after)
 given_done env at x front new c w after h is =
-    ap (λ r. joined front (goes_on r (λ c. done (part_stores env (part_at env at x.way) c)))) h ∙ ap (λ ds. (Ok ds, after)) (sym is)
+    ap (λ r. joined front (goes_on r (λ c. done (part_stores env (part_at env at x.way) c)))) h
+        ∙ ap (λ ds. (Ok ds, after)) (sym is)
 
 pub given_ends : (env : Env) (at : ℕ) (x : Given) (front : List Due) (e : Ended) (w after : World)
     → cells_given x.value env w ≡ (Err e, after) → joined front (given_stores env at x w) ≡ (Err e, after)
@@ -70,7 +74,8 @@ stores_paired [] cs w = refl
 stores_paired (k ∷ ks) [] w = refl
 stores_paired (k ∷ ks) (c ∷ cs) w = stores_paired ks cs _
 
-stores_of_part : (env : Env) (part : Option ℕ) (cs : List Cell) (w : World) → set_part env part cs w ≡ stores (part_stores env part cs) w
+stores_of_part : (env : Env) (part : Option ℕ) (cs : List Cell) (w : World) → set_part env part cs w
+    ≡ stores (part_stores env part cs) w
 stores_of_part env None cs w = refl
 stores_of_part env (Some at) cs w = stores_paired (cells_of env.layout at) cs w
 
@@ -91,21 +96,26 @@ set_by_stores : (env : Env) (at : ℕ) (xs : List Given) (cs : List (List Cell))
 set_by_stores env at [] cs w = refl
 set_by_stores env at (x ∷ xs) [] w = refl
 set_by_stores env at (x ∷ xs) (c ∷ cs) w =
-    goes_on_same (set_part env (part_at env at x.way) c w) (λ _. set_parts env at xs cs) (λ _. stores (of_all env at xs cs)) (λ _ w. set_by_stores env at xs cs w)
+    goes_on_same (set_part env (part_at env at x.way) c w) (λ _. set_parts env at xs cs)
+        (λ _. stores (of_all env at xs cs)) (λ _ w. set_by_stores env at xs cs w)
     ∙ (ap (λ r. goes_on r (λ _. stores (of_all env at xs cs))) (stores_of_part env (part_at env at x.way) c w)
     ∙ sym (stores_both (part_stores env (part_at env at x.way) c) (of_all env at xs cs) w))
 
 -- all values are evaluated, and their stores are those that are gathered
-more_of_all : (env : Env) (at : ℕ) (x : Given) (xs : List Given) (c : List Cell) (r : Result (List (List Cell)) Ended × World)
-    → goes_on (goes_on r (λ cs. done (of_all env at xs cs))) (λ es. done (part_stores env (part_at env at x.way) c ++ es))
+more_of_all : (env : Env) (at : ℕ) (x : Given) (xs : List Given) (c : List Cell)
+    (r : Result (List (List Cell)) Ended × World)
+    → goes_on (goes_on r (λ cs. done (of_all env at xs cs)))
+        (λ es. done (part_stores env (part_at env at x.way) c ++ es))
     ≡ goes_on (goes_on r (λ cs. done (c ∷ cs))) (λ cs. done (of_all env at (x ∷ xs) cs))
 more_of_all env at x xs c (Ok cs, w) = refl
 more_of_all env at x xs c (Err e, w) = refl
 
 gathered_one : (env : Env) (at : ℕ) (x : Given) (xs : List Given) (r : Result (List Cell) Ended × World)
     → ((w : World) → all_stores env at xs w ≡ goes_on (all_given xs env w) (λ cs. done (of_all env at xs cs)))
-    → goes_on (goes_on r (λ c. done (part_stores env (part_at env at x.way) c))) (λ ds. λ w. goes_on (all_stores env at xs w) (λ es. done (ds ++ es)))
-    ≡ goes_on (goes_on r (λ c. λ w. goes_on (all_given xs env w) (λ cs. done (c ∷ cs)))) (λ cs. done (of_all env at (x ∷ xs) cs))
+    → goes_on (goes_on r (λ c. done (part_stores env (part_at env at x.way) c)))
+        (λ ds. λ w. goes_on (all_stores env at xs w) (λ es. done (ds ++ es)))
+    ≡ goes_on (goes_on r (λ c. λ w. goes_on (all_given xs env w) (λ cs. done (c ∷ cs))))
+        (λ cs. done (of_all env at (x ∷ xs) cs))
 gathered_one env at x xs (Ok c, w) h =
     ap (λ r. goes_on r (λ es. done (part_stores env (part_at env at x.way) c ++ es))) (h w)
     ∙ more_of_all env at x xs c (all_given xs env w)
@@ -124,19 +134,23 @@ braces_by : (env : Env) (at : ℕ) (xs : List Given) (r : Result (List (List Cel
     → goes_on r (λ cs. λ w. goes_on (clear env (cells_of env.layout at) w) (λ _. set_parts env at xs cs))
     ≡ goes_on (goes_on r (λ cs. done (of_all env at xs cs))) (λ ds. behind env at ds)
 braces_by env at xs (Ok cs, w) =
-    goes_on_same (clear env (cells_of env.layout at) w) (λ _. set_parts env at xs cs) (λ _. stores (of_all env at xs cs)) (λ _ w. set_by_stores env at xs cs w)
+    goes_on_same (clear env (cells_of env.layout at) w) (λ _. set_parts env at xs cs)
+        (λ _. stores (of_all env at xs cs)) (λ _ w. set_by_stores env at xs cs w)
 braces_by env at xs (Err e, w) = refl
 
 braces_are : (env : Env) (at : ℕ) (xs : List Given) (w : World)
     → initialise at (Braces xs) env w ≡ goes_on (all_stores env at xs w) (λ ds. behind env at ds)
 braces_are env at xs w =
-    braces_by env at xs (all_given xs env w) ∙ ap (λ r. goes_on r (λ ds. behind env at ds)) (sym (gathered_all env at xs w))
+    braces_by env at xs (all_given xs env w) ∙ ap (λ r. goes_on r (λ ds. behind env at ds))
+        (sym (gathered_all env at xs w))
 
-pub braces_end : (env : Env) (at : ℕ) (xs : List Given) (e : Ended) (w after : World) → all_stores env at xs w ≡ (Err e, after)
+pub braces_end : (env : Env) (at : ℕ) (xs : List Given) (e : Ended) (w after : World) → all_stores env at xs w
+    ≡ (Err e, after)
     → initialise at (Braces xs) env w ≡ (Err e, after)
 braces_end env at xs e w after h = braces_are env at xs w ∙ ap (λ r. goes_on r (λ ds. behind env at ds)) h
 
-pub braces_done : (env : Env) (at : ℕ) (xs : List Given) (ds : List Due) (w gathered cleared after : World) → all_stores env at xs w ≡ (Ok ds, gathered)
+pub braces_done : (env : Env) (at : ℕ) (xs : List Given) (ds : List Due) (w gathered cleared after : World)
+    → all_stores env at xs w ≡ (Ok ds, gathered)
     → clear env (cells_of env.layout at) gathered ≡ (Ok tt, cleared) → stores ds cleared ≡ (Ok tt, after)
     → initialise at (Braces xs) env w ≡ (Ok tt, after)
 braces_done env at xs ds w gathered cleared after all clears stored =

@@ -5,7 +5,6 @@ use Rattle.run_room.specs.Room.{loop_room}
 use Rattle.run_stmts.specs.Room.{Fits}
 
 pub fits_less : (turn m n : ℕ) → m ≤ n → Fits turn n → Fits turn m
-unfolding Fits
 fits_less turn m n less fits =
     let e : (turn + 1) * m ≤ (turn + 1) * n = mul-le (turn + 1) m (turn + 1) n (omega arith) less in omega (arith, e)
 
@@ -13,40 +12,23 @@ fits_less turn m n less fits =
 tests_fit : (depth r b : ℕ) → depth + 1 ≤ loop_room depth (r + 1) b
 unfolding loop_room
 tests_fit depth r b =
-    let e : (depth + 1) * 1 ≤ (depth + 1) * (r + 1) = mul-le (depth + 1) 1 (depth + 1) (r + 1) (omega arith) (omega arith) in omega (arith, e)
+    let e : (depth + 1) * 1 ≤ (depth + 1) * (r + 1) = mul-le (depth + 1) 1 (depth + 1) (r + 1) (omega arith)
+        (omega arith) in omega (arith, e)
 
 bodies_fit : (depth a b : ℕ) → depth * b ≤ loop_room depth a b
 unfolding loop_room
 bodies_fit depth a b = omega arith
 
-fits_alone : (turn n : ℕ) → Fits turn n → n < 4294967296
-unfolding Fits
-fits_alone turn n fits =
-    let e : 1 * n ≤ (turn + 1) * n = mul-le 1 n (turn + 1) n (omega arith) (omega arith) in omega (arith, e)
-
-pub depth_fits : (turn depth r b : ℕ) → Fits turn (loop_room depth (r + 1) b) → depth + 1 < 4294967296
-depth_fits turn depth r b fits = fits_alone turn (depth + 1) (fits_less turn (depth + 1) (loop_room depth (r + 1) b) (tests_fit depth r b) fits)
-
--- the number of a test, and that of a body
-turn_below : (turn times t : ℕ) → t < times → Fits turn times → turn * times + t < 4294967296
-unfolding Fits
-turn_below turn times t low fits = omega arith
-
-pub test_turn : (turn depth r b t : ℕ) → t ≤ depth → Fits turn (loop_room depth (r + 1) b) → turn * (depth + 1) + t < 4294967296
-test_turn turn depth r b t low fits =
-    turn_below turn (depth + 1) t (omega arith) (fits_less turn (depth + 1) (loop_room depth (r + 1) b) (tests_fit depth r b) fits)
-
-pub body_turn : (turn depth r b t : ℕ) → t < depth → Fits turn (loop_room depth (r + 1) b) → turn * depth + t < 4294967296
-body_turn turn depth r b t low fits =
-    let all : depth + 1 ≤ loop_room depth (r + 1) b = tests_fit depth r b in
-    turn_below turn depth t low (fits_less turn depth (loop_room depth (r + 1) b) (omega (arith, all)) fits)
+pub fits_tests : (turn depth r b : ℕ) → Fits turn (loop_room depth (r + 1) b) → Fits turn (depth + 1)
+fits_tests turn depth r b fits =
+    fits_less turn (depth + 1) (loop_room depth (r + 1) b) (tests_fit depth r b) fits
 
 -- the room of a body fits in each turn
 fits_in_each : (turn depth b t : ℕ) → t < depth → Fits turn (depth * b) → Fits (turn * depth + t) b
-unfolding Fits
 fits_in_each turn depth b t low fits =
     let less : turn * depth + t + 1 ≤ (turn + 1) * depth = omega arith in
-    let e : (turn * depth + t + 1) * b ≤ (turn + 1) * depth * b = mul-le (turn * depth + t + 1) b ((turn + 1) * depth) b less (omega arith) in
+    let e : (turn * depth + t + 1) * b ≤ (turn + 1) * depth * b =
+        mul-le (turn * depth + t + 1) b ((turn + 1) * depth) b less (omega arith) in
     omega (arith, e)
 
 pub body_fits : (turn depth a b t : ℕ) → t < depth → Fits turn (loop_room depth a b) → Fits (turn * depth + t) b
@@ -70,8 +52,7 @@ pub room_last : (k a b : ℕ) → a ≤ loop_room k a b
 unfolding loop_room
 room_last k a b = let e : 1 * a ≤ (k + 1) * a = mul-le 1 a (k + 1) a (omega arith) (omega arith) in omega (arith, e)
 
-pub room_one : (depth t a b : ℕ) → t < depth → a + b ≤ loop_room depth a b
-room_one depth t a b low =
-    let some : 0 < depth = omega arith in
+pub room_one : (depth a b : ℕ) → 0 < depth → a + b ≤ loop_room depth a b
+room_one depth a b some =
     let e : loop_room (depth - 0) a b ≡ (a + b) + loop_room (depth - (0 + 1)) a b = room_turn depth 0 a b some in
     omega (arith, e, room_all depth a b)

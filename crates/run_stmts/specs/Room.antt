@@ -43,5 +43,5 @@ room_of_for_turns h e step body =
     loop_room (env h).source.depth (room_of_if h e + 1) (room_of h body + room_of_if h step)
 
 -- In the turn at hand the turns of the loops in a statement of that room are numbers of 32 bits.
-unfoldable pub Fits : (turn room : ℕ) → Type 0
+abbrev pub Fits : (turn room : ℕ) → Type 0
 Fits turn room = (turn + 1) * room < 4294967296

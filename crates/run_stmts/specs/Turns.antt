@@ -4,7 +4,8 @@ use Rattle.sc_base.specs.declared.pos.Pos.{Pos}
 use Rattle.sum_rows.specs.declared.report.What.TheVariants as what
 use Rattle.sc_world.specs.Tree.{Exp, Stm}
 use Rattle.sc_world.specs.World.{Run, Env, ◌>>=◌, done}
-use Rattle.sc_world.specs.Exec.{Flow, Next, Breaks, Continues, GoesTo, Returns, Seek, Here, AtLabel, found, exec, condition, condition_if, with_step, in_turn}
+use Rattle.sc_world.specs.Exec.{Flow, Next, Breaks, Continues, GoesTo, Returns, Seek, Here, AtLabel, found, exec}
+use Rattle.sc_world.specs.Exec.{condition, condition_if, with_step, in_turn}
 
 -- something is sought among the items behind, or they are left
 pub data After : Type 0 where

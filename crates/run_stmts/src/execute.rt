@@ -6,7 +6,8 @@ ghost use Rattle.run_world.specs.Seen as seen;
 ghost use Rattle.run_inits.specs.Reads.{reads_at};
 ghost use Rattle.run_inits.specs.Room.{HasRoom, Uses};
 ghost use Rattle.run_inits.specs.Seen.{exp_of};
-ghost use Rattle.run_stmts.specs.Room.{Fits, room_of, room_of_items, room_of_turn, room_of_turns, room_of_for_turn, room_of_for_turns};
+ghost use Rattle.run_stmts.specs.Room.{Fits, room_of, room_of_items, room_of_turn, room_of_turns};
+ghost use Rattle.run_stmts.specs.Room.{room_of_for_turn, room_of_for_turns};
 ghost use Rattle.run_stmts.specs.Seen as shown;
 ghost use Rattle.run_stmts.specs.Trees.{exp_if_of, stm_of, stms_of};
 ghost use Rattle.run_stmts.specs.Turns as turns;
@@ -50,7 +51,6 @@ fn in_turn<'p, 'm, 'f>(here: &Here<'p, 'm, 'f>, times: u32, turn: u32) -> Here<'
 /// Executes a statement: where the run goes on behind it. There has to be room for what the statement needs; the
 /// arguments are as before unless the run ends.
 #[cycle(execute)]
-#[tactic(auto, using(crate::proofs::Turns::fit_steps))]
 pub fn exec<C: Calls>(
     here: &Here,
     world: &mut World,
@@ -196,7 +196,6 @@ fn exec_items<C: Calls>(
 
 // One turn of a `while`: where the run goes on, if the loop ends with it.
 #[cycle(execute)]
-#[tactic(auto, using(crate::proofs::Turns::turn_steps))]
 fn while_turn<C: Calls>(
     here: &Here,
     world: &mut World,
@@ -211,7 +210,8 @@ fn while_turn<C: Calls>(
     requires few { length here.now.places.now.locations.items < 2 ^ 32 }
     requires room { HasRoom here.now world.old space.old.kept (room_of_turn here.now e.now body.now) }
     requires stores { room_of_turn here.now e.now body.now ≤ vec_capacity space.old.stores }
-    requires fits { Fits here.now.turn (room_of_turns here.now e.now body.now) }
+    requires tests { Fits here.now.turn ((seen.env here.now).source.depth + 1) }
+    requires fits { Fits (here.now.turn * (seen.env here.now).source.depth + turn) (room_of here.now body.now) }
     requires low { turn < (seen.env here.now).source.depth }
     ensures done { seen.Does shown.flow_if
         (turns.one_turn (turns.while_test pos (exp_of here.now e.now) (seen.env here.now) turn)
@@ -273,7 +273,6 @@ fn exec_while<C: Calls>(
 
 // One turn of a `do`: where the run goes on, if the loop ends with it.
 #[cycle(execute)]
-#[tactic(auto, using(crate::proofs::Turns::turn_steps))]
 fn do_turn<C: Calls>(
     here: &Here,
     world: &mut World,
@@ -288,7 +287,8 @@ fn do_turn<C: Calls>(
     requires few { length here.now.places.now.locations.items < 2 ^ 32 }
     requires room { HasRoom here.now world.old space.old.kept (room_of_turn here.now e.now body.now) }
     requires stores { room_of_turn here.now e.now body.now ≤ vec_capacity space.old.stores }
-    requires fits { Fits here.now.turn (room_of_turns here.now e.now body.now) }
+    requires tests { Fits here.now.turn ((seen.env here.now).source.depth + 1) }
+    requires fits { Fits (here.now.turn * (seen.env here.now).source.depth + turn) (room_of here.now body.now) }
     requires low { turn < (seen.env here.now).source.depth }
     ensures done { seen.Does shown.flow_if
         (turns.one_do_turn (turns.do_test pos (exp_of here.now e.now) (seen.env here.now) turn)
@@ -350,7 +350,6 @@ fn exec_do<C: Calls>(
 
 // One turn of a `for` behind its first place: where the run goes on, if the loop ends with it.
 #[cycle(execute)]
-#[tactic(auto, using(crate::proofs::Turns::turn_steps))]
 fn for_turn<C: Calls>(
     here: &Here,
     world: &mut World,
@@ -366,7 +365,8 @@ fn for_turn<C: Calls>(
     requires few { length here.now.places.now.locations.items < 2 ^ 32 }
     requires room { HasRoom here.now world.old space.old.kept (room_of_for_turn here.now e.now step.now body.now) }
     requires stores { room_of_for_turn here.now e.now step.now body.now ≤ vec_capacity space.old.stores }
-    requires fits { Fits here.now.turn (room_of_for_turns here.now e.now step.now body.now) }
+    requires tests { Fits here.now.turn ((seen.env here.now).source.depth + 1) }
+    requires fits { Fits (here.now.turn * (seen.env here.now).source.depth + turn) (room_of here.now body.now) }
     requires low { turn < (seen.env here.now).source.depth }
     ensures done { seen.Does shown.flow_if
         (turns.one_turn (turns.for_test pos (exp_if_of here.now e.now) (seen.env here.now) turn)

@@ -6,7 +6,8 @@ use Rattle.run_inits.proofs.stores.pair_cells.Given as goal
 
 abbrev pub invariant-loop-k : goal.invariant-loop-k
 invariant-loop-k l = record {
-  pairs : map due_of l.stores.items ++ paired (cells_from (env l.here).layout l.at l.k) (map cell (drop l.next l.values))
+  pairs : map due_of l.stores.items ++ paired (cells_from (env l.here).layout l.at l.k)
+      (map cell (drop l.next l.values))
       ≡ map due_of l.fn.stores.items ++ paired (cells_from (env l.here).layout l.at 0) (map cell l.fn.values);
   low : l.next ≤ length l.values;
   few : length l.stores.items ≤ length l.fn.stores.items + l.next;

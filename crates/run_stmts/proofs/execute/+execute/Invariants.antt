@@ -5,7 +5,7 @@ use Rattle.run_room.specs.Room.{loop_room}
 use Rattle.run_inits.specs.Reads.{reads_at}
 use Rattle.run_inits.specs.Room.{room_of_exp}
 use Rattle.run_inits.specs.Seen.{exp_of, most}
-use Rattle.run_stmts.specs.Room.{room_of, room_of_if, room_of_items, room_of_turns, room_of_for_turns}
+use Rattle.run_stmts.specs.Room.{Fits, room_of, room_of_if, room_of_items, room_of_turns, room_of_for_turns}
 use Rattle.run_stmts.specs.Seen.{seek}
 use Rattle.run_stmts.specs.Trees.{exp_if_of, stm_of, stms_of}
 use Rattle.run_stmts.specs.Turns.{while_test, do_test, for_test, body_in, for_body}
@@ -18,6 +18,7 @@ invariant-exec_items-loop-x g l = record {
   few_events : length l.world.trace.items + room_of_items l.here (drop l.x-index l.xs)
       ≤ length l.fn.world.trace.items + room_of_items l.fn.here l.fn.xs;
   few : room_of_items l.here (drop l.x-index l.xs) ≤ room_of_items l.fn.here l.fn.xs;
+  fits : Fits l.here.turn (room_of_items l.here (drop l.x-index l.xs));
   same : g.C.Calls.reads l.calls ≡ reads_at (env l.here);
   unchanged : g.C.Calls.reads l.calls ≡ g.C.Calls.reads l.fn.calls;
   locations : most l.here ≤ vec_capacity l.space.kept.cells;
@@ -79,7 +80,8 @@ invariant-exec_for-loop-turn g l = record {
       ≡ for_by l.fn.pos (exp_if_of l.fn.here l.fn.e) (exp_if_of l.fn.here l.fn.step)
       (env l.fn.here) (exec (stm_of l.fn.here l.fn.body)) (world l.fn.world);
   few_events : length l.world.trace.items
-      + loop_room ((env l.here).source.depth - l.turn) (room_of_if l.here l.e + 1) (room_of l.here l.body + room_of_if l.here l.step)
+      + loop_room ((env l.here).source.depth - l.turn) (room_of_if l.here l.e + 1)
+          (room_of l.here l.body + room_of_if l.here l.step)
       ≤ length l.fn.world.trace.items + room_of_for_turns l.fn.here l.fn.e l.fn.step l.fn.body;
   same : g.C.Calls.reads l.calls ≡ reads_at (env l.here);
   unchanged : g.C.Calls.reads l.calls ≡ g.C.Calls.reads l.fn.calls;
