@@ -81,7 +81,7 @@ pub loaded_in : (p : Layout) (at k : ℕ) (w : World) (old new : List Value) (v 
     → is_cell_of p at k ≡ true
     → load k w ≡ (Ok (cell v), w) → new ≡ old ++ v ∷ []
     → map cell new ++ map (nth_cell w.places) (cells_from p at (k + 1)) ≡ map cell old
-        ++ map (nth_cell w.places) (cells_from p at k)
+    ++ map (nth_cell w.places) (cells_from p at k)
 loaded_in p at k w old new v low e read kept =
     let is : nth_cell w.places k ≡ cell v = ap cell_of read in
     let rest = map (nth_cell w.places) (cells_from p at (k + 1)) in
@@ -102,7 +102,7 @@ pub loaded_all : (p : Layout) (at k : ℕ) (w : World) (vs : List Cell) → leng
     → load_all (cells_of p at) w ≡ (Ok vs, w)
 loaded_all p at k w vs past h =
     let none : vs ++ map (nth_cell w.places) (cells_from p at k) ≡ vs =
-        ap (λ ks. vs ++ map (nth_cell w.places) ks) (cells_end p at k past) ∙ append-nil vs in
+    ap (λ ks. vs ++ map (nth_cell w.places) ks) (cells_end p at k past) ∙ append-nil vs in
     load_is (cells_of p at) w
     ∙ ap (λ cs. (Ok cs, w)) (ap (map (nth_cell w.places)) (cells_all p at) ∙ (sym h ∙ none))
 
@@ -143,11 +143,11 @@ past_end (v ∷ vs) (suc n) h = past_end vs n h
 pub paired_past : (p : Layout) (at k : ℕ) (values : List Value) (next : ℕ) (front : List Due) → None
     ≡ slice_get values next
     → front ++ paired (cells_from p at (k + 1)) (map cell (drop next values)) ≡ front
-        ++ paired (cells_from p at k) (map cell (drop next values))
+    ++ paired (cells_from p at k) (map cell (drop next values))
 paired_past p at k values next front past =
     let e : drop next values ≡ [] = past_end values next past in
     let one : (ks : List ℕ) → paired ks (map cell (drop next values)) ≡ [] =
-        λ ks. ap (λ vs. paired ks (map cell vs)) e ∙ pair_none ks in
+    λ ks. ap (λ vs. paired ks (map cell vs)) e ∙ pair_none ks in
     ap (λ ds. front ++ ds) (one (cells_from p at (k + 1)) ∙ sym (one (cells_from p at k)))
 
 -- the next value

@@ -57,7 +57,7 @@ pub given_done : (env : Env) (at : ℕ) (x : Given) (front new : List Due) (c : 
     → joined front (given_stores env at x w) ≡ (Ok new, after)
 given_done env at x front new c w after h is =
     ap (λ r. joined front (goes_on r (λ c. done (part_stores env (part_at env at x.way) c)))) h
-        ∙ ap (λ ds. (Ok ds, after)) (sym is)
+    ∙ ap (λ ds. (Ok ds, after)) (sym is)
 
 pub given_ends : (env : Env) (at : ℕ) (x : Given) (front : List Due) (e : Ended) (w after : World)
     → cells_given x.value env w ≡ (Err e, after) → joined front (given_stores env at x w) ≡ (Err e, after)
@@ -97,7 +97,7 @@ set_by_stores env at [] cs w = refl
 set_by_stores env at (x ∷ xs) [] w = refl
 set_by_stores env at (x ∷ xs) (c ∷ cs) w =
     goes_on_same (set_part env (part_at env at x.way) c w) (λ _. set_parts env at xs cs)
-        (λ _. stores (of_all env at xs cs)) (λ _ w. set_by_stores env at xs cs w)
+    (λ _. stores (of_all env at xs cs)) (λ _ w. set_by_stores env at xs cs w)
     ∙ (ap (λ r. goes_on r (λ _. stores (of_all env at xs cs))) (stores_of_part env (part_at env at x.way) c w)
     ∙ sym (stores_both (part_stores env (part_at env at x.way) c) (of_all env at xs cs) w))
 
@@ -105,7 +105,7 @@ set_by_stores env at (x ∷ xs) (c ∷ cs) w =
 more_of_all : (env : Env) (at : ℕ) (x : Given) (xs : List Given) (c : List Cell)
     (r : Result (List (List Cell)) Ended × World)
     → goes_on (goes_on r (λ cs. done (of_all env at xs cs)))
-        (λ es. done (part_stores env (part_at env at x.way) c ++ es))
+    (λ es. done (part_stores env (part_at env at x.way) c ++ es))
     ≡ goes_on (goes_on r (λ cs. done (c ∷ cs))) (λ cs. done (of_all env at (x ∷ xs) cs))
 more_of_all env at x xs c (Ok cs, w) = refl
 more_of_all env at x xs c (Err e, w) = refl
@@ -113,9 +113,9 @@ more_of_all env at x xs c (Err e, w) = refl
 gathered_one : (env : Env) (at : ℕ) (x : Given) (xs : List Given) (r : Result (List Cell) Ended × World)
     → ((w : World) → all_stores env at xs w ≡ goes_on (all_given xs env w) (λ cs. done (of_all env at xs cs)))
     → goes_on (goes_on r (λ c. done (part_stores env (part_at env at x.way) c)))
-        (λ ds. λ w. goes_on (all_stores env at xs w) (λ es. done (ds ++ es)))
+    (λ ds. λ w. goes_on (all_stores env at xs w) (λ es. done (ds ++ es)))
     ≡ goes_on (goes_on r (λ c. λ w. goes_on (all_given xs env w) (λ cs. done (c ∷ cs))))
-        (λ cs. done (of_all env at (x ∷ xs) cs))
+    (λ cs. done (of_all env at (x ∷ xs) cs))
 gathered_one env at x xs (Ok c, w) h =
     ap (λ r. goes_on r (λ es. done (part_stores env (part_at env at x.way) c ++ es))) (h w)
     ∙ more_of_all env at x xs c (all_given xs env w)
@@ -135,14 +135,14 @@ braces_by : (env : Env) (at : ℕ) (xs : List Given) (r : Result (List (List Cel
     ≡ goes_on (goes_on r (λ cs. done (of_all env at xs cs))) (λ ds. behind env at ds)
 braces_by env at xs (Ok cs, w) =
     goes_on_same (clear env (cells_of env.layout at) w) (λ _. set_parts env at xs cs)
-        (λ _. stores (of_all env at xs cs)) (λ _ w. set_by_stores env at xs cs w)
+    (λ _. stores (of_all env at xs cs)) (λ _ w. set_by_stores env at xs cs w)
 braces_by env at xs (Err e, w) = refl
 
 braces_are : (env : Env) (at : ℕ) (xs : List Given) (w : World)
     → initialise at (Braces xs) env w ≡ goes_on (all_stores env at xs w) (λ ds. behind env at ds)
 braces_are env at xs w =
     braces_by env at xs (all_given xs env w) ∙ ap (λ r. goes_on r (λ ds. behind env at ds))
-        (sym (gathered_all env at xs w))
+    (sym (gathered_all env at xs w))
 
 pub braces_end : (env : Env) (at : ℕ) (xs : List Given) (e : Ended) (w after : World) → all_stores env at xs w
     ≡ (Err e, after)

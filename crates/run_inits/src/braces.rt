@@ -37,7 +37,7 @@ fn gather_given<C: Calls>(
     requires stores { length space.old.stores.items + room_of_given here.now item.now ≤ vec_capacity space.old.stores }
     ensures gathered { seen.Does (λ _. map due_of space.new.stores.items)
         (joined (map due_of space.old.stores.items)
-            (given_stores (seen.env here.now) at (given_of here.now item.now) (seen.world world.old)))
+        (given_stores (seen.env here.now) at (given_of here.now item.now) (seen.world world.old)))
         result (seen.world world.new) }
     ensures used { Uses world.old world.new space.old.kept space.new.kept (room_of_given here.now item.now) }
     ensures arguments { OnOk result (space.new.kept.arguments.items ≡ space.old.kept.arguments.items) }

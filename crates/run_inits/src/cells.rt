@@ -84,9 +84,9 @@ fn load_cell(here: &Here, world: &World, at: u32, k: usize, values: &mut Vec<Val
     requires low { k < length (seen.env here.now).layout.locations }
     requires room { length values.old.items < vec_capacity values.old }
     ensures loaded { map seen.cell values.new.items
-            ++ map (store.nth_cell (seen.world world.now).places) (cells_from (seen.env here.now).layout at (k + 1))
+        ++ map (store.nth_cell (seen.world world.now).places) (cells_from (seen.env here.now).layout at (k + 1))
         ≡ map seen.cell values.old.items
-            ++ map (store.nth_cell (seen.world world.now).places) (cells_from (seen.env here.now).layout at k) }
+        ++ map (store.nth_cell (seen.world world.now).places) (cells_from (seen.env here.now).layout at k) }
     ensures few { length values.new.items ≤ length values.old.items + 1 }
     ensures room { vec_capacity values.old ≤ vec_capacity values.new }
 {
@@ -143,7 +143,7 @@ fn blank_at(here: &Here, k: usize) -> Value
 fn clear_cell(here: &Here, world: &mut World, at: u32, k: usize)
     requires low { k < length (seen.env here.now).layout.locations }
     ensures cleared { exec.clear (seen.env here.now) (cells_from (seen.env here.now).layout at (k + 1))
-            (seen.world world.new)
+        (seen.world world.new)
         ≡ exec.clear (seen.env here.now) (cells_from (seen.env here.now).layout at k) (seen.world world.old) }
     ensures trace { world.new.trace ≡ world.old.trace }
 {
@@ -156,7 +156,7 @@ fn clear_cell(here: &Here, world: &mut World, at: u32, k: usize)
 #[tactic(auto, using(crate::proofs::CellLaws::walk_steps), unfolding(run_world::specs::Seen::env))]
 pub fn clear_cells(here: &Here, world: &mut World, at: u32)
     ensures cleared { exec.clear (seen.env here.now) (spec.cells_of (seen.env here.now).layout at)
-            (seen.world world.old)
+        (seen.world world.old)
         ≡ (Ok tt, seen.world world.new) }
     ensures trace { world.new.trace ≡ world.old.trace }
 {

@@ -46,9 +46,9 @@ fn pair_cell(
     requires next { next ≤ length values.now }
     requires room { length stores.old.items + length values.now ≤ vec_capacity stores.old + next }
     ensures paired { map spec.due_of stores.new.items
-            ++ spec.paired (cells_from (seen.env here.now).layout at (k + 1)) (map seen.cell (drop result values.now))
+        ++ spec.paired (cells_from (seen.env here.now).layout at (k + 1)) (map seen.cell (drop result values.now))
         ≡ map spec.due_of stores.old.items
-            ++ spec.paired (cells_from (seen.env here.now).layout at k) (map seen.cell (drop next values.now)) }
+        ++ spec.paired (cells_from (seen.env here.now).layout at k) (map seen.cell (drop next values.now)) }
     ensures next { result ≤ length values.now }
     ensures few { length stores.new.items + next ≤ length stores.old.items + result }
     ensures capacity { vec_capacity stores.old ≤ vec_capacity stores.new }
@@ -71,7 +71,7 @@ fn pair_cells(here: &Here, at: u32, values: &[Value], stores: &mut Vec<Store>)
     requires room { length stores.old.items + length values.now ≤ vec_capacity stores.old }
     ensures paired { map spec.due_of stores.new.items
         ≡ map spec.due_of stores.old.items
-            ++ spec.paired (eval.cells_of (seen.env here.now).layout at) (map seen.cell values.now) }
+        ++ spec.paired (eval.cells_of (seen.env here.now).layout at) (map seen.cell values.now) }
     ensures few { length stores.new.items ≤ length stores.old.items + length values.now }
     ensures capacity { vec_capacity stores.old ≤ vec_capacity stores.new }
 {

@@ -13,7 +13,7 @@ tests_fit : (depth r b : ℕ) → depth + 1 ≤ loop_room depth (r + 1) b
 unfolding loop_room
 tests_fit depth r b =
     let e : (depth + 1) * 1 ≤ (depth + 1) * (r + 1) = mul-le (depth + 1) 1 (depth + 1) (r + 1) (omega arith)
-        (omega arith) in omega (arith, e)
+    (omega arith) in omega (arith, e)
 
 bodies_fit : (depth a b : ℕ) → depth * b ≤ loop_room depth a b
 unfolding loop_room
@@ -28,7 +28,7 @@ fits_in_each : (turn depth b t : ℕ) → t < depth → Fits turn (depth * b) �
 fits_in_each turn depth b t low fits =
     let less : turn * depth + t + 1 ≤ (turn + 1) * depth = omega arith in
     let e : (turn * depth + t + 1) * b ≤ (turn + 1) * depth * b =
-        mul-le (turn * depth + t + 1) b ((turn + 1) * depth) b less (omega arith) in
+    mul-le (turn * depth + t + 1) b ((turn + 1) * depth) b less (omega arith) in
     omega (arith, e)
 
 pub body_fits : (turn depth a b t : ℕ) → t < depth → Fits turn (loop_room depth a b) → Fits (turn * depth + t) b

@@ -27,15 +27,15 @@ flow_by rest env (Returns v) w = refl
 
 flows_by : (rest : Stms) (env : Env) (r : Result Flow Ended × World)
     → goes_on r (λ f. goes_on_in f (λ k. exec_all rest k env))
-        ≡ goes_on (goes_on r (λ f. done (behind f))) (rest_of rest env)
+    ≡ goes_on (goes_on r (λ f. done (behind f))) (rest_of rest env)
 flows_by rest env (Ok f, w) = flow_by rest env f w
 flows_by rest env (Err e, w) = refl
 
 item_if : (s : Stm) (rest : Stms) (seek : Seek) (env : Env) (w : World) (b : Bool)
     → (if b then (λ w. goes_on (exec s env w) (λ f. goes_on_in f (λ k. exec_all rest k env))) else exec_all rest seek
-        env) w
+    env) w
     ≡ goes_on ((if b then (λ w. goes_on (exec s env w) (λ f. done (behind f))) else done (Seeks seek)) w)
-        (rest_of rest env)
+    (rest_of rest env)
 item_if s rest seek env w true = flows_by rest env (exec s env w)
 item_if s rest seek env w false = refl
 
@@ -85,7 +85,7 @@ turn_test more body false w = refl
 turn_by : (more body : Run Flow) (r : Result Bool Ended × World)
     → goes_on r (λ b. if b then (λ w. goes_on (body w) (λ f. after_turn f more)) else done Next)
     ≡ goes_on (goes_on r (λ b. if b then (λ w. goes_on (body w) (λ f. done (ended_by f))) else done (Some Next)))
-        (on_or more)
+    (on_or more)
 turn_by more body (Ok b, w) = turn_test more body b w
 turn_by more body (Err e, w) = refl
 
@@ -99,24 +99,24 @@ pub turn_on : (depth t : ℕ) (test : ℕ → Run Bool) (body : ℕ → Run Flow
 turn_on depth t test body w after low h =
     let e : depth - t ≡ suc (depth - (t + 1)) = omega arith in
     ap (λ n. turns n t test body w) e
-        ∙ (turns_by (depth - (t + 1)) t test body w
-        ∙ ap (λ r. goes_on r (on_or (turns (depth - (t + 1)) (t + 1) test body))) h)
+    ∙ (turns_by (depth - (t + 1)) t test body w
+    ∙ ap (λ r. goes_on r (on_or (turns (depth - (t + 1)) (t + 1) test body))) h)
 
 pub turn_ends : (depth t : ℕ) (test : ℕ → Run Bool) (body : ℕ → Run Flow) (f : Flow) (w after : World) → t < depth
     → one_turn (test t) (body t) w ≡ (Ok (Some f), after) → turns (depth - t) t test body w ≡ (Ok f, after)
 turn_ends depth t test body f w after low h =
     let e : depth - t ≡ suc (depth - (t + 1)) = omega arith in
     ap (λ n. turns n t test body w) e
-        ∙ (turns_by (depth - (t + 1)) t test body w
-        ∙ ap (λ r. goes_on r (on_or (turns (depth - (t + 1)) (t + 1) test body))) h)
+    ∙ (turns_by (depth - (t + 1)) t test body w
+    ∙ ap (λ r. goes_on r (on_or (turns (depth - (t + 1)) (t + 1) test body))) h)
 
 pub turn_errs : (depth t : ℕ) (test : ℕ → Run Bool) (body : ℕ → Run Flow) (x : Ended) (w after : World) → t < depth
     → one_turn (test t) (body t) w ≡ (Err x, after) → turns (depth - t) t test body w ≡ (Err x, after)
 turn_errs depth t test body x w after low h =
     let e : depth - t ≡ suc (depth - (t + 1)) = omega arith in
     ap (λ n. turns n t test body w) e
-        ∙ (turns_by (depth - (t + 1)) t test body w
-        ∙ ap (λ r. goes_on r (on_or (turns (depth - (t + 1)) (t + 1) test body))) h)
+    ∙ (turns_by (depth - (t + 1)) t test body w
+    ∙ ap (λ r. goes_on r (on_or (turns (depth - (t + 1)) (t + 1) test body))) h)
 
 -- the last test
 abbrev last_test : Bool → Run Flow
@@ -158,7 +158,7 @@ again_by (suc n) t test body true w = refl
 
 agains_by : (n t : ℕ) (test : ℕ → Run Bool) (body : ℕ → Run Flow) (r : Result Bool Ended × World)
     → goes_on r (λ b. again b n (do_turns n t test body)) ≡ goes_on
-        (goes_on r (λ b. done (if b then None else Some Next))) (more_or n t test body)
+    (goes_on r (λ b. done (if b then None else Some Next))) (more_or n t test body)
 agains_by n t test body (Ok b, w) = again_by n t test body b w
 agains_by n t test body (Err e, w) = refl
 
@@ -187,21 +187,21 @@ pub do_on : (depth t : ℕ) (test : ℕ → Run Bool) (body : ℕ → Run Flow) 
 do_on depth t test body w after low h =
     let e : depth - t ≡ suc (depth - (t + 1)) = omega arith in
     ap (λ n. do_turns n t test body w) e
-        ∙ (do_by (depth - (t + 1)) t test body w ∙ ap (λ r. goes_on r (more_or (depth - (t + 1)) (t + 1) test body)) h)
+    ∙ (do_by (depth - (t + 1)) t test body w ∙ ap (λ r. goes_on r (more_or (depth - (t + 1)) (t + 1) test body)) h)
 
 pub do_ends : (depth t : ℕ) (test : ℕ → Run Bool) (body : ℕ → Run Flow) (f : Flow) (w after : World) → t < depth
     → one_do_turn (test t) (body t) w ≡ (Ok (Some f), after) → do_turns (depth - t) t test body w ≡ (Ok f, after)
 do_ends depth t test body f w after low h =
     let e : depth - t ≡ suc (depth - (t + 1)) = omega arith in
     ap (λ n. do_turns n t test body w) e
-        ∙ (do_by (depth - (t + 1)) t test body w ∙ ap (λ r. goes_on r (more_or (depth - (t + 1)) (t + 1) test body)) h)
+    ∙ (do_by (depth - (t + 1)) t test body w ∙ ap (λ r. goes_on r (more_or (depth - (t + 1)) (t + 1) test body)) h)
 
 pub do_errs : (depth t : ℕ) (test : ℕ → Run Bool) (body : ℕ → Run Flow) (x : Ended) (w after : World) → t < depth
     → one_do_turn (test t) (body t) w ≡ (Err x, after) → do_turns (depth - t) t test body w ≡ (Err x, after)
 do_errs depth t test body x w after low h =
     let e : depth - t ≡ suc (depth - (t + 1)) = omega arith in
     ap (λ n. do_turns n t test body w) e
-        ∙ (do_by (depth - (t + 1)) t test body w ∙ ap (λ r. goes_on r (more_or (depth - (t + 1)) (t + 1) test body)) h)
+    ∙ (do_by (depth - (t + 1)) t test body w ∙ ap (λ r. goes_on r (more_or (depth - (t + 1)) (t + 1) test body)) h)
 
 pub do_last : (depth t : ℕ) (test : ℕ → Run Bool) (body : ℕ → Run Flow) (w : World) → depth ≤ t
     → do_turns (depth - t) t test body w ≡ (Err (Aside reason.Depth), w)

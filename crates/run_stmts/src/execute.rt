@@ -215,7 +215,7 @@ fn while_turn<C: Calls>(
     requires low { turn < (seen.env here.now).source.depth }
     ensures done { seen.Does shown.flow_if
         (turns.one_turn (turns.while_test pos (exp_of here.now e.now) (seen.env here.now) turn)
-            (turns.body_in (stm_of here.now body.now) (seen.env here.now) turn) (seen.world world.old))
+        (turns.body_in (stm_of here.now body.now) (seen.env here.now) turn) (seen.world world.old))
         result (seen.world world.new) }
     ensures used { Uses world.old world.new space.old.kept space.new.kept (room_of_turn here.now e.now body.now) }
     ensures arguments { OnOk result (space.new.kept.arguments.items ≡ space.old.kept.arguments.items) }
@@ -250,7 +250,7 @@ fn exec_while<C: Calls>(
     requires fits { Fits here.now.turn (room_of_turns here.now e.now body.now) }
     ensures done { seen.Does shown.flow
         (spec.while_by pos (exp_of here.now e.now) (seen.env here.now) (spec.exec (stm_of here.now body.now))
-            (seen.world world.old))
+        (seen.world world.old))
         result (seen.world world.new) }
     ensures used { Uses world.old world.new space.old.kept space.new.kept (room_of_turns here.now e.now body.now) }
     ensures arguments { OnOk result (space.new.kept.arguments.items ≡ space.old.kept.arguments.items) }
@@ -292,7 +292,7 @@ fn do_turn<C: Calls>(
     requires low { turn < (seen.env here.now).source.depth }
     ensures done { seen.Does shown.flow_if
         (turns.one_do_turn (turns.do_test pos (exp_of here.now e.now) (seen.env here.now) turn)
-            (turns.body_in (stm_of here.now body.now) (seen.env here.now) turn) (seen.world world.old))
+        (turns.body_in (stm_of here.now body.now) (seen.env here.now) turn) (seen.world world.old))
         result (seen.world world.new) }
     ensures used { Uses world.old world.new space.old.kept space.new.kept (room_of_turn here.now e.now body.now) }
     ensures arguments { OnOk result (space.new.kept.arguments.items ≡ space.old.kept.arguments.items) }
@@ -332,7 +332,7 @@ fn exec_do<C: Calls>(
     requires fits { Fits here.now.turn (room_of_turns here.now e.now body.now) }
     ensures done { seen.Does shown.flow
         (spec.do_by pos (exp_of here.now e.now) (seen.env here.now) (spec.exec (stm_of here.now body.now))
-            (seen.world world.old))
+        (seen.world world.old))
         result (seen.world world.new) }
     ensures used { Uses world.old world.new space.old.kept space.new.kept (room_of_turns here.now e.now body.now) }
     ensures arguments { OnOk result (space.new.kept.arguments.items ≡ space.old.kept.arguments.items) }
@@ -370,8 +370,8 @@ fn for_turn<C: Calls>(
     requires low { turn < (seen.env here.now).source.depth }
     ensures done { seen.Does shown.flow_if
         (turns.one_turn (turns.for_test pos (exp_if_of here.now e.now) (seen.env here.now) turn)
-            (turns.for_body (exp_if_of here.now step.now) (stm_of here.now body.now) (seen.env here.now) turn)
-            (seen.world world.old))
+        (turns.for_body (exp_if_of here.now step.now) (stm_of here.now body.now) (seen.env here.now) turn)
+        (seen.world world.old))
         result (seen.world world.new) }
     ensures used { Uses world.old world.new space.old.kept space.new.kept
         (room_of_for_turn here.now e.now step.now body.now) }
@@ -409,7 +409,7 @@ fn exec_for<C: Calls>(
     requires fits { Fits here.now.turn (room_of_for_turns here.now e.now step.now body.now) }
     ensures done { seen.Does shown.flow
         (spec.for_by pos (exp_if_of here.now e.now) (exp_if_of here.now step.now) (seen.env here.now)
-            (spec.exec (stm_of here.now body.now)) (seen.world world.old))
+        (spec.exec (stm_of here.now body.now)) (seen.world world.old))
         result (seen.world world.new) }
     ensures used { Uses world.old world.new space.old.kept space.new.kept
         (room_of_for_turns here.now e.now step.now body.now) }

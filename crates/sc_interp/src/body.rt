@@ -55,7 +55,8 @@ fn end_of(here: &Here, body: Option<&TStmt>) -> Pos
 // 0, null or nothing, as the function's result has it.
 #[tactic(auto, unfolding(run_world::specs::Seen::env, layout_base::specs::Seen::ground_of, sc_gather::specs::Seen::source_of, sc_world::specs::Programs::source_by))]
 fn blank_result(here: &Here) -> Value
-    ensures { seen.cell result ≡ store.blank (worlds.kind_of_type (seen.env here.now).source (Some (seen.env here.now).source.result)) }
+    ensures { seen.cell result
+        ≡ store.blank (worlds.kind_of_type (seen.env here.now).source (Some (seen.env here.now).source.result)) }
 {
     match here.ground.here.function() {
         None => Value::Nothing,
@@ -77,7 +78,8 @@ fn result_or(here: &Here, value: Value) -> Value
 // The end of the function, behind a body from which the run goes on so.
 fn finish(here: &Here, world: &mut World, behind: Flow) -> Value
     requires room { length world.old.trace.items < vec_capacity world.old.trace }
-    ensures finished { spec.finished (seen.env here.now).source (flow behind) (seen.world world.old) ≡ (Ok (seen.cell result), seen.world world.new) }
+    ensures finished { spec.finished (seen.env here.now).source (flow behind) (seen.world world.old)
+        ≡ (Ok (seen.cell result), seen.world world.new) }
     ensures trace { vec_capacity world.old.trace ≤ vec_capacity world.new.trace }
 {
     match behind {
@@ -129,7 +131,7 @@ pub fn run_body<C: Calls>(
     requires fits { Fits here.now.turn (body_room here.now) }
     ensures run { seen.Does seen.cell
         (goes_on (spec.exec (seen.env here.now).source.body (seen.env here.now) (seen.world world.old))
-            (spec.finished (seen.env here.now).source))
+        (spec.finished (seen.env here.now).source))
         result (seen.world world.new) }
     ensures trace { vec_capacity world.old.trace ≤ vec_capacity world.new.trace }
     ensures capacity { vec_capacity space.old.kept.arguments ≤ vec_capacity space.new.kept.arguments }

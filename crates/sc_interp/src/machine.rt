@@ -59,7 +59,8 @@ pub struct Machine<'p, 'm, 'f> {
     ghost few: { length places.now.locations.items < 2 ^ 32 },
     ghost slots: { 2 * length (laid.layout_of places.now).locations ≤ vec_capacity world.slots },
     ghost trace: { run_room (laid.ground_of given).source (laid.layout_of places.now) ≤ vec_capacity world.trace },
-    ghost arguments: { run_room (laid.ground_of given).source (laid.layout_of places.now) ≤ vec_capacity space.kept.arguments },
+    ghost arguments: { run_room (laid.ground_of given).source (laid.layout_of places.now)
+        ≤ vec_capacity space.kept.arguments },
     ghost cells: { length (laid.layout_of places.now).locations ≤ vec_capacity space.kept.cells },
     ghost stores: { run_room (laid.ground_of given).source (laid.layout_of places.now) ≤ vec_capacity space.stores },
     ghost turns: { run_room (laid.ground_of given).source (laid.layout_of places.now) < 2 ^ 32 },
@@ -90,11 +91,14 @@ fn run_with<'p>(
     requires slots { 2 * length (seen.env here.now).layout.locations ≤ vec_capacity world.old.slots }
     requires cells { length (seen.env here.now).layout.locations ≤ vec_capacity space.old.kept.cells }
     requires events { run_room (seen.env here.now).source (seen.env here.now).layout ≤ vec_capacity world.old.trace }
-    requires arguments { run_room (seen.env here.now).source (seen.env here.now).layout ≤ vec_capacity space.old.kept.arguments }
+    requires arguments { run_room (seen.env here.now).source (seen.env here.now).layout
+        ≤ vec_capacity space.old.kept.arguments }
     requires stores { run_room (seen.env here.now).source (seen.env here.now).layout ≤ vec_capacity space.old.stores }
     requires turns { run_room (seen.env here.now).source (seen.env here.now).layout < 2 ^ 32 }
     requires fits { FitsAll (seen.env here.now).source buffer.old.most }
-    ensures run { seen.Does seen.cell (spec.run (seen.env here.now).source (seen.env here.now).layout (seen.env here.now).choice) result (seen.world world.new) }
+    ensures run { seen.Does seen.cell
+        (spec.run (seen.env here.now).source (seen.env here.now).layout (seen.env here.now).choice)
+        result (seen.world world.new) }
     ensures slots { vec_capacity world.old.slots ≤ vec_capacity world.new.slots }
     ensures trace { vec_capacity world.old.trace ≤ vec_capacity world.new.trace }
     ensures arguments { vec_capacity space.old.kept.arguments ≤ vec_capacity space.new.kept.arguments }
@@ -196,7 +200,8 @@ impl<'p, 'm, 'f> Machine<'p, 'm, 'f> {
     /// The state of a location behind the last run; 15 stands for any.
     #[tactic(auto, unfolding(run_world::specs::Seen::world, layout_base::specs::Seen::layout_of))]
     pub fn state(&self, at: u32) -> u64
-        ensures { result ≡ number_of (nth_cell (seen.world self.now.world).places (length (laid.layout_of self.now.places.now).locations + at)) }
+        ensures { result ≡ number_of (nth_cell (seen.world self.now.world).places
+            (length (laid.layout_of self.now.places.now).locations + at)) }
     {
         let state = self.world.load(self.places.locations.len() + at as usize);
         state.number()

@@ -8,4 +8,4 @@ unfolding env
 returns-clause-loaded c =
     let past : length (env c.args.here.now).layout.locations ≤ c.loop-k.k = omega arith in
     loaded_all (env c.args.here.now).layout c.args.at c.loop-k.k (world c.args.world.now)
-        (map cell c.loop-k.values.items) past c.loop-k.invariant.loaded
+    (map cell c.loop-k.values.items) past c.loop-k.invariant.loaded

@@ -81,7 +81,7 @@ invariant-exec_for-loop-turn g l = record {
       (env l.fn.here) (exec (stm_of l.fn.here l.fn.body)) (world l.fn.world);
   few_events : length l.world.trace.items
       + loop_room ((env l.here).source.depth - l.turn) (room_of_if l.here l.e + 1)
-          (room_of l.here l.body + room_of_if l.here l.step)
+      (room_of l.here l.body + room_of_if l.here l.step)
       ≤ length l.fn.world.trace.items + room_of_for_turns l.fn.here l.fn.e l.fn.step l.fn.body;
   same : g.C.Calls.reads l.calls ≡ reads_at (env l.here);
   unchanged : g.C.Calls.reads l.calls ≡ g.C.Calls.reads l.fn.calls;
