@@ -13,7 +13,7 @@ ghost use Rattle.run_stmts.specs.Trees.{exp_if_of, stm_of, stms_of};
 ghost use Rattle.run_stmts.specs.Turns as turns;
 
 use crate::conditions::{Test, condition, condition_if, event};
-use crate::flow::{After, Flow, Seek, after, ended, left, out_of_switch};
+use crate::flow::{After, Flow, Seek, ended, left, out_of_switch, what_follows};
 use crate::seeking::{chosen_item, found};
 use crate::simple::{begin, evaluate_if, return_value, switch_event, with_step};
 use run_exprs::Calls;
@@ -157,7 +157,7 @@ fn exec_item<C: Calls>(
         return Ok(After::Seeks(seek));
     }
     let flow = exec(here, world, space, calls, s)?;
-    Ok(after(flow))
+    Ok(what_follows(flow))
 }
 
 // Executes the items of a block or a `switch` from the one that is sought.

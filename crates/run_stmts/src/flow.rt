@@ -41,7 +41,7 @@ pub enum After {
 }
 
 /// What follows an item behind which the run goes on so.
-pub fn after(flow: Flow) -> After
+pub fn what_follows(flow: Flow) -> After
     ensures { seen.after result ≡ behind (seen.flow flow) }
 {
     match flow {
