@@ -108,7 +108,7 @@ pub fn exec<C: Calls>(
         }
         TStmt::Switch(e, xs, pos, _) => {
             let value = evaluate(here, world, space, calls, e, Want::Value)?;
-            event(world, *pos, switch_event(&e.ctype, value));
+            event(world, *pos, switch_event(here, e, value));
             match chosen_item(here, value.number(), xs) {
                 None => Ok(Flow::Next),
                 Some(seek) => {

@@ -2,11 +2,13 @@
 
 ghost use Rattle.std.specs.Prelude.{◌≡◌, ◌+◌, ◌<◌, ◌≤◌, ◌^◌, length, vec_capacity, OnOk};
 ghost use Rattle.sc_world.specs.Exec as spec;
+ghost use Rattle.sc_typed.specs.Arith as arith;
+ghost use Rattle.sc_world.specs.Tree as tree;
 ghost use Rattle.sc_world.specs.View as view;
-ghost use Rattle.sc_world.specs.World.{Env};
 ghost use Rattle.run_world.specs.Seen as seen;
 ghost use Rattle.run_inits.specs.Reads.{reads_at};
 ghost use Rattle.run_inits.specs.Room.{HasRoom, Uses};
+ghost use Rattle.run_inits.specs.Seen.{exp_of};
 ghost use Rattle.run_stmts.specs.Room.{room_of_if, room_of_start};
 ghost use Rattle.run_stmts.specs.Seen.{flow};
 ghost use Rattle.run_stmts.specs.Trees.{exp_if_of, start_of};
@@ -145,13 +147,33 @@ pub fn return_value<C: Calls>(
     }
 }
 
-/// The number of a `switch`, as its event tells it. A number has 64 bits at most.
-pub fn switch_event(t: &CType, value: Value) -> What
-    ensures { (here : Env) → result ≡ spec.switch_event here (view.type t.now) (seen.cell value) }
+// The type of an expression.
+#[tactic(auto, unfolding(run_world::specs::Seen::env, layout_base::specs::Seen::ground_of))]
+fn type_of<'e>(here: &Here, e: &'e TExpr) -> &'e CType
+    ensures { view.type result.now ≡ tree.type_of (exp_of here.now e.now) }
+{
+    here.ground.here.type_of(e)
+}
+
+// The signed number that so many bits stand for. The 64 bits that there are have no sign in more of them.
+#[tactic(auto, using(crate::proofs::Signs::sign_steps))]
+fn with_sign(bits: u32, n: u64) -> i128
+    ensures { result ≡ arith.signed bits n }
+{
+    if bits > 64 {
+        i128::from(n)
+    } else {
+        signed(bits, n)
+    }
+}
+
+/// The event of a `switch` over an expression that has that value.
+pub fn switch_event(here: &Here, e: &TExpr, value: Value) -> What
+    ensures { result ≡ spec.switch_event (seen.env here.now) (tree.type_of (exp_of here.now e.now)) (seen.cell value) }
 {
     match value {
-        Value::Number(bits, n) => What::Switch(if has_sign(t) {
-            signed(bits, n)
+        Value::Number(bits, n) => What::Switch(if has_sign(type_of(here, e)) {
+            with_sign(bits, n)
         } else {
             i128::from(n)
         }),
