@@ -2,7 +2,7 @@
 
 ghost use Rattle.std.specs.Prelude.{◌≡◌, ◌+◌, ◌<◌, ◌≤◌, ◌^◌, length, vec_capacity, OnOk};
 ghost use Rattle.sc_world.specs.Exec as spec;
-ghost use Rattle.sc_typed.specs.Arith as arith;
+ghost use Rattle.sc_typed.specs.Arith as numbers;
 ghost use Rattle.sc_world.specs.Tree as tree;
 ghost use Rattle.sc_world.specs.View as view;
 ghost use Rattle.run_world.specs.Seen as seen;
@@ -158,7 +158,7 @@ fn type_of<'e>(here: &Here, e: &'e TExpr) -> &'e CType
 // The signed number that so many bits stand for. The 64 bits that there are have no sign in more of them.
 #[tactic(auto, using(crate::proofs::Signs::sign_steps))]
 fn with_sign(bits: u32, n: u64) -> i128
-    ensures { result ≡ arith.signed bits n }
+    ensures { result ≡ numbers.signed bits n }
 {
     if bits > 64 {
         i128::from(n)
