@@ -45,14 +45,6 @@ room_turn depth t a b low =
     let e : depth - t ≡ depth - (t + 1) + 1 = omega arith in
     ap (λ k. loop_room k a b) e ∙ more_room (depth - (t + 1)) a b
 
-pub room_all : (depth a b : ℕ) → loop_room (depth - 0) a b ≡ loop_room depth a b
-room_all depth a b = let e : depth - 0 ≡ depth = omega arith in ap (λ k. loop_room k a b) e
-
 pub room_last : (k a b : ℕ) → a ≤ loop_room k a b
 unfolding loop_room
 room_last k a b = let e : 1 * a ≤ (k + 1) * a = mul-le 1 a (k + 1) a (omega arith) (omega arith) in omega (arith, e)
-
-pub room_one : (depth a b : ℕ) → 0 < depth → a + b ≤ loop_room depth a b
-room_one depth a b some =
-    let e : loop_room (depth - 0) a b ≡ (a + b) + loop_room (depth - (0 + 1)) a b = room_turn depth 0 a b some in
-    omega (arith, e, room_all depth a b)

@@ -7,9 +7,9 @@ use Rattle.sc_world.specs.Tree.{Stm}
 use Rattle.sc_world.specs.World.{Env}
 use Rattle.run_world.specs.declared.pointers.Here.{Here}
 use Rattle.run_world.specs.Seen.{env}
-use Rattle.run_room.specs.Room.{room_if, stm_room, stms_room, start_room, loop_room}
-use Rattle.run_inits.specs.Room.{room_of_exp}
+use Rattle.run_room.specs.Room.{room_if, stm_room, stms_room, start_room}
 use Rattle.run_inits.specs.Seen.{most}
+use Rattle.run_stmts.specs.Loops.{Loop, turn_room, turns_room}
 use Rattle.run_stmts.specs.Trees.{exp_if_of, start_of, stm_of, stms_of}
 
 -- the room of a statement in what a run reads
@@ -29,18 +29,11 @@ abbrev pub room_of_items : Here → List TStmt → ℕ
 room_of_items h xs = stms_room (env h).source.depth (most h) (stms_of h xs)
 
 -- one turn of a loop, and all of them
-abbrev pub room_of_turn : Here → TExpr → TStmt → ℕ
-room_of_turn h e body = (room_of_exp h e + 1) + room_of h body
+abbrev pub room_of_turn : Here → Loop → TStmt → ℕ
+room_of_turn h l body = turn_room l (room_of h body)
 
-abbrev pub room_of_turns : Here → TExpr → TStmt → ℕ
-room_of_turns h e body = loop_room (env h).source.depth (room_of_exp h e + 1) (room_of h body)
-
-abbrev pub room_of_for_turn : Here → (test step : Option TExpr) → TStmt → ℕ
-room_of_for_turn h e step body = (room_of_if h e + 1) + (room_of h body + room_of_if h step)
-
-abbrev pub room_of_for_turns : Here → (test step : Option TExpr) → TStmt → ℕ
-room_of_for_turns h e step body =
-    loop_room (env h).source.depth (room_of_if h e + 1) (room_of h body + room_of_if h step)
+abbrev pub room_of_turns : Here → Loop → TStmt → ℕ
+room_of_turns h l body = turns_room l (env h).source.depth (room_of h body)
 
 -- In the turn at hand the turns of the loops in a statement of that room are numbers of 32 bits.
 abbrev pub Fits : (turn room : ℕ) → Type 0

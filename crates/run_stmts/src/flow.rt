@@ -3,7 +3,8 @@
 ghost use Rattle.std.specs.Prelude.{◌≡◌};
 ghost use Rattle.sc_world.specs.Exec as spec;
 ghost use Rattle.run_stmts.specs.Seen as seen;
-ghost use Rattle.run_stmts.specs.Turns.{behind, ended_by};
+ghost use Rattle.run_stmts.specs.Items.{behind};
+ghost use Rattle.run_stmts.specs.Loops.{ended_by};
 
 use run_world::Value;
 use sc_base::NameId;
