@@ -67,15 +67,15 @@ pub fn test_first<C: Calls>(
     requires reads { C.reads calls.old ≡ reads_at (seen.env here.now) }
     requires few { length here.now.places.now.locations.items < 2 ^ 32 }
     requires room { HasRoom here.now world.old space.old.kept
-        (spec.first_room (shown.loop_of (seen.env here.now).source.structs tests.entry)) }
+        (spec.first_room (shown.loop_of (seen.env here.now).source.structs tests)) }
     requires tests { Fits here.now.turn ((seen.env here.now).source.depth + 1) }
     requires low { turn ≤ (seen.env here.now).source.depth }
     ensures done { seen.Does (λ x. x)
-        (spec.test_first (shown.loop_of (seen.env here.now).source.structs tests.entry) pos (seen.env here.now) turn
+        (spec.test_first (shown.loop_of (seen.env here.now).source.structs tests) pos (seen.env here.now) turn
         (seen.world world.old))
         result (seen.world world.new) }
     ensures used { Uses world.old world.new space.old.kept space.new.kept
-        (spec.first_room (shown.loop_of (seen.env here.now).source.structs tests.entry)) }
+        (spec.first_room (shown.loop_of (seen.env here.now).source.structs tests)) }
     ensures arguments { OnOk result (space.new.kept.arguments.items ≡ space.old.kept.arguments.items) }
     ensures store_room { vec_capacity space.old.stores ≤ vec_capacity space.new.stores }
     ensures reads { C.reads calls.new ≡ C.reads calls.old }
@@ -140,13 +140,13 @@ pub fn behind_body<C: Calls>(
     requires reads { C.reads calls.old ≡ reads_at (seen.env here.now) }
     requires few { length here.now.places.now.locations.items < 2 ^ 32 }
     requires room { HasRoom here.now world.old space.old.kept
-        (spec.behind_room (shown.loop_of (seen.env here.now).source.structs tests.entry)) }
+        (spec.behind_room (shown.loop_of (seen.env here.now).source.structs tests)) }
     ensures done { seen.Does shown.flow_if
-        (spec.behind_body (shown.loop_of (seen.env here.now).source.structs tests.entry) pos (seen.env here.now)
+        (spec.behind_body (shown.loop_of (seen.env here.now).source.structs tests) pos (seen.env here.now)
         (shown.flow behind) (seen.world world.old))
         result (seen.world world.new) }
     ensures used { Uses world.old world.new space.old.kept space.new.kept
-        (spec.behind_room (shown.loop_of (seen.env here.now).source.structs tests.entry)) }
+        (spec.behind_room (shown.loop_of (seen.env here.now).source.structs tests)) }
     ensures arguments { OnOk result (space.new.kept.arguments.items ≡ space.old.kept.arguments.items) }
     ensures store_room { vec_capacity space.old.stores ≤ vec_capacity space.new.stores }
     ensures reads { C.reads calls.new ≡ C.reads calls.old }
@@ -173,14 +173,14 @@ pub fn last_test<C: Calls>(
     requires reads { C.reads calls.old ≡ reads_at (seen.env here.now) }
     requires few { length here.now.places.now.locations.items < 2 ^ 32 }
     requires room { HasRoom here.now world.old space.old.kept
-        (spec.first_room (shown.loop_of (seen.env here.now).source.structs tests.entry)) }
+        (spec.first_room (shown.loop_of (seen.env here.now).source.structs tests)) }
     requires tests { Fits here.now.turn ((seen.env here.now).source.depth + 1) }
     ensures done { seen.Does shown.flow
-        (spec.last_test (shown.loop_of (seen.env here.now).source.structs tests.entry) pos (seen.env here.now)
+        (spec.last_test (shown.loop_of (seen.env here.now).source.structs tests) pos (seen.env here.now)
         (seen.env here.now).source.depth (seen.world world.old))
         result (seen.world world.new) }
     ensures used { Uses world.old world.new space.old.kept space.new.kept
-        (spec.first_room (shown.loop_of (seen.env here.now).source.structs tests.entry)) }
+        (spec.first_room (shown.loop_of (seen.env here.now).source.structs tests)) }
     ensures arguments { OnOk result (space.new.kept.arguments.items ≡ space.old.kept.arguments.items) }
     ensures store_room { vec_capacity space.old.stores ≤ vec_capacity space.new.stores }
     ensures reads { C.reads calls.new ≡ C.reads calls.old }
