@@ -196,11 +196,11 @@ fn loop_turn<C: Calls>(
     requires fits { Fits (here.now.turn * (seen.env here.now).source.depth + turn) (room_of here.now body.now) }
     requires low { turn < (seen.env here.now).source.depth }
     ensures done { seen.Does shown.flow_if
-        (loops.loop_turn (shown.loop_of (seen.env here.now).source.structs tests) pos (seen.env here.now)
+        (loops.loop_turn (shown.loop_of (seen.env here.now).source.structs tests.entry) pos (seen.env here.now)
         (stm_of here.now body.now) turn (seen.world world.old))
         result (seen.world world.new) }
     ensures used { Uses world.old world.new space.old.kept space.new.kept
-        (room_of_turn here.now (shown.loop_of (seen.env here.now).source.structs tests) body.now) }
+        (room_of_turn here.now (shown.loop_of (seen.env here.now).source.structs tests.entry) body.now) }
     ensures arguments { OnOk result (space.new.kept.arguments.items ≡ space.old.kept.arguments.items) }
     ensures store_room { vec_capacity space.old.stores ≤ vec_capacity space.new.stores }
     ensures reads { C.reads calls.new ≡ C.reads calls.old }
@@ -234,11 +234,11 @@ fn exec_loop<C: Calls>(
     requires fits { Fits here.now.turn
         (room_of_turns here.now (shown.loop_of (seen.env here.now).source.structs tests) body.now) }
     ensures done { seen.Does shown.flow
-        (loops.loops (shown.loop_of (seen.env here.now).source.structs tests) pos (seen.env here.now)
+        (loops.loops (shown.loop_of (seen.env here.now).source.structs tests.entry) pos (seen.env here.now)
         (stm_of here.now body.now) (seen.env here.now).source.depth 0 (seen.world world.old))
         result (seen.world world.new) }
     ensures used { Uses world.old world.new space.old.kept space.new.kept
-        (room_of_turns here.now (shown.loop_of (seen.env here.now).source.structs tests) body.now) }
+        (room_of_turns here.now (shown.loop_of (seen.env here.now).source.structs tests.entry) body.now) }
     ensures arguments { OnOk result (space.new.kept.arguments.items ≡ space.old.kept.arguments.items) }
     ensures store_room { vec_capacity space.old.stores ≤ vec_capacity space.new.stores }
     ensures reads { C.reads calls.new ≡ C.reads calls.old }

@@ -71,11 +71,11 @@ pub fn test_first<C: Calls>(
     requires tests { Fits here.now.turn ((seen.env here.now).source.depth + 1) }
     requires low { turn ≤ (seen.env here.now).source.depth }
     ensures done { seen.Does (λ x. x)
-        (spec.test_first (shown.loop_of (seen.env here.now).source.structs tests) pos (seen.env here.now) turn
+        (spec.test_first (shown.loop_of (seen.env here.now).source.structs tests.entry) pos (seen.env here.now) turn
         (seen.world world.old))
         result (seen.world world.new) }
     ensures used { Uses world.old world.new space.old.kept space.new.kept
-        (spec.first_room (shown.loop_of (seen.env here.now).source.structs tests)) }
+        (spec.first_room (shown.loop_of (seen.env here.now).source.structs tests.entry)) }
     ensures arguments { OnOk result (space.new.kept.arguments.items ≡ space.old.kept.arguments.items) }
     ensures store_room { vec_capacity space.old.stores ≤ vec_capacity space.new.stores }
     ensures reads { C.reads calls.new ≡ C.reads calls.old }
@@ -142,11 +142,11 @@ pub fn behind_body<C: Calls>(
     requires room { HasRoom here.now world.old space.old.kept
         (spec.behind_room (shown.loop_of (seen.env here.now).source.structs tests)) }
     ensures done { seen.Does shown.flow_if
-        (spec.behind_body (shown.loop_of (seen.env here.now).source.structs tests) pos (seen.env here.now)
+        (spec.behind_body (shown.loop_of (seen.env here.now).source.structs tests.entry) pos (seen.env here.now)
         (shown.flow behind) (seen.world world.old))
         result (seen.world world.new) }
     ensures used { Uses world.old world.new space.old.kept space.new.kept
-        (spec.behind_room (shown.loop_of (seen.env here.now).source.structs tests)) }
+        (spec.behind_room (shown.loop_of (seen.env here.now).source.structs tests.entry)) }
     ensures arguments { OnOk result (space.new.kept.arguments.items ≡ space.old.kept.arguments.items) }
     ensures store_room { vec_capacity space.old.stores ≤ vec_capacity space.new.stores }
     ensures reads { C.reads calls.new ≡ C.reads calls.old }
@@ -176,11 +176,11 @@ pub fn last_test<C: Calls>(
         (spec.first_room (shown.loop_of (seen.env here.now).source.structs tests)) }
     requires tests { Fits here.now.turn ((seen.env here.now).source.depth + 1) }
     ensures done { seen.Does shown.flow
-        (spec.last_test (shown.loop_of (seen.env here.now).source.structs tests) pos (seen.env here.now)
+        (spec.last_test (shown.loop_of (seen.env here.now).source.structs tests.entry) pos (seen.env here.now)
         (seen.env here.now).source.depth (seen.world world.old))
         result (seen.world world.new) }
     ensures used { Uses world.old world.new space.old.kept space.new.kept
-        (spec.first_room (shown.loop_of (seen.env here.now).source.structs tests)) }
+        (spec.first_room (shown.loop_of (seen.env here.now).source.structs tests.entry)) }
     ensures arguments { OnOk result (space.new.kept.arguments.items ≡ space.old.kept.arguments.items) }
     ensures store_room { vec_capacity space.old.stores ≤ vec_capacity space.new.stores }
     ensures reads { C.reads calls.new ≡ C.reads calls.old }
