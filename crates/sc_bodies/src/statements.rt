@@ -30,6 +30,7 @@ use std::alloc::Global;
 /// `numbers` has the numbers of the globals of `walk`, before and after. Where memory is refused neither is of
 /// further use.
 #[cycle(statement)]
+#[tactic(auto, using(crate::proofs::Branches::else_gives))]
 pub fn statement(
     alloc: Global,
     walk: &mut Walk,
@@ -50,7 +51,7 @@ pub fn statement(
         Stmt::Decl(d, at) => declaration_statement(alloc, walk, numbers, here, d.get(), *at),
         Stmt::Expr(e, at) => expression_statement(alloc, walk, here, e, *at),
         Stmt::If(e, x, y, at) => match y {
-            None => scoped_if(alloc, walk, numbers, here, around, e.get(), x.get(), *at),
+            None => scoped_if(alloc, walk, numbers, here, around, x.get(), e.get(), *at),
             Some(z) => {
                 open_block(walk)?;
                 let c = condition(alloc, walk, here, *at, e.get())?;
@@ -65,8 +66,8 @@ pub fn statement(
             numbers,
             here,
             around,
-            e.get(),
             x.get(),
+            e.get(),
             *at,
         ),
         Stmt::Do(x, e, at) => scoped_do(alloc, walk, numbers, here, around, x.get(), e.get(), *at),
@@ -77,8 +78,8 @@ pub fn statement(
             numbers,
             here,
             around,
-            e.get(),
             xs.get(),
+            e.get(),
             *at,
             *to,
         ),
@@ -227,8 +228,8 @@ fn scoped_if(
     numbers: &mut GlobalNumbers,
     here: &Tables,
     around: &Around,
-    e: &Expr,
     x: &Stmt,
+    e: &Expr,
     at: Pos,
 ) -> Result<Option<Boxed<TStmt>>, OutOfMemory>
     requires { numbers.old ≡ keys_of walk.old.globals }
@@ -237,7 +238,7 @@ fn scoped_if(
     ensures tied { OnOk result (numbers.new ≡ keys_of walk.new.globals) }
 {
     open_block(walk)?;
-    let x = if_statement(alloc, walk, numbers, here, around, e, x, at)?;
+    let x = if_statement(alloc, walk, numbers, here, around, x, e, at)?;
     close_block(walk)?;
     Ok(x)
 }
@@ -250,8 +251,8 @@ fn if_statement(
     numbers: &mut GlobalNumbers,
     here: &Tables,
     around: &Around,
-    e: &Expr,
     x: &Stmt,
+    e: &Expr,
     at: Pos,
 ) -> Result<Option<Boxed<TStmt>>, OutOfMemory>
     requires { numbers.old ≡ keys_of walk.old.globals }
@@ -272,8 +273,8 @@ fn scoped_while(
     numbers: &mut GlobalNumbers,
     here: &Tables,
     around: &Around,
-    e: &Expr,
     x: &Stmt,
+    e: &Expr,
     at: Pos,
 ) -> Result<Option<Boxed<TStmt>>, OutOfMemory>
     requires { numbers.old ≡ keys_of walk.old.globals }
@@ -282,7 +283,7 @@ fn scoped_while(
     ensures tied { OnOk result (numbers.new ≡ keys_of walk.new.globals) }
 {
     open_block(walk)?;
-    let x = while_statement(alloc, walk, numbers, here, around, e, x, at)?;
+    let x = while_statement(alloc, walk, numbers, here, around, x, e, at)?;
     close_block(walk)?;
     Ok(x)
 }
@@ -295,8 +296,8 @@ fn while_statement(
     numbers: &mut GlobalNumbers,
     here: &Tables,
     around: &Around,
-    e: &Expr,
     x: &Stmt,
+    e: &Expr,
     at: Pos,
 ) -> Result<Option<Boxed<TStmt>>, OutOfMemory>
     requires { numbers.old ≡ keys_of walk.old.globals }
@@ -410,8 +411,8 @@ fn scoped_switch(
     numbers: &mut GlobalNumbers,
     here: &Tables,
     around: &Around,
-    e: &Expr,
     xs: &List<Stmt>,
+    e: &Expr,
     at: Pos,
     to: Pos,
 ) -> Result<Option<Boxed<TStmt>>, OutOfMemory>
@@ -422,7 +423,7 @@ fn scoped_switch(
     ensures tied { OnOk result (numbers.new ≡ keys_of walk.new.globals) }
 {
     open_block(walk)?;
-    let x = switch_statement(alloc, walk, numbers, here, around, e, xs, at, to)?;
+    let x = switch_statement(alloc, walk, numbers, here, around, xs, e, at, to)?;
     close_block(walk)?;
     Ok(x)
 }
@@ -435,8 +436,8 @@ fn switch_statement(
     numbers: &mut GlobalNumbers,
     here: &Tables,
     around: &Around,
-    e: &Expr,
     xs: &List<Stmt>,
+    e: &Expr,
     at: Pos,
     to: Pos,
 ) -> Result<Option<Boxed<TStmt>>, OutOfMemory>
