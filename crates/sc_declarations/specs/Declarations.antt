@@ -41,6 +41,11 @@ abbrev pub name_of : Option (NameId × Pos) → NameId × Pos
 name_of None = no_name
 name_of (Some n) = n
 
+-- the parameters that the declarator wrote
+abbrev pub params_if : Option Own → Option (List Parameter)
+params_if None = None
+params_if (Some own) = Some own.params
+
 module _ (here : Here) where
   -- a declaration of a variable with linkage; its global has the type that all files give it, once that is known
   abbrev pub type_over_all : NameId → Option CType
@@ -55,13 +60,16 @@ module _ (here : Here) where
   sized t None = None
   sized t (Some n) = Some t
 
-  abbrev pub local_initialiser : ℕ → NameId → Pos → CType → Option Init → Check (Option TInit)
-  local_initialiser n name at t None = done None
-  local_initialiser n name at t (Some x) = do
+  abbrev pub written_initialiser : ℕ → NameId → Pos → CType → Init → Check (Option TInit)
+  written_initialiser n name at t x = do
     m ← size_now here.widths t
     r ← initialiser here at (sized t m) x
     _ ← lengthen here.widths n name at (elements_set r) t
     done r
+
+  abbrev pub local_initialiser : ℕ → NameId → Pos → CType → Option Init → Check (Option TInit)
+  local_initialiser n name at t None = done None
+  local_initialiser n name at t (Some x) = written_initialiser n name at t x
 
   abbrev pub faulty_initialiser : Pos → Option Init → Check (Option TInit)
   faulty_initialiser at None = done None
@@ -93,10 +101,8 @@ module _ (here : Here) where
 
   -- Declarators.
 
-  -- the parameters that the declarator wrote
-  abbrev pub params_if : Option Own → Option (List Parameter)
-  params_if None = None
-  params_if (Some own) = Some own.params
+  abbrev pub function_named : (is_local : Bool) → NameId → Pos → Option CType → Option Own → Check TDeclarator
+  function_named is_local name at t own = function_declared here.file is_local name at t (params_if own)
 
   abbrev pub completed_if : Option Init → Option CType → Check (Option CType)
   completed_if x None = done None
@@ -122,7 +128,7 @@ module _ (here : Here) where
       if at_file && has_typedef ss
       then typedef_declared name at s.ctype
       else (if is_function_of s.ctype (is_there s.own)
-      then function_declared here.file (at_file && has_local ss) name at s.ctype (params_if s.own)
+      then function_named (at_file && has_local ss) name at s.ctype s.own
       else variable_declared at_file ss name at x s.ctype)
 
   abbrev pub declarator_named : (at_file : Bool) → List Storage → Option CType → Declaring → Option Init → NameId × Pos → Check TDeclarator
@@ -145,8 +151,12 @@ module _ (here : Here) where
   is_alone [] = true
   is_alone (d ∷ ds) = false
 
+  -- the type that the specifiers of a declaration name
+  abbrev pub type_named : Decl → Check (Option CType)
+  type_named d = naming here d.specs (is_alone d.parts)
+
   -- a declaration
   abbrev pub declaration : (at_file : Bool) → Decl → Check (List TDeclarator)
   declaration at_file d = do
-    t ← naming here d.specs (is_alone d.parts)
+    t ← type_named d
     declarators at_file (out-Specs d.specs).storage t d.parts

@@ -1,6 +1,7 @@
 -- Initialisers of locals (C11 6.7.9): their expressions are typed, and the values go to the object as `sc_fill` says.
 -- Designators and braces inside braces are not taken.
-use Rattle.std.specs.Prelude.{Option, Some, None, List, [], ◌∷◌, map}
+use Rattle.std.specs.Prelude.{Bool, Option, Some, None, is_some, List, [], ◌∷◌, map}
+use Rattle.std.specs.List.{list_all}
 use Rattle.sc_base.specs.declared.pos.Pos.{Pos}
 use Rattle.sc_base.specs.declared.skip.Unsupported.TheVariants as u
 use Rattle.sc_tree.specs.declared.ctype.CType.{CType}
@@ -28,6 +29,18 @@ abbrev pub item_expressions : List InitItem → Option (List Expr)
 item_expressions [] = Some []
 item_expressions (x ∷ xs) = in_front (item_expression x) (item_expressions xs)
 
+-- those items that are expressions without designators, and whether all are
+abbrev pub with_expression : Option Expr → List Expr → List Expr
+with_expression None es = es
+with_expression (Some e) es = e ∷ es
+
+abbrev pub expressions_there : List InitItem → List Expr
+expressions_there [] = []
+expressions_there (x ∷ xs) = with_expression (item_expression x) (expressions_there xs)
+
+abbrev pub all_expressions : List InitItem → Bool
+all_expressions xs = list_all (λ x. is_some (item_expression x)) xs
+
 abbrev pub as_they_stand : List Typing → Check (List (Option TExpr))
 as_they_stand [] = done []
 as_they_stand (e ∷ es) = do
@@ -36,14 +49,20 @@ as_they_stand (e ∷ es) = do
   done (x ∷ xs)
 
 module _ (here : Here) where
+  abbrev pub values : List Expr → Check (List (Option TExpr))
+  values es = as_they_stand (map (typing here) es)
+
   abbrev pub list_initialiser : Pos → Option CType → Option (List Expr) → Check (Option TInit)
   list_initialiser at t None = unsupported u.Init at
-  list_initialiser at t (Some es) = as_they_stand (map (typing here) es) >>= λ xs. spread_if here.widths at t xs
+  list_initialiser at t (Some es) = values es >>= λ xs. spread_if here.widths at t xs
+
+  abbrev pub value_given : Pos → Option CType → Option TExpr → Check (Option TExpr)
+  value_given at t x = given x (one_value here.widths at t)
 
   abbrev pub one_initialiser : Pos → Option CType → Expr → Check (Option TInit)
   one_initialiser at t e = do
     x ← (typing here e).run
-    v ← given x (one_value here.widths at t)
+    v ← value_given at t x
     done (one v)
 
   abbrev pub initialiser_layer : Pos → Option CType → Init-F Init InitItem → Check (Option TInit)

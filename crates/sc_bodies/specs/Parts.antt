@@ -1,0 +1,21 @@
+-- Parts of statements that the code has as functions of their own.
+use Rattle.std.specs.Prelude.{false, Option}
+use Rattle.sc_base.specs.declared.pos.Pos.{Pos}
+use Rattle.sc_tree.specs.declared.decl.Decl.{Decl}
+use Rattle.sc_tree.specs.declared.expr.Expr.{Expr}
+use Rattle.sc_typed.specs.declared.expr.TExpr.{TExpr}
+use Rattle.sc_typed.specs.declared.stmt.TStmt.{TStmt}
+use Rattle.sc_typed.specs.declared.stmt.TStmt.TheVariants as st
+use Rattle.sc_rules.specs.Walks.{Check, ◌>>=◌, given}
+use Rattle.sc_statements.specs.Statements.{switched, statement}
+use Rattle.sc_typing.specs.Here.{Here}
+use Rattle.sc_typing.specs.Typing.{typing, valued}
+use Rattle.sc_declarations.specs.Declarations.{declaration}
+
+-- the number of a `switch`
+abbrev pub switch_number : Here → Pos → Expr → Check (Option TExpr)
+switch_number here at e = valued (typing here e) >>= λ x. given x (switched at)
+
+-- a declaration in a body
+abbrev pub declaration_statement : Here → Decl → Pos → Check (Option TStmt)
+declaration_statement here d at = declaration here false d >>= λ ds. statement (st.Decl ds at)
