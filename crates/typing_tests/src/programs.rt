@@ -13,7 +13,7 @@ enum Answer {
     Other,
 }
 
-fn answer(rt: &HostRuntime, first: &str, second: &str) -> Result<Answer, Fail> {
+fn answered(rt: &HostRuntime, first: &str, second: &str) -> Result<Answer, Fail> {
     match both(rt.alloc(), first, second)? {
         Ok(program) => Ok(Answer::Functions(program.functions.len())),
         Err(CheckAnswer::Duplicate(names, id)) => {
@@ -45,7 +45,7 @@ fn a_function_has_one_body(rt: HostRuntime) -> Result<(), Fail> {
             Answer::Functions(2),
         ),
     ] {
-        assert_eq!(rt; answer(&rt, first, second)?, want, "{first} {second}");
+        assert_eq!(rt; answered(&rt, first, second)?, want, "{first} {second}");
     }
     Ok(())
 }
