@@ -61,6 +61,7 @@ fn what_is_not_taken_is_skipped(rt: HostRuntime) -> Result<(), Fail> {
         ),
         ("void f(int n,int a[n]){}", Unsupported::Vla, 18),
         ("void f(void){char a[]=\"x\";}", Unsupported::Init, 19),
+        ("void f(void){char a[2]=L\"x\";}", Unsupported::Init, 19),
         ("void f(void){int a[2]={[0]=1};}", Unsupported::Init, 18),
         (
             "struct s{int a;char b[4];};void f(void){struct s x={1,\"abc\"};}",
