@@ -1,5 +1,6 @@
 -- The table of built-in functions, one name after the other.
-use Rattle.std.proofs.Common.{◌≡◌, ℕ, zero, suc, ◌+◌, ◌<◌, length, drop, get_or, map, Option, Some, None, List, [], ◌∷◌, ◌++◌, append_assoc, refl, sym, ◌∙◌, ap}
+use Rattle.std.proofs.Common.{◌≡◌, ℕ, zero, suc, ◌+◌, ◌<◌, length, drop, map, Option, Some, None, List, [], ◌∷◌, ◌++◌}
+use Rattle.std.proofs.Common.{append_assoc, refl, sym, ◌∙◌, ap}
 use Rattle.std.proofs.lemmas.List.{drop_more}
 use Rattle.std.proofs.lemmas.Option.{slice_get-get_or}
 use Rattle.std.specs.List.{slice_get}
@@ -13,16 +14,19 @@ use Rattle.sc_check.specs.Typed.{builtin_if}
 abbrev pub meanings : Option MachineSpec → List (List ℕ) → List (Option Builtin)
 meanings m ts = map (builtin m) ts
 
-pub one_more : (m : Option MachineSpec) (ts : List (List ℕ)) (k : ℕ) (b : Option Builtin) (before new all : List (Option Builtin)) → k < length ts
-    → b ≡ builtin_if m (slice_get ts k) → new ≡ before ++ b ∷ [] → before ++ meanings m (drop k ts) ≡ all → new ++ meanings m (drop (k + 1) ts) ≡ all
+pub one_more : (m : Option MachineSpec) (ts : List (List ℕ)) (k : ℕ) (b : Option Builtin)
+    (before new all : List (Option Builtin)) → k < length ts → b ≡ builtin_if m (slice_get ts k)
+    → new ≡ before ++ b ∷ [] → before ++ meanings m (drop k ts) ≡ all → new ++ meanings m (drop (k + 1) ts) ≡ all
 one_more m ts k b before new all within is added so_far =
     ap (λ (xs : List (Option Builtin)). xs ++ meanings m (drop (k + 1) ts)) added
     ∙ append_assoc before (b ∷ []) (meanings m (drop (k + 1) ts))
-    ∙ ap (λ (x : Option Builtin). before ++ x ∷ meanings m (drop (k + 1) ts)) (is ∙ ap (builtin_if m) (slice_get-get_or ts k [] within))
+    ∙ ap (λ (x : Option Builtin). before ++ x ∷ meanings m (drop (k + 1) ts))
+    (is ∙ ap (builtin_if m) (slice_get-get_or ts k [] within))
     ∙ ap (λ (xs : List (List ℕ)). before ++ meanings m xs) (sym (drop_more ts k [] within))
     ∙ so_far
 
-pub entry_found : (m : Option MachineSpec) (ts : List (List ℕ)) (n : ℕ) → entry_of (meanings m ts) n ≡ builtin_if m (slice_get ts n)
+pub entry_found : (m : Option MachineSpec) (ts : List (List ℕ)) (n : ℕ)
+    → entry_of (meanings m ts) n ≡ builtin_if m (slice_get ts n)
 entry_found m [] zero = refl
 entry_found m [] (suc n) = refl
 entry_found m (t ∷ ts) zero = refl

@@ -1,3 +1,4 @@
 pub mod Kept
 pub mod Built
+pub mod Heres
 pub mod Found

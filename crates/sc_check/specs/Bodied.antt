@@ -16,6 +16,10 @@ same_pair x y = nat_eq x.0 y.0 && nat_eq x.1 y.1
 abbrev pub with_pair : List (ℕ × ℕ) → ℕ × ℕ → List (ℕ × ℕ)
 with_pair ps p = if list_any (same_pair p) ps then ps else ps ++ p ∷ []
 
+-- whether a pair is among them
+abbrev pub has_pair : List (ℕ × ℕ) → (file name : ℕ) → Bool
+has_pair ps f n = list_any (same_pair (f, n)) ps
+
 abbrev pub name_in : Here → Head → ℕ
 name_in here h = (name_of (heading here h).name).0.at
 

@@ -42,7 +42,8 @@ linked_here w builtins t f =
     }
 
 -- what names mean where these are the structs, the declarations of variables and the bodies of all files
-abbrev pub known_here : Widths → List (Option Builtin) → List StructDef → List Record → List Bodied → (file : ℕ) → Here
+abbrev pub known_here :
+    Widths → List (Option Builtin) → List StructDef → List Record → List Bodied → (file : ℕ) → Here
 known_here w builtins structs records bodies f =
     record {
       widths = w;

@@ -125,7 +125,8 @@ second_here s v bodies f =
     }
 
 abbrev pub second_walk : Sources → Walk → List Bodied → Made × Walk
-second_walk s v bodies = walk_files (second_here s v bodies) nothing_made s.units (record no_walk { structs = v.structs })
+second_walk s v bodies =
+    walk_files (second_here s v bodies) nothing_made s.units (record no_walk { structs = v.structs })
 
 abbrev pub program_of : Sources → Made × Walk → Program
 program_of s (m, w) =

@@ -2,7 +2,6 @@
 // on types. Which of them are local to their file is found by hash.
 
 ghost use Rattle.std.specs.Prelude.{◌≡◌, ℕ, [], ◌++◌, IfOk, OnOk};
-ghost use Rattle.std.specs.List.{list_any};
 ghost use Rattle.sc_typing.specs.Tables as tables;
 ghost use Rattle.sc_check.specs.Bodied as spec;
 ghost use Rattle.sc_check.specs.Heres.{alone_here};
@@ -45,7 +44,8 @@ impl LocalFunctions {
 
     /// Those that a declaration in their file makes local to it.
     pub fn of(alloc: Global, locals: &[(u32, NameId)]) -> Result<LocalFunctions, OutOfMemory>
-        ensures { IfOk result (λ l. (file name : ℕ) → list_any (spec.same_pair (file, name)) l ≡ typed.is_local_function locals.now file name) }
+        ensures { IfOk result (λ l. (file name : ℕ)
+            → spec.has_pair l file name ≡ typed.is_local_function locals.now file name) }
     {
         let mut all = LocalFunctions {
             keys: IndexSet::new(alloc),
@@ -58,7 +58,7 @@ impl LocalFunctions {
 
     /// Whether a function is local to that file.
     pub fn contains(&self, file: u32, name: NameId) -> bool
-        ensures { result ≡ list_any (spec.same_pair (file, name.at)) self.now }
+        ensures { result ≡ spec.has_pair self.now file name.at }
     {
         self.keys.contains(&(file, name.at))
     }
@@ -71,7 +71,8 @@ fn add_body(
     local: &LocalFunctions,
     s: &Segment,
 ) -> Result<(), OutOfMemory>
-    ensures { OnOk result (bodies.new ≡ bodies.old ++ spec.body_at (λ f n. list_any (spec.same_pair (f, n)) local.now) (tables.here_of here.now) s.now) }
+    ensures { OnOk result (bodies.new
+        ≡ bodies.old ++ spec.body_at (spec.has_pair local.now) (tables.here_of here.now) s.now) }
 {
     match s {
         Segment::Function(h, _) => {
@@ -93,7 +94,8 @@ fn add_bodies(
     local: &LocalFunctions,
     ss: &[Segment],
 ) -> Result<(), OutOfMemory>
-    ensures { OnOk result (bodies.new ≡ bodies.old ++ spec.bodies_at (λ f n. list_any (spec.same_pair (f, n)) local.now) (tables.here_of here.now) ss.now) }
+    ensures { OnOk result (bodies.new
+        ≡ bodies.old ++ spec.bodies_at (spec.has_pair local.now) (tables.here_of here.now) ss.now) }
 {
     for s in ss {
         add_body(bodies, here, local, s)?;
@@ -109,7 +111,8 @@ pub fn all_bodies(
     local: &LocalFunctions,
     units: &[Unit],
 ) -> Result<List<Bodied>, OutOfMemory>
-    ensures { IfOk result (λ bodies. bodies ≡ spec.bodies_over (λ f n. list_any (spec.same_pair (f, n)) local.now) (alone_here w builtins.now) units.now) }
+    ensures { IfOk result (λ bodies. bodies
+        ≡ spec.bodies_over (spec.has_pair local.now) (alone_here w builtins.now) units.now) }
 {
     let mut bodies = List::new(alloc);
     for x in units {

@@ -32,7 +32,8 @@ pub fn builtin_table(
     names: &Names,
     machine: &Option<MachineSpec>,
 ) -> Result<List<Option<Builtin>>, OutOfMemory>
-    ensures { IfOk result (λ builtins. (n : ℕ) → entry_of builtins n ≡ spec.builtin_if machine.now (slice_get names.now n)) }
+    ensures { IfOk result (λ builtins. (n : ℕ)
+        → entry_of builtins n ≡ spec.builtin_if machine.now (slice_get names.now n)) }
 {
     let mut builtins = List::new(alloc);
     for number in 0..names.len() {

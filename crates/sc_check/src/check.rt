@@ -30,8 +30,10 @@ fn program(
     first: Walk,
     bodies: &[Bodied],
 ) -> Result<Program, OutOfMemory>
-    ensures { IfOk result (λ p. p ≡ program_of (record { names = names; files = files; units = units.now; widths = widths; machine = machine })
-        (walk_files (known_here widths builtins.now first.structs first.records bodies.now) nothing_made units.now (record no_walk { structs = first.structs }))) }
+    ensures { IfOk result (λ p. p
+        ≡ program_of (record { names = names; files = files; units = units.now; widths = widths; machine = machine })
+        (walk_files (known_here widths builtins.now first.structs first.records bodies.now) nothing_made units.now
+        (record no_walk { structs = first.structs }))) }
 {
     let (functions, (notes, walk)) = second_walk(alloc, widths, builtins, first, bodies, units)?;
     let Walk {
@@ -65,7 +67,8 @@ pub fn check(
     widths: Widths,
     machine: Option<MachineSpec>,
 ) -> Result<Program, CheckAnswer>
-    ensures { Answers (record { names = names; files = files; units = units.now; widths = widths; machine = machine }) result }
+    ensures { Answers (record { names = names; files = files; units = units.now; widths = widths; machine = machine })
+        result }
 {
     let builtins = builtin_table(alloc, &names, &machine)?;
     let first = first_walk(alloc, widths, builtins.as_slice(), units)?;

@@ -29,7 +29,8 @@ fn file_declaration(
     notes: &mut List<Skip>,
 ) -> Result<(), OutOfMemory>
     requires { numbers.old ≡ keys_of walk.old.globals }
-    ensures noted { OnOk result (spec.file_declaration (tables.here_of here.now) d.now notes.old walk.old ≡ (notes.new, walk.new)) }
+    ensures noted { OnOk result (spec.file_declaration (tables.here_of here.now) d.now notes.old walk.old
+        ≡ (notes.new, walk.new)) }
     ensures tied { OnOk result (numbers.new ≡ keys_of walk.new.globals) }
 {
     let globals = walk.globals.len();
@@ -49,7 +50,8 @@ fn segment(
     s: &Segment,
 ) -> Result<(), OutOfMemory>
     requires { numbers.old ≡ keys_of walk.old.globals }
-    ensures made { OnOk result (spec.segment_in (tables.here_of here.now) (made functions.old notes.old) s.now walk.old ≡ (made functions.new notes.new, walk.new)) }
+    ensures made { OnOk result (spec.segment_in (tables.here_of here.now) (made functions.old notes.old) s.now walk.old
+        ≡ (made functions.new notes.new, walk.new)) }
     ensures tied { OnOk result (numbers.new ≡ keys_of walk.new.globals) }
 {
     match s {
@@ -76,7 +78,8 @@ fn segments(
     ss: &[Segment],
 ) -> Result<(), OutOfMemory>
     requires { numbers.old ≡ keys_of walk.old.globals }
-    ensures made { OnOk result (spec.segments_in (tables.here_of here.now) (made functions.old notes.old) ss.now walk.old ≡ (made functions.new notes.new, walk.new)) }
+    ensures made { OnOk result (spec.segments_in (tables.here_of here.now) (made functions.old notes.old) ss.now walk.old
+        ≡ (made functions.new notes.new, walk.new)) }
     ensures tied { OnOk result (numbers.new ≡ keys_of walk.new.globals) }
 {
     for s in ss {
@@ -107,7 +110,8 @@ pub fn file(
     ss: &[Segment],
 ) -> Result<(), OutOfMemory>
     requires { numbers.old ≡ keys_of walk.old.globals }
-    ensures made { OnOk result (spec.file_in (tables.here_of here.now) (made functions.old notes.old) ss.now walk.old ≡ (made functions.new notes.new, walk.new)) }
+    ensures made { OnOk result (spec.file_in (tables.here_of here.now) (made functions.old notes.old) ss.now walk.old
+        ≡ (made functions.new notes.new, walk.new)) }
     ensures tied { OnOk result (numbers.new ≡ keys_of walk.new.globals) }
 {
     begin(walk);

@@ -10,15 +10,13 @@ ghost use Rattle.sc_check.specs.Files as spec;
 ghost use Rattle.sc_check.specs.Parts as parts;
 
 use crate::heads::{
-    close_params, declare, finish, judge_count, judge_jumps, judge_signature, judge_variadic,
-    note_local, open_params, shape_of,
+    close_params, finish, judge_head, judge_jumps, open_params, shape_of, skip_body,
 };
-use sc_base::{Boxed, List, NameId, OutOfMemory, Pos, Skip};
+use sc_base::{Boxed, List, NameId, OutOfMemory, Pos};
 use sc_bodies::{Around, bare_statement};
 use sc_declare::{GlobalNumbers, has_local, signature_of};
-use sc_files::skip_pos;
 use sc_names::Scope;
-use sc_rules::{Fault, Walk, fault};
+use sc_rules::Walk;
 use sc_tree::ctype::CType;
 use sc_tree::expr::Head;
 use sc_tree::stmt::Stmt;
@@ -108,7 +106,8 @@ fn tree_in(
     s: &Stmt,
 ) -> Result<Option<Boxed<TStmt>>, OutOfMemory>
     requires { numbers.old ≡ keys_of walk.old.globals }
-    ensures typed { Gives (parts.tree_in (tables.here_of here.now) (option_copied t.entry) s.now walk.old) result walk.new }
+    ensures typed { Gives (parts.tree_in (tables.here_of here.now) (option_copied t.entry) s.now walk.old)
+        result walk.new }
     ensures tied { OnOk result (numbers.new ≡ keys_of walk.new.globals) }
 {
     let around = Around::function(t);
@@ -128,16 +127,36 @@ fn body_in(
     b: &Body,
 ) -> Result<Option<Boxed<TStmt>>, OutOfMemory>
     requires { numbers.old ≡ keys_of walk.old.globals }
-    ensures typed { Gives (spec.body_in (tables.here_of here.now) (option_copied t.entry) at b.now walk.old) result walk.new }
+    ensures typed { Gives (spec.body_in (tables.here_of here.now) (option_copied t.entry) at b.now walk.old)
+        result walk.new }
     ensures tied { OnOk result (numbers.new ≡ keys_of walk.new.globals) }
 {
     match b {
-        Body::Skipped(skip) => {
-            let pos = skip_pos(at, *skip);
-            Ok(fault(walk, Fault { pos, skip: *skip }))
-        }
+        Body::Skipped(skip) => Ok(skip_body(walk, at, *skip)),
         Body::Tree(s) => tree_in(alloc, walk, numbers, here, t, s.get()),
     }
+}
+
+// The same in the scope of the parameters.
+fn body_scoped(
+    alloc: Global,
+    walk: &mut Walk,
+    numbers: &mut GlobalNumbers,
+    here: &Tables,
+    scope: Scope,
+    t: Option<&CType>,
+    at: Pos,
+    b: &Body,
+) -> Result<Option<Boxed<TStmt>>, OutOfMemory>
+    requires { numbers.old ≡ keys_of walk.old.globals }
+    ensures typed { Gives (spec.body_scoped (tables.here_of here.now) scope (option_copied t.entry) at b.now walk.old)
+        result walk.new }
+    ensures tied { OnOk result (numbers.new ≡ keys_of walk.new.globals) }
+{
+    open_params(walk, scope)?;
+    let s = body_in(alloc, walk, numbers, here, t, at, b)?;
+    close_params(walk)?;
+    Ok(s)
 }
 
 // A function of that name and type, with its parameters.
@@ -149,29 +168,19 @@ fn function_shaped(
     name: NameId,
     at: Pos,
     is_local: bool,
-    t: Option<CType>,
+    t: Option<&CType>,
     own: Own,
     b: &Body,
 ) -> Result<Function, OutOfMemory>
     requires { numbers.old ≡ keys_of walk.old.globals }
-    ensures typed { Gives (spec.function_shaped (tables.here_of here.now) name at is_local t own b.now walk.old) result walk.new }
+    ensures typed { Gives (spec.function_shaped (tables.here_of here.now) name at is_local (option_copied t.entry)
+        own b.now walk.old) result walk.new }
     ensures tied { OnOk result (numbers.new ≡ keys_of walk.new.globals) }
 {
-    let Own {
-        params,
-        scope,
-        variadic,
-        brackets,
-    } = own;
-    judge_signature(walk, at, t.as_ref(), &params);
-    declare(alloc, walk, name, at, t.as_ref(), brackets)?;
-    note_local(walk, here.file(), name, is_local)?;
-    judge_variadic(walk, at, variadic);
-    judge_count(walk, at, params.len());
-    open_params(walk, scope)?;
-    let result = result_type(alloc, t.as_ref())?;
-    let s = body_in(alloc, walk, numbers, here, result.as_ref(), at, b)?;
-    close_params(walk)?;
+    judge_head(alloc, walk, here, name, at, is_local, t, &own)?;
+    let Own { params, scope, .. } = own;
+    let result = result_type(alloc, t)?;
+    let s = body_scoped(alloc, walk, numbers, here, scope, result.as_ref(), at, b)?;
     finish(alloc, walk, name, at, params, result, s)
 }
 
@@ -196,6 +205,15 @@ pub fn function(
     let Shape { ctype, own } = shape_of(alloc, walk, here, h, at)?;
     let own = own_or(alloc, own)?;
     function_shaped(
-        alloc, walk, numbers, here, name, at, is_local, ctype, own, b,
+        alloc,
+        walk,
+        numbers,
+        here,
+        name,
+        at,
+        is_local,
+        ctype.as_ref(),
+        own,
+        b,
     )
 }

@@ -83,7 +83,8 @@ pub fn first_walk(
     builtins: &[Option<Builtin>],
     units: &[Unit],
 ) -> Result<Walk, OutOfMemory>
-    ensures { IfOk result (λ walk. walk ≡ (spec.walk_files (alone_here w builtins.now) spec.nothing_made units.now spec.no_walk).1) }
+    ensures { IfOk result (λ walk. walk
+        ≡ (spec.walk_files (alone_here w builtins.now) spec.nothing_made units.now spec.no_walk).1) }
 {
     let mut walk = new_walk(alloc, List::new(alloc));
     let mut numbers = GlobalNumbers::new(alloc);
@@ -119,7 +120,8 @@ fn second_file(
     requires tied { numbers.old ≡ keys_of walk.old.globals }
     requires tables { AreTables linked }
     ensures turned { IfOk result (λ t. AreTurned linked x.now.file t) }
-    ensures made { OnOk result (files.file_in (linked_here w builtins.now linked x.now.file) (made functions.old notes.old) x.now.segments walk.old ≡ (made functions.new notes.new, walk.new)) }
+    ensures made { OnOk result (files.file_in (linked_here w builtins.now linked x.now.file)
+        (made functions.old notes.old) x.now.segments walk.old ≡ (made functions.new notes.new, walk.new)) }
     ensures tied { OnOk result (numbers.new ≡ keys_of walk.new.globals) }
 {
     let linked = linked.turn_to(alloc, x.file)?;
@@ -146,7 +148,9 @@ fn linked_walk(
     units: &[Unit],
 ) -> Result<(List<Function>, (List<Skip>, Walk)), OutOfMemory>
     requires { AreTables linked }
-    ensures { IfOk result (λ r. found r ≡ spec.walk_files (linked_here w builtins.now linked) spec.nothing_made units.now (record spec.no_walk { structs = structs })) }
+    ensures { IfOk result (λ r. found r
+        ≡ spec.walk_files (linked_here w builtins.now linked) spec.nothing_made units.now
+        (record spec.no_walk { structs = structs })) }
 {
     let mut walk = new_walk(alloc, structs);
     let mut numbers = GlobalNumbers::new(alloc);
@@ -178,7 +182,9 @@ pub fn second_walk(
     bodies: &[Bodied],
     units: &[Unit],
 ) -> Result<(List<Function>, (List<Skip>, Walk)), OutOfMemory>
-    ensures { IfOk result (λ r. found r ≡ spec.walk_files (known_here w builtins.now first.structs first.records bodies.now) spec.nothing_made units.now (record spec.no_walk { structs = first.structs })) }
+    ensures { IfOk result (λ r. found r
+        ≡ spec.walk_files (known_here w builtins.now first.structs first.records bodies.now) spec.nothing_made
+        units.now (record spec.no_walk { structs = first.structs })) }
 {
     let Walk {
         structs,
