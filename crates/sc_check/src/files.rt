@@ -78,8 +78,8 @@ fn segments(
     ss: &[Segment],
 ) -> Result<(), OutOfMemory>
     requires { numbers.old ≡ keys_of walk.old.globals }
-    ensures made { OnOk result (spec.segments_in (tables.here_of here.now) (made functions.old notes.old) ss.now walk.old
-        ≡ (made functions.new notes.new, walk.new)) }
+    ensures made { OnOk result (spec.segments_in (tables.here_of here.now) (made functions.old notes.old) ss.now
+        walk.old ≡ (made functions.new notes.new, walk.new)) }
     ensures tied { OnOk result (numbers.new ≡ keys_of walk.new.globals) }
 {
     for s in ss {

@@ -23,7 +23,7 @@ use scopes::Scopes;
 use std::alloc::Global;
 
 /// The tables of a file of which nothing is known of other files.
-#[tactic(auto, unfolding(tables::here_of))]
+#[tactic(auto, unfolding(sc_typing::specs::Tables::here_of))]
 pub fn alone_tables<'a>(w: Widths, file: u32, builtins: &'a [Option<Builtin>]) -> Tables<'a>
     ensures { tables.here_of result ≡ alone_here w builtins.entry.now file }
 {
