@@ -1,7 +1,7 @@
 //! The typing of all files of a program (C11 6.5 to 6.9): the typed program, in which each function has its tree or
 //! the first thing in it that is not taken, and each declaration that is left out has its note.
 //!
-//! `check` is the whole: it walks over all files twice, since what a variable's type is over all files is known
+//! `checking` has the whole: it walks over all files twice, since what a variable's type is over all files is known
 //! behind the first walk. `walks` has these walks, `files` one file, `functions` one function, `heads` the steps
 //! of a function's head, `bodied` the functions with bodies of all files, `builtins` the table of built-in
 //! functions, `answer` why there may be no program.
@@ -10,11 +10,11 @@
 mod answer;
 mod bodied;
 mod builtins;
-mod check;
+mod checking;
 mod files;
 mod functions;
 mod heads;
 mod walks;
 
 pub use answer::CheckAnswer;
-pub use check::check;
+pub use checking::check;
