@@ -1,6 +1,6 @@
 -- The table of built-in functions, one name after the other.
-use Rattle.std.proofs.Common.{◌≡◌, ℕ, zero, suc, ◌+◌, ◌<◌, ◌≤◌, length, drop, map, Option, Some, None, List, [], ◌∷◌, ◌++◌}
-use Rattle.std.proofs.Common.{append_assoc, refl, sym, ◌∙◌, ap}
+use Rattle.std.proofs.Common.{◌≡◌, ℕ, zero, suc, ◌+◌, ◌<◌, ◌≤◌, length, drop, map, Option, Some, None, List, []}
+use Rattle.std.proofs.Common.{◌∷◌, ◌++◌, append_assoc, refl, sym, ◌∙◌, ap}
 use Rattle.std.proofs.lemmas.List.{append-nil, drop_more, drop_all}
 use Rattle.std.proofs.lemmas.Option.{slice_get-get_or}
 use Rattle.std.specs.List.{slice_get}
@@ -33,9 +33,11 @@ entry_found m (t ∷ ts) zero = refl
 entry_found m (t ∷ ts) (suc n) = entry_found m ts n
 
 -- the table of all names
-pub all_found : (m : Option MachineSpec) (ts : List (List ℕ)) (k : ℕ) (builtins : List (Option Builtin)) → length ts ≤ k
+pub all_found : (m : Option MachineSpec) (ts : List (List ℕ)) (k : ℕ) (builtins : List (Option Builtin))
+    → length ts ≤ k
     → builtins ++ meanings m (drop k ts) ≡ meanings m ts → (n : ℕ) → entry_of builtins n ≡ builtin_if m (slice_get ts n)
 all_found m ts k builtins done so_far n =
     ap (λ (bs : List (Option Builtin)). entry_of bs n)
-    (sym (append-nil builtins) ∙ ap (λ (xs : List (List ℕ)). builtins ++ meanings m xs) (sym (drop_all k ts done)) ∙ so_far)
+    (sym (append-nil builtins) ∙ ap (λ (xs : List (List ℕ)). builtins ++ meanings m xs) (sym (drop_all k ts done))
+    ∙ so_far)
     ∙ entry_found m ts n

@@ -23,8 +23,8 @@ use Rattle.sc_names.specs.Notes.{note_unless}
 use Rattle.sc_names.specs.Names.{declare_or}
 use Rattle.sc_declare.specs.declared.functions.Parameter.{Parameter}
 use Rattle.sc_declare.specs.Functions.{no_opaque, value_at, parameter_at, parameter_if, own_parameters, result_at}
-use Rattle.sc_declare.specs.Functions.{signature_if, signature_at, function_beside, declare_function, declare_function_if}
-use Rattle.sc_declare.specs.Functions.{local_function}
+use Rattle.sc_declare.specs.Functions.{signature_if, signature_at, function_beside, declare_function}
+use Rattle.sc_declare.specs.Functions.{declare_function_if, local_function}
 use Rattle.sc_jumps.specs.declared.jumps.Goto.{Goto}
 use Rattle.sc_jumps.specs.Jumps.{Way, Found, is_ahead, label_of, labels_differ, leads_to, gotos_lead, jumps_of}
 use Rattle.typing_laws.specs.Kept.{KeepsGlobals}

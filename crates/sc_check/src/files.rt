@@ -68,6 +68,7 @@ fn segment(
 }
 
 // The segments of a file, in their order.
+#[tactic(auto, using(crate::proofs::Walked::one_segment))]
 fn segments(
     alloc: Global,
     walk: &mut Walk,

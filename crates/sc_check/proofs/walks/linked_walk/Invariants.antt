@@ -11,7 +11,8 @@ abbrev pub invariant-loop-x : goal.invariant-loop-x
 invariant-loop-x l = record {
   made :
       walk_files (linked_here l.w l.builtins l.fn.linked) (made l.functions l.notes) (drop l.x-index l.units) l.walk
-      ≡ walk_files (linked_here l.fn.w l.fn.builtins l.fn.linked) nothing_made l.fn.units (record no_walk { structs = l.fn.structs });
+      ≡ walk_files (linked_here l.fn.w l.fn.builtins l.fn.linked) nothing_made l.fn.units
+      (record no_walk { structs = l.fn.structs });
   tied : l.numbers ≡ keys_of l.walk.globals;
   tables : AreTables l.tables;
   same_bodies : body l.tables ≡ body l.fn.linked;
