@@ -44,7 +44,7 @@ fn linked_tables<'a>(
     builtins: &'a [Option<Builtin>],
     linked: &'a FileTables,
 ) -> Tables<'a>
-    requires { AreTables linked.entry.now }
+    requires { AreTables linked.now }
     ensures { tables.here_of result ≡ linked_here w builtins.entry.now linked.entry.now (file_of linked.entry.now) }
 {
     Tables {
