@@ -10,7 +10,10 @@ mod Order
 mod OrderOf
 mod Parts
 mod Same
+mod Sound
+mod SoundOf
 mod Statements
 mod Steps
 mod Values
 mod Walks
+mod Ways

@@ -22,11 +22,11 @@ use Rattle.flow_graph.proofs.OrderOf.{statement_orders}
 use Rattle.flow_graph.proofs.Loops.{Meets}
 use Rattle.flow_graph.proofs.Statements.{stm_does}
 
-differs : (b : Bool) (m n : ℕ) → nat_eq m n ≡ b → (m ≡ n → ⊥) → nat_eq m n ≡ false
+pub differs : (b : Bool) (m n : ℕ) → nat_eq m n ≡ b → (m ≡ n → ⊥) → nat_eq m n ≡ false
 differs true m n h d = absurd (d (eqb-true m n h))
 differs false m n h d = h
 
-less : (m n : ℕ) → m < suc n → (m ≡ n → ⊥) → m < n
+pub less : (m n : ℕ) → m < suc n → (m ≡ n → ⊥) → m < n
 less m n h d = omega (arith, h, d)
 
 module _ (s : Source) (p : Layout) (choice : List Bool) where
@@ -130,7 +130,7 @@ module _ (s : Source) (p : Layout) (choice : List Bool) where
       (λ at h k w. turned_walk entry ns (suc first) ord.1 (omega (arith, sizes)) at h k w) at h refl k w
 
   -- the nodes newer than the entry are met by no walk from it
-  ordered_drop : (j : ℕ) (ns : List Node) → Ordered ns → Ordered (drop j ns)
+  pub ordered_drop : (j : ℕ) (ns : List Node) → Ordered ns → Ordered (drop j ns)
   ordered_drop zero ns ord = ord
   ordered_drop (suc j) [] ord = tt
   ordered_drop (suc j) (n ∷ ns) ord = ordered_drop j ns ord.1
@@ -143,10 +143,10 @@ module _ (s : Source) (p : Layout) (choice : List Bool) where
       older_drop j ns at h k w ∙ sym (skips n ns at (omega (arith, h, length-drop j ns)) k w)
 
   -- the walk from the first node is that from the entry
-  abbrev rest : ℕ × Growing → List Node
+  abbrev pub rest : ℕ × Growing → List Node
   rest r = drop (length r.1.nodes - (r.0 + 1)) r.1.nodes
 
-  rest_length : (r : ℕ × Growing) → r.0 < length r.1.nodes → length (rest r) ≡ r.0 + 1
+  pub rest_length : (r : ℕ × Growing) → r.0 < length r.1.nodes → length (rest r) ≡ r.0 + 1
   rest_length r h = omega (arith, h, length-drop (length r.1.nodes - (r.0 + 1)) r.1.nodes)
 
   cut_walk : (r : ℕ × Growing) → Ordered r.1.nodes → r.0 < length r.1.nodes → (k : Kept) (w : World)
@@ -184,10 +184,10 @@ module _ (s : Source) (p : Layout) (choice : List Bool) where
       (goes_behind entry first (length ns) n sizes ord.0, all_go_on entry (suc first) ns ord.1 (omega (arith, sizes)))
 
   -- The whole.
-  abbrev at_end : Stm → Growing
+  abbrev pub at_end : Stm → Growing
   at_end x = record { nodes = Mark (end_of x) what.End 0 ∷ Exit None ∷ []; temps = 0; slots = 0 }
 
-  placed : (x : Stm) → Placed (at_end x) (grown s.depth x)
+  pub placed : (x : Stm) → Placed (at_end x) (grown s.depth x)
   placed x =
       (statement_orders s.depth x 0).by (all_at 1) (at_end x) (omega arith, (tt, tt))
       (record { next = omega arith; leave = omega arith; again = omega arith; label = λ n. omega arith })

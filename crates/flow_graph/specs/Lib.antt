@@ -1,3 +1,4 @@
+pub mod Conditions
 pub mod Expressions
 pub mod Growing
 pub mod Laws

@@ -5,4 +5,4 @@
 
 mod laws;
 
-pub use laws::{there_is_no_cycle, walks_are_runs};
+pub use laws::{nodes_are_fine, there_is_no_cycle, walks_are_runs, what_is_read_was_kept};

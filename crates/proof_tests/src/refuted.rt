@@ -4,7 +4,7 @@ ghost use Rattle.std.specs.Prelude.{◌<◌, ◌≤◌};
 
 use crate::formulas::{Formula, judge, refutation};
 use rup_check::Checked;
-use sat_base::{Clause, ClauseList, Lit, OutOfMemory};
+use sat_base::{Clause, ClauseList, Lit, OutOfMemory, Step};
 use std::alloc::Global;
 use std::process::Abort;
 use std::test::Fail;
@@ -91,9 +91,10 @@ fn three_clauses_over_three_variables(rt: HostRuntime) -> Result<(), Fail> {
     Ok(())
 }
 
-const PIGEONS: usize = 5;
+/// There are so many pigeons and holes at most.
+const PIGEONS: usize = 8;
 
-const HOLES: usize = 4;
+const HOLES: usize = 7;
 
 /// The literal that says that this pigeon is in this hole, or that it is not.
 fn inside(pigeon: usize, hole: usize, neg: bool) -> Lit
@@ -106,16 +107,15 @@ fn inside(pigeon: usize, hole: usize, neg: bool) -> Lit
     }
 }
 
-/// The pigeon is in some hole.
-fn some_hole(alloc: Global, pigeon: usize) -> Result<Clause, OutOfMemory>
-    requires { pigeon < PIGEONS }
+/// The pigeon is in some of so many holes.
+fn some_hole(alloc: Global, pigeon: usize, holes: usize) -> Result<Clause, OutOfMemory>
+    requires pigeon { pigeon < PIGEONS }
+    requires holes { holes ≤ HOLES }
 {
-    let lits = [
-        inside(pigeon, 0, false),
-        inside(pigeon, 1, false),
-        inside(pigeon, 2, false),
-        inside(pigeon, 3, false),
-    ];
+    let mut lits = Vec::new(alloc);
+    for hole in 0..holes {
+        lits.push(inside(pigeon, hole, false))?;
+    }
     Clause::of(alloc, &lits)
 }
 
@@ -136,21 +136,30 @@ fn at_most_one(
     Ok(())
 }
 
-fn in_each_hole(clauses: &mut ClauseList, alloc: Global, pigeon: usize) -> Result<(), OutOfMemory>
-    requires { pigeon < PIGEONS }
+fn in_each_hole(
+    clauses: &mut ClauseList,
+    alloc: Global,
+    pigeon: usize,
+    holes: usize,
+) -> Result<(), OutOfMemory>
+    requires pigeon { pigeon < PIGEONS }
+    requires holes { holes ≤ HOLES }
 {
-    for hole in 0..HOLES {
+    for hole in 0..holes {
         at_most_one(clauses, alloc, pigeon, hole)?;
     }
     Ok(())
 }
 
-/// Each of five pigeons is in one of four holes, and no two in one.
-fn pigeons(alloc: Global) -> Result<Formula, OutOfMemory> {
+/// Each of so many pigeons is in one of so many holes, and no two in one.
+fn pigeons(alloc: Global, count: usize, holes: usize) -> Result<Formula, OutOfMemory>
+    requires count { count ≤ PIGEONS }
+    requires holes { holes ≤ HOLES }
+{
     let mut clauses = ClauseList::new(alloc);
-    for pigeon in 0..PIGEONS {
-        clauses.push(some_hole(alloc, pigeon)?)?;
-        in_each_hole(&mut clauses, alloc, pigeon)?;
+    for pigeon in 0..count {
+        clauses.push(some_hole(alloc, pigeon, holes)?)?;
+        in_each_hole(&mut clauses, alloc, pigeon, holes)?;
     }
     Ok(Formula {
         vars: PIGEONS * HOLES,
@@ -160,7 +169,26 @@ fn pigeons(alloc: Global) -> Result<Formula, OutOfMemory> {
 
 #[test]
 fn five_pigeons_do_not_fit_into_four_holes(rt: HostRuntime) -> Result<(), Fail> {
-    let formula = pigeons(rt.alloc())?;
+    let formula = pigeons(rt.alloc(), 5, 4)?;
     assert!(rt; is_refuted(&rt, rt.alloc(), &formula)?);
+    Ok(())
+}
+
+fn takes_out(steps: &[Step]) -> bool {
+    steps.iter().any(|step| matches!(step, Step::Drop(_)))
+}
+
+/// The solver deletes clauses on the way, and its certificate takes them out.
+#[test]
+fn eight_pigeons_do_not_fit_into_seven_holes(rt: HostRuntime) -> Result<(), Fail> {
+    let formula = pigeons(rt.alloc(), 8, 7)?;
+    match refutation(&rt, rt.alloc(), &formula)? {
+        None => assert!(rt; false),
+        Some(steps) => {
+            assert!(rt; takes_out(&steps));
+            let checked = judge(&rt, rt.alloc(), &formula, &steps)?;
+            assert_eq!(rt; checked, Checked::Yes);
+        }
+    }
     Ok(())
 }

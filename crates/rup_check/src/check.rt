@@ -7,11 +7,12 @@ ghost use Rattle.rup_check.specs.Checked.{step_lits, StepsBelow, adds_empty, end
 ghost use Rattle.rup_check.specs.Stepping.{IsAdded, IsDropped, IsTaken, end_of};
 
 use crate::find::find;
+use crate::index::hash_of;
 use crate::look::{OpenLits, open_lits};
 use crate::marks::Marks;
 use crate::rup::is_rup;
 use crate::store::Store;
-use crate::watch::{Hints, hash_of};
+use crate::watch::Hints;
 use sat_base::{Clause, ClauseList, Lit, OutOfMemory, Step};
 use std::alloc::Global;
 

@@ -5,9 +5,10 @@ ghost use Rattle.sat_base.specs.Logic.{LitsBelow};
 ghost use Rattle.sat_base.specs.Certificates.{HasSameLits};
 ghost use Rattle.rup_check.specs.Stored.{StoredBelow, IsFound, IsNowhere};
 
+use crate::index::hash_of;
 use crate::marks::Marks;
 use crate::store::Store;
-use crate::watch::{Hints, hash_of};
+use crate::watch::Hints;
 use sat_base::{Lit, OutOfMemory};
 
 /// Whether two clauses have the same set of literals. It is linear in both.

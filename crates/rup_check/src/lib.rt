@@ -6,6 +6,7 @@
 mod check;
 mod closing;
 mod find;
+mod index;
 mod laws;
 mod look;
 mod marks;

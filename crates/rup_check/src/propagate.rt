@@ -40,7 +40,7 @@ fn visit_entry(
     marks: &mut Marks,
     hints: &mut Hints,
     list: Option<Lit>,
-    ids: &mut Vec<usize>,
+    ids: &mut Vec<u32>,
     i: &mut usize,
 ) -> Result<bool, OutOfMemory>
     requires { StoredBelow marks.old.vars store.now }
@@ -51,7 +51,7 @@ fn visit_entry(
     if index >= ids.len() {
         return Ok(false);
     }
-    let id = ids[index];
+    let id = ids[index] as usize;
     if is_settled(marks, hints, id, list) {
         *i = index + 1;
         return Ok(false);

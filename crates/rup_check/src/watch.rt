@@ -1,53 +1,48 @@
-//! Watched literals, and an index of the clauses by their sets of literals. Both only say where to look:
-//! what is found there is tested on the clause itself, and no answer rests on them.
+//! Watched literals. They only say where to look: what is found there is tested on the clause itself, and no answer
+//! rests on them.
 
-use crate::marks::Marks;
-use indexmap::IndexMap;
+use crate::index::{Index, code_of};
 use sat_base::{Lit, OutOfMemory};
 use std::alloc::Global;
 use std::mem;
 
-/// The two literals of a clause that are watched.
+/// No literal, or no clause.
+const NONE: u32 = u32::MAX;
+
+/// The numbers of the two literals of a clause that are watched, or of none.
 #[derive(Clone, Copy, Debug)]
 struct Pair {
-    first: Lit,
-    second: Lit,
+    first: u32,
+    second: u32,
 }
 
 /// Which clauses watch which literal, and which clauses may have one set of literals.
 ///
 /// A clause with two different literals or more is in the lists of two of them, and is looked at where
-/// one of these becomes false. Clauses of one hash form a chain from the newest to the oldest.
+/// one of these becomes false.
 #[derive(Drop)]
 pub struct Hints {
     alloc: Global,
-    lists: Vec<Vec<usize>>,
-    short: Vec<usize>,
-    pairs: Vec<Option<Pair>>,
-    newest: IndexMap<u64, usize>,
-    older: Vec<Option<usize>>,
+    lists: Vec<Vec<u32>>,
+    short: Vec<u32>,
+    pairs: Vec<Pair>,
+    index: Index,
 }
 
-/// The number of a literal among all literals. It wraps where memory could not hold its list.
-fn list_number(lit: Lit) -> usize {
-    lit.var.wrapping_mul(2).wrapping_add(usize::from(lit.neg))
-}
-
-/// A number for a literal, in which each bit depends on each bit of the literal.
-fn mixed(lit: Lit) -> u64 {
-    let once = (list_number(lit) as u64).wrapping_add(0x9e37_79b9_7f4a_7c15);
-    let twice = (once ^ (once >> 30)).wrapping_mul(0xbf58_476d_1ce4_e5b9);
-    let thrice = (twice ^ (twice >> 27)).wrapping_mul(0x94d0_49bb_1331_11eb);
-    thrice ^ (thrice >> 31)
-}
-
-/// A hash of different literals in any order.
-pub fn hash_of(lits: &[Lit]) -> u64 {
-    let mut sum = 0u64;
-    for lit in lits {
-        sum = sum.wrapping_add(mixed(*lit));
+/// The literal of this number.
+fn lit_of(code: u32) -> Lit {
+    Lit {
+        var: (code / 2) as usize,
+        neg: code % 2 == 1,
     }
-    sum
+}
+
+/// The number of a clause, if it is below 2^32.
+fn number_of(id: usize) -> u32 {
+    match u32::try_from(id) {
+        Ok(number) => number,
+        Err(_) => NONE,
+    }
 }
 
 impl Hints {
@@ -58,8 +53,7 @@ impl Hints {
             lists: Vec::new(alloc),
             short: Vec::new(alloc),
             pairs: Vec::new(alloc),
-            newest: IndexMap::new(alloc),
-            older: Vec::new(alloc),
+            index: Index::new(alloc),
         }
     }
 
@@ -67,31 +61,35 @@ impl Hints {
     pub fn note(
         &mut self,
         id: usize,
-        hash: u64,
+        hash: u32,
         watched: Option<(Lit, Lit)>,
     ) -> Result<(), OutOfMemory> {
-        let before = self.newest.insert(hash, id)?;
-        self.older.push(before)?;
+        self.index.note(hash)?;
         match watched {
             None => {
-                self.pairs.push(None)?;
-                self.short.push(id)?;
+                self.pairs.push(Pair {
+                    first: NONE,
+                    second: NONE,
+                })?;
+                self.short.push(number_of(id))?;
             }
-            Some((first, second)) => {
-                self.pairs.push(Some(Pair { first, second }))?;
-                self.push(first, id)?;
-                self.push(second, id)?;
+            Some((one, other)) => {
+                let first = code_of(one);
+                let second = code_of(other);
+                self.pairs.push(Pair { first, second })?;
+                self.push(first, number_of(id))?;
+                self.push(second, number_of(id))?;
             }
         }
         Ok(())
     }
 
     /// The list of a literal, or of the clauses that are too short to be watched. It is empty afterwards.
-    pub fn take(&mut self, list: Option<Lit>) -> Vec<usize> {
+    pub fn take(&mut self, list: Option<Lit>) -> Vec<u32> {
         let empty = Vec::new(self.alloc);
         match list {
             None => mem::replace(&mut self.short, empty),
-            Some(lit) => match self.lists.get_mut(list_number(lit)) {
+            Some(lit) => match self.lists.get_mut(code_of(lit) as usize) {
                 None => empty,
                 Some(slot) => mem::replace(slot, empty),
             },
@@ -99,11 +97,11 @@ impl Hints {
     }
 
     /// Gives a list back.
-    pub fn restore(&mut self, list: Option<Lit>, ids: Vec<usize>) {
+    pub fn restore(&mut self, list: Option<Lit>, ids: Vec<u32>) {
         match list {
             None => self.short = ids,
             Some(lit) => {
-                if let Some(slot) = self.lists.get_mut(list_number(lit)) {
+                if let Some(slot) = self.lists.get_mut(code_of(lit) as usize) {
                     *slot = ids;
                 }
             }
@@ -112,45 +110,57 @@ impl Hints {
 
     /// The watched literal of a clause that is not the one of this list.
     pub fn other(&self, id: usize, list: Option<Lit>) -> Option<Lit> {
-        match self.pairs.get(id).copied() {
-            Some(Some(pair)) => {
-                if list == Some(pair.first) {
-                    Some(pair.second)
-                } else {
-                    Some(pair.first)
-                }
-            }
-            _ => None,
+        let pair = self.pairs.get(id).copied()?;
+        let code = match list {
+            None => NONE,
+            Some(lit) => code_of(lit),
+        };
+        let other = if pair.first == code {
+            pair.second
+        } else {
+            pair.first
+        };
+        if other == NONE {
+            None
+        } else {
+            Some(lit_of(other))
         }
     }
 
     /// Lets a clause be watched at these literals, of which the second is new.
     pub fn move_to(&mut self, id: usize, first: Lit, second: Lit) -> Result<(), OutOfMemory> {
-        self.push(second, id)?;
+        let pair = Pair {
+            first: code_of(first),
+            second: code_of(second),
+        };
+        self.push(pair.second, number_of(id))?;
         if let Some(slot) = self.pairs.get_mut(id) {
-            *slot = Some(Pair { first, second });
+            *slot = pair;
         }
         Ok(())
     }
 
     /// The newest clause of this hash.
-    pub fn newest(&self, hash: u64) -> Option<usize> {
-        self.newest.get(&hash).copied()
+    pub fn newest(&self, hash: u32) -> Option<usize> {
+        self.index.newest(hash)
     }
 
     /// The clause of the same hash that is next older than this one.
     pub fn older(&self, id: usize) -> Option<usize> {
-        self.older.get(id).copied().flatten()
+        self.index.older(id)
     }
 
-    /// Puts a clause at the end of the list of a literal.
-    fn push(&mut self, lit: Lit, id: usize) -> Result<(), OutOfMemory> {
-        let number = list_number(lit);
+    /// Puts a clause at the end of the list of the literal of a number.
+    fn push(&mut self, code: u32, watcher: u32) -> Result<(), OutOfMemory> {
+        if code == NONE {
+            return Ok(());
+        }
+        let number = code as usize;
         while self.lists.len() <= number {
             self.lists.push(Vec::new(self.alloc))?;
         }
         if let Some(list) = self.lists.get_mut(number) {
-            list.push(id)?;
+            list.push(watcher)?;
         }
         Ok(())
     }

@@ -10,11 +10,12 @@ use Rattle.std.proofs.lemmas.List.Elements.{Contains-append_left, Contains-appen
 use Rattle.std.proofs.lemmas.List.Sorted.{IsPermutation-swap_remove, Contains-permutation}
 use Rattle.sat_base.specs.declared.literal.Lit.{Lit}
 use Rattle.sat_base.specs.Logic.{lit_true, some_true, negation}
-use Rattle.sat_cdcl.specs.declared.trail.Step.{Step}
-use Rattle.sat_cdcl.specs.Steps.{TrailState, Entails}
+use Rattle.sat_trail.specs.declared.trail.Step.{Step}
+use Rattle.sat_clauses.specs.Held.{Entails}
+use Rattle.sat_trail.specs.Steps.{TrailState}
 use Rattle.sat_cdcl.specs.Answered.{Rises}
 use Rattle.sat_cdcl.specs.Resolvents.{Takes, TakesAll, Leaves, IsAsserting}
-use Rattle.sat_cdcl.proofs.TruthLemmas.{true_or_false, not_both, lit_false}
+use Rattle.sat_clauses.proofs.TruthLemmas.{true_or_false, not_both, lit_false}
 use Rattle.sat_cdcl.proofs.SearchLemmas.{rises_asserted}
 
 right_of : (a b : Bool) → a ≡ false → (a || b) ≡ true → b ≡ true

@@ -7,24 +7,25 @@ use Rattle.std.proofs.lemmas.Bool.{true≢false, false≢true}
 use Rattle.std.proofs.Math.Seq.{take-length}
 use Rattle.sat_base.specs.declared.literal.Lit.{Lit}
 use Rattle.sat_base.specs.Logic.{lit_true, some_true, each_true, all_true, satisfied, at, negation, LitsBelow, ClausesBelow}
-use Rattle.sat_cdcl.specs.declared.trail.Step.{Step}
-use Rattle.sat_cdcl.specs.declared.trail.Put.{Put}
-use Rattle.sat_cdcl.specs.declared.trail.Put.TheVariants.{Done, Taken, Absent}
+use Rattle.sat_trail.specs.declared.trail.Step.{Step}
+use Rattle.sat_trail.specs.declared.trail.Put.{Put}
+use Rattle.sat_trail.specs.declared.trail.Put.TheVariants.{Done, Taken, Absent}
 use Rattle.sat_cdcl.specs.declared.conflict.Progress.{Progress}
 use Rattle.sat_cdcl.specs.declared.conflict.Progress.TheVariants as progress
 use Rattle.sat_cdcl.specs.declared.conflict.Progress.TheVariants.{Rose, Exhausted}
 use Rattle.sat_cdcl.specs.declared.turn.Advance.{Advance}
 use Rattle.sat_cdcl.specs.declared.turn.Advance.TheVariants.{Decided, Found, Clash}
-use Rattle.sat_cdcl.specs.Steps.{TrailState, AllTrue, AllImplied, Follows, Tells, Entails, Refutes, IsPut}
-use Rattle.sat_cdcl.specs.Weight.{Extends, numbers, weight, trail_weight}
-use Rattle.sat_cdcl.specs.Looks.{OthersFalse}
-use Rattle.sat_cdcl.specs.Decided.{IsDecision, Agrees}
+use Rattle.sat_clauses.specs.Held.{Entails}
+use Rattle.sat_trail.specs.Steps.{TrailState, AllTrue, AllImplied, Follows, Tells, Refutes, IsPut}
+use Rattle.sat_trail.specs.Weight.{Extends, numbers, weight, trail_weight}
+use Rattle.sat_trail.specs.Looks.{OthersFalse}
+use Rattle.sat_trail.specs.Decided.{IsDecision, Agrees}
 use Rattle.sat_cdcl.specs.Answered.{HasNone, IsModel, Clashes, AllFollow, Rises, IsClash, IsAdvance, IsAssumedOne, assumed_from}
 use Rattle.sat_cdcl.specs.Progressed.{IsProgress}
-use Rattle.sat_cdcl.specs.Order.{differs}
-use Rattle.sat_cdcl.proofs.TruthLemmas.{not_both, true_unless, false_unless, both, and_of}
-use Rattle.sat_cdcl.proofs.FollowLemmas.{all_push, follows_push, follows_first, follows_all, follows_flipped, follows_true, told_more}
-use Rattle.sat_cdcl.proofs.WeightLemmas.{weight-jump, weight_below}
+use Rattle.sat_trail.specs.Order.{differs}
+use Rattle.sat_clauses.proofs.TruthLemmas.{not_both, true_unless, false_unless, both, and_of}
+use Rattle.sat_trail.proofs.FollowLemmas.{all_push, follows_push, follows_first, follows_all, follows_flipped, follows_true}
+use Rattle.sat_trail.proofs.WeightLemmas.{weight-jump, weight_below}
 
 lit_same : (f g : ℕ → Bool) (n : ℕ) (l : Lit) → l.var < n → ((x : ℕ) → x < n → f x ≡ g x) → lit_true f l ≡ lit_true g l
 unfolding lit_true
@@ -230,18 +231,6 @@ rises_smaller cs us old new r =
     let same = ap numbers r.vars in
     let more = r.heavier in
     omega (arith, low, high, same, more)
-
--- values so far, and one more
-pub collected : (old t new : TrailState) (values : List Bool) (var : ℕ) (value : Bool) → t ≡ old → (new ≡ t) × Tells t.steps (record { var = var; neg = false }) value
-    → length values ≡ var → ((f : ℕ → Bool) → AllTrue f old.steps → (x : ℕ) → x < var → f x ≡ at values x)
-    → (new ≡ old) × ((f : ℕ → Bool) → AllTrue f old.steps → (x : ℕ) → x < var + 1 → f x ≡ at (values ++ value ∷ []) x)
-collected old t new values var value same now size before = (
-  now.0 ∙ same,
-  λ f all x below.
-      told_more old.steps values value
-      (λ g g_all. ap (λ n. lit_true g (record { var = n; neg = false })) size ∙ now.1 g (subst (λ s. AllTrue g s.steps) (sym same) g_all))
-      (λ g g_all y y_below. before g g_all y (omega (arith, y_below, size))) f all x (omega (arith, below, size)),
-)
 
 pub refuted_some : {A : Type 0} (o : Option A) (P : Type 0) → IfSome o (λ _. P) → is_some o ≡ true → P
 refuted_some None P h e = absurd (false≢true e)

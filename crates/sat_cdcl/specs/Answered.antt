@@ -3,14 +3,14 @@
 use Rattle.std.specs.Prelude.{◌≡◌, ℕ, ◌<◌, ◌≤◌, Bool, true, false, List, length}
 use Rattle.sat_base.specs.declared.literal.Lit.{Lit}
 use Rattle.sat_base.specs.Logic.{lit_true, each_true, satisfied, at}
-use Rattle.sat_cdcl.specs.declared.trail.Step.{Step}
-use Rattle.sat_cdcl.specs.declared.trail.Put.{Put}
-use Rattle.sat_cdcl.specs.declared.trail.Put.TheVariants.{Done, Taken, Absent}
+use Rattle.sat_trail.specs.declared.trail.Step.{Step}
+use Rattle.sat_trail.specs.declared.trail.Put.{Put}
+use Rattle.sat_trail.specs.declared.trail.Put.TheVariants.{Done, Taken, Absent}
 use Rattle.sat_cdcl.specs.declared.turn.Advance.{Advance}
 use Rattle.sat_cdcl.specs.declared.turn.Advance.TheVariants.{Decided, Found, Clash}
-use Rattle.sat_cdcl.specs.Steps.{TrailState, AllTrue, Follows}
-use Rattle.sat_cdcl.specs.Weight.{trail_weight}
-use Rattle.sat_cdcl.specs.Order.{differs}
+use Rattle.sat_trail.specs.Steps.{TrailState, AllTrue, Follows}
+use Rattle.sat_trail.specs.Weight.{trail_weight}
+use Rattle.sat_trail.specs.Order.{differs}
 
 -- no assignment satisfies the clauses and the assumed literals
 abbrev pub HasNone : List (List Lit) → List Lit → Type 0

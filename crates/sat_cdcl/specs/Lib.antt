@@ -1,12 +1,5 @@
-pub mod Steps
-pub mod Order
-pub mod Weight
-pub mod Learnt
-pub mod Held
-pub mod Looks
-pub mod Decided
 pub mod Answered
+pub mod CdclState
 pub mod Progressed
 pub mod Resolvents
 pub mod Certified
-pub mod CdclState

@@ -4,7 +4,7 @@ use Rattle.std.specs.Prelude.{List}
 use Rattle.sat_base.specs.declared.literal.Lit.{Lit}
 use Rattle.sat_cdcl.specs.declared.conflict.Progress.{Progress}
 use Rattle.sat_cdcl.specs.declared.conflict.Progress.TheVariants.{Rose, Found, Exhausted}
-use Rattle.sat_cdcl.specs.Steps.{TrailState}
+use Rattle.sat_trail.specs.Steps.{TrailState}
 use Rattle.sat_cdcl.specs.Answered.{HasNone, IsModel, AllFollow, Rises}
 
 abbrev pub IsProgress : List (List Lit) → List Lit → TrailState → TrailState → Progress → Type 0

@@ -3,8 +3,8 @@
 use Rattle.std.specs.Prelude.{◌≡◌, ◌⊎◌, ℕ, ◌<◌, false, List, Option, Some, length, take, slice_get}
 use Rattle.std.specs.List.{Contains}
 use Rattle.sat_base.specs.declared.literal.Lit.{Lit}
-use Rattle.sat_cdcl.specs.declared.trail.Step.{Step}
-use Rattle.sat_cdcl.specs.Looks.{OthersFalse}
+use Rattle.sat_trail.specs.declared.trail.Step.{Step}
+use Rattle.sat_trail.specs.Looks.{OthersFalse}
 
 -- the new clause has the literals of the old one, and this literal
 pub record Takes (old new : List Lit) (l : Lit) : Type 0 where

@@ -5,15 +5,14 @@
 // the reasons or on the order.
 
 ghost use Rattle.std.specs.Prelude.{◌≡◌, ◌≤◌, [], true, length, IfOk};
-ghost use Rattle.sat_cdcl.specs.Steps.{Entails};
-ghost use Rattle.sat_cdcl.specs.Certified.{IsInferred};
+ghost use Rattle.sat_clauses.specs.Held.{Entails};
+ghost use Rattle.sat_clauses.specs.Certified.{IsInferred};
 ghost use Rattle.sat_cdcl.specs.Resolvents.{Takes, TakesAll};
 
-use crate::activity::Activity;
-use crate::held::{ClauseId, Clauses};
 use crate::resolvent::Resolvent;
-use crate::trail::{Step, Trail};
 use sat_base::{Lit, OutOfMemory};
+use sat_clauses::{ClauseId, Clauses};
+use sat_trail::{Activity, Step, Trail};
 
 /// Whether a literal became false at this place of the trail or behind it.
 fn is_recent(trail: &Trail, lit: Lit, start: usize) -> bool {
@@ -109,7 +108,29 @@ fn redundant_step(
     }
 }
 
-/// Takes literals out of the resolvent that the others make redundant.
+/// Takes the literal at a place out of the resolvent, if the others make it redundant.
+fn shrink_one(
+    trail: &Trail,
+    clauses: &Clauses,
+    activity: &mut Activity,
+    resolvent: &mut Resolvent,
+    place: usize,
+    start: usize,
+) -> Result<(), OutOfMemory>
+    ensures entailed { IfOk result (λ _. Entails clauses.now.given resolvent.old → Entails clauses.now.given resolvent.new) }
+    ensures inferred { IfOk result (λ _. IsInferred clauses.now resolvent.old → IsInferred clauses.now resolvent.new) }
+{
+    let lit = match resolvent.lits().get(place).copied() {
+        None => return Ok(()),
+        Some(lit) => lit,
+    };
+    match redundant_step(trail, clauses, resolvent, lit) {
+        None => Ok(()),
+        Some(step) => resolve_step(trail, clauses, activity, resolvent, step, start),
+    }
+}
+
+/// Takes literals out of the resolvent that the others make redundant, from the last on.
 fn shrink(
     trail: &Trail,
     clauses: &Clauses,
@@ -120,12 +141,10 @@ fn shrink(
     ensures entailed { IfOk result (λ _. Entails clauses.now.given resolvent.old → Entails clauses.now.given resolvent.new) }
     ensures inferred { IfOk result (λ _. IsInferred clauses.now resolvent.old → IsInferred clauses.now resolvent.new) }
 {
-    for k in (0..resolvent.lits().len()).rev() {
-        let lit = resolvent.lits().get(k).copied();
-        let step = lit.and_then(|lit| redundant_step(trail, clauses, resolvent, lit));
-        if let Some(step) = step {
-            resolve_step(trail, clauses, activity, resolvent, step, start)?;
-        }
+    let mut behind = resolvent.lits().len();
+    while behind > 0 {
+        behind -= 1;
+        shrink_one(trail, clauses, activity, resolvent, behind, start)?;
     }
     Ok(())
 }

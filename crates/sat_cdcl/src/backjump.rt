@@ -3,16 +3,15 @@
 
 ghost use Rattle.std.specs.Prelude.{◌≡◌, ◌<◌, ◌+◌, List, true, false, Some, length, drop, slice_get, MatchBool, IsTrue};
 ghost use Rattle.sat_base.specs.declared.literal.Lit.{Lit};
-ghost use Rattle.sat_cdcl.specs.declared.trail.Step.{Step};
-ghost use Rattle.sat_cdcl.specs.Steps.{AllImplied, Entails};
+ghost use Rattle.sat_trail.specs.declared.trail.Step.{Step};
+ghost use Rattle.sat_clauses.specs.Held.{Entails};
+ghost use Rattle.sat_trail.specs.Steps.{AllImplied};
 ghost use Rattle.sat_cdcl.specs.Answered.{Rises, Clashes};
 ghost use Rattle.sat_cdcl.specs.Resolvents.{IsAsserting};
 
-use crate::activity::Activity;
-use crate::held::ClauseId;
-use crate::propagate::open_beside;
-use crate::trail::{Put, Step, Trail};
 use sat_base::{Lit, OutOfMemory};
+use sat_clauses::ClauseId;
+use sat_trail::{Activity, Put, Step, Trail, open_beside};
 
 /// Where a learnt clause leads back to.
 #[derive(Clone, Copy, Debug)]

@@ -7,7 +7,8 @@ ghost use Rattle.std.specs.List.{Contains};
 ghost use Rattle.sat_base.specs.declared.literal.Lit.{Lit};
 ghost use Rattle.sat_base.specs.Logic.{negation};
 ghost use Rattle.sat_base.specs.Certificates.{IsCertificate};
-ghost use Rattle.sat_cdcl.specs.Certified.{units, AreAssumedFalse, IsOpposed, IsRefuted};
+ghost use Rattle.sat_clauses.specs.Certified.{units, IsRefuted};
+ghost use Rattle.sat_cdcl.specs.Certified.{AreAssumedFalse, IsOpposed};
 
 use crate::analyse::unwind;
 use crate::state::Search;

@@ -2,20 +2,18 @@
 
 ghost use Rattle.std.specs.Prelude.{◌≡◌, List, IfOk, MatchBool};
 ghost use Rattle.sat_base.specs.declared.literal.Lit.{Lit};
-ghost use Rattle.sat_cdcl.specs.Steps.{Entails};
-ghost use Rattle.sat_cdcl.specs.Certified.{IsInferred};
+ghost use Rattle.sat_clauses.specs.Held.{Entails};
+ghost use Rattle.sat_clauses.specs.Certified.{IsInferred};
 ghost use Rattle.sat_cdcl.specs.Answered.{Clashes, Rises};
 ghost use Rattle.sat_cdcl.specs.Progressed.{IsProgress};
 
-use crate::activity::Activity;
 use crate::analyse::analyse;
 use crate::backjump::{Target, find_target, flip_last, is_asserting, jump, reopen};
-use crate::held::{ClauseId, Clauses};
 use crate::reduce::reduce;
 use crate::state::Search;
-use crate::trail::Trail;
-use crate::watch::Watches;
 use sat_base::{Lit, OutOfMemory};
+use sat_clauses::{ClauseId, Clauses, Watches};
+use sat_trail::{Activity, Trail};
 
 /// What a turn of the search came to.
 #[derive(Debug, Drop)]

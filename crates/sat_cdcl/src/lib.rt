@@ -3,28 +3,21 @@
 // rest on is proved: each clause that is learnt follows from those given, and each literal that is
 // put as implied follows from what stands before it. Which literals are watched, which variable is
 // decided, and which clauses are resolved are matters of speed; where an answer needs a fact of them
-// it is tested.
+// it is tested. The clauses with their log are in `sat_clauses`, the trail with propagation and
+// decisions in `sat_trail`.
 #![tactic(auto)]
 
-mod activity;
 mod analyse;
 mod backjump;
 mod certify;
-mod code;
 mod conflict;
-mod decide;
-mod held;
-mod learnt;
-mod propagate;
 mod reduce;
 mod resolvent;
 mod search;
 mod solver;
 mod state;
-mod trail;
 mod turn;
 mod values;
-mod watch;
 
 pub use solver::Cdcl;
 

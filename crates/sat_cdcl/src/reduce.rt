@@ -4,11 +4,9 @@
 
 ghost use Rattle.std.specs.Prelude.{◌≡◌, length};
 
-use crate::activity::Activity;
-use crate::held::{ClauseId, Clauses};
-use crate::trail::Trail;
-use crate::watch::Watches;
 use sat_base::{Lit, OutOfMemory};
+use sat_clauses::{ClauseId, Clauses, Watches};
+use sat_trail::{Activity, Trail};
 use std::alloc::Global;
 
 /// Whether a clause implied one of its literals.
@@ -90,7 +88,7 @@ pub fn reduce(
     watches: &mut Watches,
     activity: &mut Activity,
 ) -> Result<(), OutOfMemory>
-    ensures { clauses.new ≡ clauses.old }
+    ensures { clauses.new.given ≡ clauses.old.given }
 {
     if !activity.is_full() {
         return Ok(());

@@ -7,9 +7,9 @@ ghost use Rattle.sat_cdcl.specs.Answered.{IsAssumed, IsAssumedOne, assumed_from,
 
 use crate::conflict::Progress;
 use crate::state::Search;
-use crate::trail::{Put, Step, Trail, differs};
 use crate::turn::proceed;
 use sat_base::{Lit, OutOfMemory};
+use sat_trail::{Put, Step, Trail, differs};
 
 /// Whether a literal may still be true, by what became of its step.
 fn assumed_from(put: Put, neg: bool) -> bool

@@ -6,17 +6,14 @@ ghost use Rattle.std.specs.Prelude.{◌≡◌, ◌≤◌, [], IfOk, OnOk, OnErr}
 ghost use Rattle.sat_base.specs.Logic.{LitsBelow, Answers};
 ghost use Rattle.sat_cdcl.specs.Certified.{Certifies};
 
-use crate::activity::Activity;
 use crate::backjump::reopen;
 use crate::certify::conclude;
-use crate::code::LAST_VARIABLE;
-use crate::held::{ClauseId, Clauses};
 use crate::resolvent::Resolvent;
 use crate::search::find_model;
 use crate::state::Search;
-use crate::trail::Trail;
-use crate::watch::Watches;
 use sat_base::{Answer, Lit, Log, OutOfMemory, Solver};
+use sat_clauses::{ClauseId, Clauses, LAST_VARIABLE, Watches};
+use sat_trail::{Activity, Trail};
 use std::alloc::Global;
 use std::marker::Model;
 
@@ -63,10 +60,10 @@ impl Cdcl {
     }
 
     /// Answers as `solve` does. After `NoModel` the log is a certificate of the clauses with one clause of
-    /// one literal for each assumed literal: its steps add the clauses that were learnt, each of which
-    /// follows by unit propagation from those before it, and the empty clause last; what it had before is
-    /// dropped. After `Model` and after `OutOfMemory` the log is as before. The learnt clauses of earlier
-    /// questions are deleted.
+    /// one literal for each assumed literal: its steps add each clause that was learnt, which follows by
+    /// unit propagation from those that are there, take it out when it is deleted, and add the empty clause
+    /// last; what it had before is dropped. After `Model` and after `OutOfMemory` the log is as before. The
+    /// learnt clauses of earlier questions are deleted.
     pub fn solve_logged(&mut self, assumed: &[Lit], log: &mut Log) -> Result<Answer, OutOfMemory>
         requires { LitsBelow self.old.vars assumed.now }
         ensures vars { self.new.vars ≡ self.old.vars }

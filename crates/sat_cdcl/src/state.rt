@@ -1,11 +1,9 @@
 // All that a search reads and changes, in one struct: the trail and the clauses, of which contracts
 // speak, and beside them what steers the search.
 
-use crate::activity::Activity;
-use crate::held::{ClauseId, Clauses};
 use crate::resolvent::Resolvent;
-use crate::trail::Trail;
-use crate::watch::Watches;
+use sat_clauses::{ClauseId, Clauses, Watches};
+use sat_trail::{Activity, Trail};
 use std::alloc::Global;
 
 /// The state of a search. It stays from question to question.

@@ -3,18 +3,16 @@
 
 ghost use Rattle.std.specs.Prelude.{◌≡◌, true, false, length, IfOk};
 ghost use Rattle.sat_base.specs.Logic.{LitsBelow, ClausesBelow};
-ghost use Rattle.sat_cdcl.specs.Decided.{Agrees};
+ghost use Rattle.sat_trail.specs.Decided.{Agrees};
 ghost use Rattle.sat_cdcl.specs.Answered.{IsAdvance};
 ghost use Rattle.sat_cdcl.specs.Progressed.{IsProgress};
 
 use crate::conflict::{Progress, resolve};
-use crate::decide::{Choice, decide};
-use crate::held::{ClauseId, Clauses};
-use crate::propagate::settle;
 use crate::state::Search;
-use crate::trail::Trail;
 use crate::values::{meets_each, unmet};
 use sat_base::{Lit, OutOfMemory};
+use sat_clauses::{ClauseId, Clauses};
+use sat_trail::{Choice, Trail, decide, settle};
 
 /// What a turn of the search came to.
 #[derive(Debug, Drop)]

@@ -4,8 +4,8 @@
 ghost use Rattle.std.specs.Prelude.{◌≡◌, true, false, MatchOption};
 ghost use Rattle.sat_base.specs.Logic.{at, lit_true, some_true, each_true, all_true};
 
-use crate::held::Clauses;
 use sat_base::Lit;
+use sat_clauses::Clauses;
 
 /// The value of a literal.
 #[tactic(auto, unfolding(sat_base::specs::Logic::at, sat_base::specs::Logic::lit_true))]

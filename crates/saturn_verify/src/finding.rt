@@ -1,7 +1,8 @@
 // What the bytes of a file are.
 
-ghost use Rattle.std.specs.Prelude.{IfOk};
+ghost use Rattle.std.specs.Prelude.{◌^◌, ◌-◌, ◌<◌, length, IfOk};
 ghost use Rattle.drat_text.specs.Certificate.{IsBelow};
+ghost use Rattle.drat_text.specs.Reading.{Answers, spelled};
 ghost use Rattle.saturn_verify.specs.Finding.{IsFinding, IsJudged};
 
 use drat_text::{Certificate, ReadError, read};
@@ -42,14 +43,23 @@ fn judge(alloc: Global, certificate: &Certificate) -> Result<Finding, OutOfMemor
     }
 }
 
-/// What these bytes of a file are.
-pub fn find(alloc: Global, bytes: &[u8]) -> Result<Finding, OutOfMemory>
-    ensures { IfOk result (IsFinding bytes.now) }
+// What these bytes spell. Their memory is given back.
+fn read_and_free(alloc: Global, bytes: Vec<u8>) -> Result<Certificate, ReadError>
+    requires { length bytes.items < 2 ^ 32 - 1 }
+    ensures spelled { Answers result (spelled bytes.items) }
+    ensures below { IfOk result (λ contents. IsBelow contents) }
+{
+    read(alloc, bytes.as_slice())
+}
+
+/// What these bytes of a file are. Their memory is given back before the steps are checked.
+pub fn find(alloc: Global, bytes: Vec<u8>) -> Result<Finding, OutOfMemory>
+    ensures { IfOk result (IsFinding bytes.items) }
 {
     if bytes.len() > MOST_BYTES {
         return Ok(Finding::TooLong);
     }
-    match read(alloc, bytes) {
+    match read_and_free(alloc, bytes) {
         Ok(certificate) => judge(alloc, &certificate),
         Err(ReadError::Malformed { line }) => Ok(Finding::Malformed { line }),
         Err(ReadError::Memory) => Err(OutOfMemory),

@@ -78,7 +78,7 @@ fn verify_file<F: Files, O: Sink, E: Sink>(
         }
         Err(ReadError::OutOfMemory) => return Verified::Memory,
     };
-    let finding = match find(alloc, &bytes) {
+    let finding = match find(alloc, bytes) {
         Ok(finding) => finding,
         Err(_) => return Verified::Memory,
     };

@@ -7,5 +7,6 @@ use Rattle.sc_rules.specs.Walks.{then_with, done}
 abbrev pub joined : {A : Type 0} → List A → List A × Walk → List A × Walk
 joined xs (ys, w) = (xs ++ ys, w)
 
-pub joined_step : {A : Type 0} (xs : List A) (x : A) (r : List A × Walk) → joined (xs ++ x ∷ []) r ≡ joined xs (then_with r (λ ys. done (x ∷ ys)))
+pub joined_step : {A : Type 0} (xs : List A) (x : A) (r : List A × Walk)
+    → joined (xs ++ x ∷ []) r ≡ joined xs (then_with r (λ ys. done (x ∷ ys)))
 joined_step xs x (ys, w) = ap (λ zs. (zs, w)) (append_assoc xs (x ∷ []) ys)

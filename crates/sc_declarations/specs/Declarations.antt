@@ -46,6 +46,19 @@ abbrev pub params_if : Option Own → Option (List Parameter)
 params_if None = None
 params_if (Some own) = Some own.params
 
+-- a type that has a size
+abbrev pub sized : CType → Option ℕ → Option CType
+sized t None = None
+sized t (Some n) = Some t
+
+abbrev pub declarator_of : NameId → Pos → Declared → Option TInit → TDeclarator
+declarator_of name at d x = record { name = name; pos = at; declared = d; init = x }
+
+-- specifiers without declarators
+abbrev pub is_alone : List InitDeclarator → Bool
+is_alone [] = true
+is_alone (d ∷ ds) = false
+
 module _ (here : Here) where
   -- a declaration of a variable with linkage; its global has the type that all files give it, once that is known
   abbrev pub type_over_all : NameId → Option CType
@@ -55,10 +68,6 @@ module _ (here : Here) where
   linked_if name at is_static t = linked_in here.file (here.is_local name.at) (type_over_all name) name at is_static t
 
   -- Locals.
-
-  abbrev pub sized : CType → Option ℕ → Option CType
-  sized t None = None
-  sized t (Some n) = Some t
 
   abbrev pub written_initialiser : ℕ → NameId → Pos → CType → Init → Check (Option TInit)
   written_initialiser n name at t x = do
@@ -74,9 +83,6 @@ module _ (here : Here) where
   abbrev pub faulty_initialiser : Pos → Option Init → Check (Option TInit)
   faulty_initialiser at None = done None
   faulty_initialiser at (Some x) = initialiser here at None x
-
-  abbrev pub declarator_of : NameId → Pos → Declared → Option TInit → TDeclarator
-  declarator_of name at d x = record { name = name; pos = at; declared = d; init = x }
 
   -- a variable of a body without linkage; a static one is not taken
   abbrev pub typed_local : NameId → Pos → Option Init → CType → Check TDeclarator
@@ -116,12 +122,19 @@ module _ (here : Here) where
     n ← declare_global_if (linked_if name at (has_static ss) s)
     done (declarator_of name at (declares.Global n) None)
 
-  abbrev pub variable_declared : (at_file : Bool) → List Storage → NameId → Pos → Option Init → Option CType → Check TDeclarator
-  variable_declared true ss name at x t = file_variable ss name at x t
-  variable_declared false ss name at x t =
+  -- a variable in a body
+  abbrev pub body_variable : List Storage → NameId → Pos → Option Init → Option CType → Check TDeclarator
+  body_variable ss name at x t =
       if has_extern ss
       then extern_declared name at (has_static ss) (linked_if name at false t)
       else local_declared ss name at x t
+
+  abbrev pub variable_declared : (at_file : Bool) → List Storage → NameId → Pos → Option Init → Option CType
+      → Check TDeclarator
+  variable_declared at_file ss name at x t =
+      if at_file
+      then file_variable ss name at x t
+      else body_variable ss name at x t
 
   abbrev pub declared_as : (at_file : Bool) → List Storage → NameId → Pos → Option Init → Shape → Check TDeclarator
   declared_as at_file ss name at x s =
@@ -131,7 +144,8 @@ module _ (here : Here) where
       then function_named (at_file && has_local ss) name at s.ctype s.own
       else variable_declared at_file ss name at x s.ctype)
 
-  abbrev pub declarator_named : (at_file : Bool) → List Storage → Option CType → Declaring → Option Init → NameId × Pos → Check TDeclarator
+  abbrev pub declarator_named : (at_file : Bool) → List Storage → Option CType → Declaring → Option Init → NameId × Pos
+      → Check TDeclarator
   declarator_named at_file ss t d x (name, at) = do
     s ← d.run at t
     declared_as at_file ss name at x s
@@ -140,16 +154,13 @@ module _ (here : Here) where
   declarator at_file ss t d =
       declarator_named at_file ss t (declaring here d.declarator) d.init (name_of (declaring here d.declarator).name)
 
-  abbrev pub declarators : (at_file : Bool) → List Storage → Option CType → List InitDeclarator → Check (List TDeclarator)
+  abbrev pub declarators : (at_file : Bool) → List Storage → Option CType → List InitDeclarator
+      → Check (List TDeclarator)
   declarators at_file ss t [] = done []
   declarators at_file ss t (d ∷ ds) = do
     x ← declarator at_file ss t d
     xs ← declarators at_file ss t ds
     done (x ∷ xs)
-
-  abbrev pub is_alone : List InitDeclarator → Bool
-  is_alone [] = true
-  is_alone (d ∷ ds) = false
 
   -- the type that the specifiers of a declaration name
   abbrev pub type_named : Decl → Check (Option CType)

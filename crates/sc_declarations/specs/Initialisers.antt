@@ -1,18 +1,27 @@
 -- Initialisers of locals (C11 6.7.9): their expressions are typed, and the values go to the object as `sc_fill` says.
--- Designators and braces inside braces are not taken.
-use Rattle.std.specs.Prelude.{Bool, Option, Some, None, is_some, List, [], ◌∷◌, map}
+-- Designators, braces inside braces and a string for an array are not taken.
+use Rattle.std.specs.Prelude.{Bool, true, false, ◌&&◌, if◌then◌else◌, Option, Some, None, is_some, List, [], ◌∷◌, map}
 use Rattle.std.specs.List.{list_all}
 use Rattle.sc_base.specs.declared.pos.Pos.{Pos}
 use Rattle.sc_base.specs.declared.skip.Unsupported.TheVariants as u
 use Rattle.sc_tree.specs.declared.ctype.CType.{CType}
-use Rattle.sc_tree.specs.declared.expr.Expr.{Expr}
+use Rattle.sc_tree.specs.declared.expr.Aggregate.{Aggregate}
+use Rattle.sc_tree.specs.declared.expr.Base.{Base}
+use Rattle.sc_tree.specs.declared.expr.Declarator.{Declarator}
+use Rattle.sc_tree.specs.declared.expr.EnumSpec.{EnumSpec}
+use Rattle.sc_tree.specs.declared.expr.Enumerator.{Enumerator}
+use Rattle.sc_tree.specs.declared.expr.Expr.{Expr, Expr-F, out-Expr}
+use Rattle.sc_tree.specs.declared.expr.Head.{Head}
+use Rattle.sc_tree.specs.declared.expr.Member.{Member}
+use Rattle.sc_tree.specs.declared.expr.Part.{Part}
+use Rattle.sc_tree.specs.declared.expr.Specs.{Specs}
 use Rattle.sc_tree.specs.declared.decl.Designator.{Designator}
 use Rattle.sc_tree.specs.declared.decl.Init.{Init, Init-F, out-Init}
 use Rattle.sc_tree.specs.declared.decl.InitItem.{InitItem, out-InitItem}
 use Rattle.sc_typed.specs.declared.expr.TExpr.{TExpr}
 use Rattle.sc_typed.specs.declared.stmt.TInit.{TInit}
-use Rattle.sc_rules.specs.Walks.{Check, ◌>>=◌, done, given, unsupported}
-use Rattle.sc_fill.specs.Initialisers.{in_front, one, one_value, spread_if}
+use Rattle.sc_rules.specs.Walks.{Check, ◌>>=◌, done, unsupported}
+use Rattle.sc_fill.specs.Initialisers.{in_front, is_array_if, one, one_value, spread_if}
 use Rattle.sc_typing.specs.Here.{Here}
 use Rattle.sc_typing.specs.Shapes.{Typing}
 use Rattle.sc_typing.specs.Typing.{typing}
@@ -41,6 +50,15 @@ expressions_there (x ∷ xs) = with_expression (item_expression x) (expressions_
 abbrev pub all_expressions : List InitItem → Bool
 all_expressions xs = list_all (λ x. is_some (item_expression x)) xs
 
+-- whether an expression is a string as it is written, a wide one too
+abbrev pub is_text : Expr-F Base Declarator Expr Aggregate EnumSpec Enumerator Head Member Part Specs → Bool
+is_text (Expr-F.Str ss p) = true
+is_text _ = false
+
+-- a string that has no type, as a wide one: for an array it is not taken as any other string
+abbrev pub no_value : Pos → Option CType → (text : Bool) → Check (Option TExpr)
+no_value at t text = if text && is_array_if t then unsupported u.Init at else done None
+
 abbrev pub as_they_stand : List Typing → Check (List (Option TExpr))
 as_they_stand [] = done []
 as_they_stand (e ∷ es) = do
@@ -56,13 +74,14 @@ module _ (here : Here) where
   list_initialiser at t None = unsupported u.Init at
   list_initialiser at t (Some es) = values es >>= λ xs. spread_if here.widths at t xs
 
-  abbrev pub value_given : Pos → Option CType → Option TExpr → Check (Option TExpr)
-  value_given at t x = given x (one_value here.widths at t)
+  abbrev pub value_given : Pos → Option CType → (text : Bool) → Option TExpr → Check (Option TExpr)
+  value_given at t text None = no_value at t text
+  value_given at t text (Some x) = one_value here.widths at t x
 
   abbrev pub one_initialiser : Pos → Option CType → Expr → Check (Option TInit)
   one_initialiser at t e = do
     x ← (typing here e).run
-    v ← value_given at t x
+    v ← value_given at t (is_text (out-Expr e)) x
     done (one v)
 
   abbrev pub initialiser_layer : Pos → Option CType → Init-F Init InitItem → Check (Option TInit)

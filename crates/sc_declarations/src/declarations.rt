@@ -5,10 +5,14 @@ ghost use Rattle.std.specs.Option.{option_copied};
 ghost use Rattle.sc_rules.specs.Gives.{Gives};
 ghost use Rattle.sc_declare.specs.Numbers.{keys_of};
 ghost use Rattle.sc_declare.specs.Declarators.{declare_global_if, typedef_declared};
+ghost use Rattle.sc_unary.specs.Members.{is_there};
+ghost use Rattle.sc_files.specs.Variables.{object_if};
+ghost use Rattle.sc_lengths.specs.Lengths.{completed_type};
 ghost use Rattle.sc_typing.specs.Tables as tables;
 ghost use Rattle.sc_typing.specs.Typing as typing;
 ghost use Rattle.sc_declarations.specs.Declarations as spec;
 
+use crate::laws::no_local_has_a_global;
 use crate::locals::local_declared;
 use sc_base::{Boxed, List, NameId, OutOfMemory, Pos};
 use sc_declare::{
@@ -25,6 +29,10 @@ use sc_typed::{Declared, TDeclarator};
 use sc_types::copy_type;
 use sc_typing::{Own, Shape, Tables, declarator, specifiers};
 use std::alloc::Global;
+use typing_laws::{
+    declarators_keep_globals, functions_keep_globals, lengths_keep_globals, objects_keep_globals,
+    specifiers_keep_globals, typedefs_keep_globals,
+};
 
 // A copy of a type, where there is one.
 fn copy_if(alloc: Global, t: Option<&CType>) -> Result<Option<CType>, OutOfMemory>
@@ -83,7 +91,7 @@ fn params_if(own: &Option<Own>) -> Option<&List<Parameter>>
     }
 }
 
-// The type of a variable, with the length that its initialiser gives it.
+// The type of a variable, with the length that its initialiser gives it. The designators of that declare no global.
 fn completed_if(
     alloc: Global,
     walk: &mut Walk,
@@ -97,10 +105,35 @@ fn completed_if(
     match t {
         None => Ok(None),
         Some(t) => {
-            let t = completed_type(alloc, walk, here, init, &t)?;
+            let t = completed(alloc, walk, here, init, &t)?;
             Ok(Some(t))
         }
     }
+}
+
+// The same of a type that is known.
+fn completed(
+    alloc: Global,
+    walk: &mut Walk,
+    here: &Tables,
+    init: &Option<Boxed<Init>>,
+    t: &CType,
+) -> Result<CType, OutOfMemory>
+    ensures completed { Gives (completed_type (tables.here_of here.now) init.now t.now walk.old) result walk.new }
+    ensures kept { OnOk result (walk.new.globals ≡ walk.old.globals) }
+{
+    lengths_keep_globals();
+    completed_type(alloc, walk, here, init, t)
+}
+
+// The type of an object at file scope is one that an object has.
+fn object_at_file(walk: &mut Walk, here: &Tables, defines: bool, at: Pos, t: Option<&CType>) -> bool
+    ensures judged { object_if (tables.here_of here.now).widths defines at (option_copied t.entry) walk.old
+        ≡ (result, walk.new) }
+    ensures kept { walk.new.globals ≡ walk.old.globals }
+{
+    objects_keep_globals();
+    object_if(walk, here.widths(), defines, at, t)
 }
 
 // The number of the global that is declared; 0 where it has no type.
@@ -133,11 +166,12 @@ fn file_variable(
     t: Option<CType>,
 ) -> Result<TDeclarator, OutOfMemory>
     requires { numbers.old ≡ keys_of walk.old.globals }
-    ensures declared { Gives (spec.file_variable (tables.here_of here.now) words.now name at init.now t walk.old) result walk.new }
+    ensures declared { Gives (spec.file_variable (tables.here_of here.now) words.now name at init.now
+        t walk.old) result walk.new }
     ensures tied { OnOk result (numbers.new ≡ keys_of walk.new.globals) }
 {
     let t = completed_if(alloc, walk, here, init, t)?;
-    object_if(walk, here.widths(), !has_extern(words), at, t.as_ref());
+    object_at_file(walk, here, !has_extern(words), at, t.as_ref());
     let d = linked_if(alloc, here, name, at, has_static(words), t)?;
     let number = global_if(alloc, walk, numbers, d.as_ref())?;
     Ok(TDeclarator {
@@ -146,6 +180,25 @@ fn file_variable(
         declared: Declared::Global(number),
         init: None,
     })
+}
+
+// A variable of a body without linkage; it has no global.
+fn local_named(
+    alloc: Global,
+    walk: &mut Walk,
+    here: &Tables,
+    words: &[Storage],
+    name: NameId,
+    at: Pos,
+    init: &Option<Boxed<Init>>,
+    t: Option<CType>,
+) -> Result<TDeclarator, OutOfMemory>
+    ensures declared { Gives (spec.local_declared (tables.here_of here.now) words.now name at init.now
+        t walk.old) result walk.new }
+    ensures kept { OnOk result (walk.new.globals ≡ walk.old.globals) }
+{
+    no_local_has_a_global();
+    local_declared(alloc, walk, here, words, name, at, init, t)
 }
 
 // A variable in a body.
@@ -161,7 +214,8 @@ fn body_variable(
     t: Option<CType>,
 ) -> Result<TDeclarator, OutOfMemory>
     requires { numbers.old ≡ keys_of walk.old.globals }
-    ensures declared { Gives (spec.variable_declared (tables.here_of here.now) false words.now name at init.now t walk.old) result walk.new }
+    ensures declared { Gives (spec.body_variable (tables.here_of here.now) words.now name at init.now
+        t walk.old) result walk.new }
     ensures tied { OnOk result (numbers.new ≡ keys_of walk.new.globals) }
 {
     if has_extern(words) {
@@ -176,7 +230,43 @@ fn body_variable(
             d.as_ref(),
         )
     } else {
-        local_declared(alloc, walk, here, words, name, at, init, t)
+        let made = local_named(alloc, walk, here, words, name, at, init, t)?;
+        Ok(made)
+    }
+}
+
+// A variable.
+fn variable_declared(
+    alloc: Global,
+    walk: &mut Walk,
+    numbers: &mut GlobalNumbers,
+    here: &Tables,
+    at_file: bool,
+    words: &[Storage],
+    name: NameId,
+    at: Pos,
+    init: &Option<Boxed<Init>>,
+    t: Option<CType>,
+) -> Result<TDeclarator, OutOfMemory>
+    requires { numbers.old ≡ keys_of walk.old.globals }
+    ensures declared { Gives (spec.variable_declared (tables.here_of here.now) at_file words.now name
+        at init.now t walk.old) result walk.new }
+    ensures tied { OnOk result (numbers.new ≡ keys_of walk.new.globals) }
+{
+    if at_file {
+        file_variable(alloc, walk, numbers, here, words, name, at, init, t)
+    } else {
+        body_variable(alloc, walk, numbers, here, words, name, at, init, t)
+    }
+}
+
+// Whether a declarator wrote parameters round its name.
+fn has_own(own: &Option<Own>) -> bool
+    ensures { result ≡ is_there own.now }
+{
+    match own {
+        None => false,
+        Some(_) => true,
     }
 }
 
@@ -194,19 +284,22 @@ fn declared_as(
     shape: Shape,
 ) -> Result<TDeclarator, OutOfMemory>
     requires { numbers.old ≡ keys_of walk.old.globals }
-    ensures declared { Gives (spec.declared_as (tables.here_of here.now) at_file words.now name at init.now shape walk.old) result walk.new }
+    ensures declared { Gives (spec.declared_as (tables.here_of here.now) at_file words.now name at init.now
+        shape walk.old) result walk.new }
     ensures tied { OnOk result (numbers.new ≡ keys_of walk.new.globals) }
 {
     let Shape { ctype, own } = shape;
     if at_file && has_typedef(words) {
-        typedef_named(walk, name, at, ctype)
-    } else if is_function_of(ctype.as_ref(), own.is_some()) {
+        let made = typedef_named(walk, name, at, ctype)?;
+        Ok(made)
+    } else if is_function_of(ctype.as_ref(), has_own(&own)) {
         let is_local = at_file && has_local(words);
-        function_named(alloc, walk, here, is_local, name, at, ctype.as_ref(), &own)
-    } else if at_file {
-        file_variable(alloc, walk, numbers, here, words, name, at, init, ctype)
+        let made = function_named(alloc, walk, here, is_local, name, at, ctype.as_ref(), &own)?;
+        Ok(made)
     } else {
-        body_variable(alloc, walk, numbers, here, words, name, at, init, ctype)
+        variable_declared(
+            alloc, walk, numbers, here, at_file, words, name, at, init, ctype,
+        )
     }
 }
 
@@ -220,6 +313,7 @@ fn typedef_named(
     ensures declared { Gives (typedef_declared name at t walk.old) result walk.new }
     ensures kept { OnOk result (walk.new.globals ≡ walk.old.globals) }
 {
+    typedefs_keep_globals();
     typedef_declared(walk, name, at, t)
 }
 
@@ -234,9 +328,11 @@ fn function_named(
     t: Option<&CType>,
     own: &Option<Own>,
 ) -> Result<TDeclarator, OutOfMemory>
-    ensures declared { Gives (spec.function_named (tables.here_of here.now) is_local name at (option_copied t.entry) own.now walk.old) result walk.new }
+    ensures declared { Gives (spec.function_named (tables.here_of here.now) is_local name at
+        (option_copied t.entry) own.now walk.old) result walk.new }
     ensures kept { OnOk result (walk.new.globals ≡ walk.old.globals) }
 {
+    functions_keep_globals();
     function_declared(
         alloc,
         walk,
@@ -261,6 +357,7 @@ fn shaped(
     ensures shaped { Gives ((typing.declaring (tables.here_of here.now) d.now).run at t walk.old) result walk.new }
     ensures kept { OnOk result (walk.new.globals ≡ walk.old.globals) }
 {
+    declarators_keep_globals();
     declarator(alloc, walk, here, d, at, t)
 }
 
@@ -283,6 +380,7 @@ fn type_named(
     ensures named { Gives (spec.type_named (tables.here_of here.now) d.now walk.old) result walk.new }
     ensures kept { OnOk result (walk.new.globals ≡ walk.old.globals) }
 {
+    specifiers_keep_globals();
     specifiers(alloc, walk, here, &d.specs, is_alone(d.parts.as_slice()))
 }
 
@@ -339,7 +437,8 @@ fn declarator_of(
     d: &InitDeclarator,
 ) -> Result<TDeclarator, OutOfMemory>
     requires { numbers.old ≡ keys_of walk.old.globals }
-    ensures declared { Gives (spec.declarator (tables.here_of here.now) at_file words.now (option_copied t.entry) d.now walk.old) result walk.new }
+    ensures declared { Gives (spec.declarator (tables.here_of here.now) at_file words.now
+        (option_copied t.entry) d.now walk.old) result walk.new }
     ensures tied { OnOk result (numbers.new ≡ keys_of walk.new.globals) }
 {
     let name = name_of(here.declared_name(&d.declarator));
@@ -360,7 +459,8 @@ fn declarators(
     parts: &[InitDeclarator],
 ) -> Result<List<TDeclarator>, OutOfMemory>
     requires { numbers.old ≡ keys_of walk.old.globals }
-    ensures declared { Gives (spec.declarators (tables.here_of here.now) at_file words.now (option_copied t.entry) parts.now walk.old) result walk.new }
+    ensures declared { Gives (spec.declarators (tables.here_of here.now) at_file words.now
+        (option_copied t.entry) parts.now walk.old) result walk.new }
     ensures tied { OnOk result (numbers.new ≡ keys_of walk.new.globals) }
 {
     let mut made = List::new(alloc);

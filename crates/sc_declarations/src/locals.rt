@@ -40,7 +40,8 @@ fn written_initialiser(
     t: &CType,
     init: &Init,
 ) -> Result<Option<TInit>, OutOfMemory>
-    ensures { Gives (spec.written_initialiser (tables.here_of here.now) number name at t.now init.now walk.old) result walk.new }
+    ensures { Gives (spec.written_initialiser (tables.here_of here.now) number name at t.now init.now walk.old)
+        result walk.new }
 {
     let size = size_now(walk, here.widths(), t);
     let made = initialiser(alloc, walk, here, at, sized(t, size), init)?;
@@ -59,7 +60,8 @@ fn local_initialiser(
     t: &CType,
     init: &Option<Boxed<Init>>,
 ) -> Result<Option<TInit>, OutOfMemory>
-    ensures { Gives (spec.local_initialiser (tables.here_of here.now) number name at t.now init.now walk.old) result walk.new }
+    ensures { Gives (spec.local_initialiser (tables.here_of here.now) number name at t.now init.now walk.old)
+        result walk.new }
 {
     match init {
         None => Ok(None),
@@ -154,7 +156,8 @@ pub fn local_declared(
     init: &Option<Boxed<Init>>,
     t: Option<CType>,
 ) -> Result<TDeclarator, OutOfMemory>
-    ensures { Gives (spec.local_declared (tables.here_of here.now) words.now name at init.now t walk.old) result walk.new }
+    ensures { Gives (spec.local_declared (tables.here_of here.now) words.now name at init.now t walk.old)
+        result walk.new }
 {
     note_unless(
         walk,

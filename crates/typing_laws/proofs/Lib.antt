@@ -6,3 +6,4 @@ pub mod Walk
 pub mod Induction
 pub mod Declared
 pub mod Filled
+pub mod Lengths

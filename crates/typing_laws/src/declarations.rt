@@ -5,12 +5,15 @@ ghost use Rattle.sc_base.specs.declared.pos.NameId.{NameId};
 ghost use Rattle.sc_base.specs.declared.pos.Pos.{Pos};
 ghost use Rattle.sc_tree.specs.declared.ctype.CType.{CType};
 ghost use Rattle.sc_tree.specs.declared.ctype.Widths.{Widths};
+ghost use Rattle.sc_tree.specs.declared.decl.Init.{Init};
 ghost use Rattle.sc_typed.specs.declared.expr.TExpr.{TExpr};
 ghost use Rattle.sc_declare.specs.declared.functions.Parameter.{Parameter};
 ghost use Rattle.sc_declare.specs.Declarators.{function_declared, typedef_declared};
 ghost use Rattle.sc_declare.specs.Locals.{declare_local, lengthen};
 ghost use Rattle.sc_files.specs.Variables.{object_if};
 ghost use Rattle.sc_fill.specs.Initialisers.{spread_if, one_value};
+ghost use Rattle.sc_lengths.specs.Lengths.{completed_type};
+ghost use Rattle.sc_typing.specs.Here.{Here};
 ghost use Rattle.typing_laws.specs.Kept.{KeepsGlobals};
 
 /// A function that is declared.
@@ -33,6 +36,11 @@ pub fn locals_keep_globals()
 pub fn lengthening_keeps_globals()
     ensures { (ws : Widths) (n : ℕ) (name : NameId) (at : Pos) (m : Option ℕ) (t : CType) →
         KeepsGlobals (lengthen ws n name at m t) }
+{}
+
+/// The length that an initialiser gives to an array at file scope.
+pub fn lengths_keep_globals()
+    ensures { (here : Here) (x : Option Init) (t : CType) → KeepsGlobals (completed_type here x t) }
 {}
 
 /// The values in the braces of an initialiser.

@@ -11,6 +11,11 @@ ghost use Rattle.sc_typing.specs.Here.{Here};
 ghost use Rattle.sc_typing.specs.Typing.{typing, valued, heading, declaring, naming};
 ghost use Rattle.typing_laws.specs.Kept.{KeepsGlobals};
 
+/// An expression as it stands.
+pub fn expressions_keep_globals()
+    ensures { (here : Here) (e : Expr) → KeepsGlobals (typing here e).run }
+{}
+
 /// The value of an expression.
 pub fn values_keep_globals()
     ensures { (here : Here) (e : Expr) → KeepsGlobals (valued (typing here e)) }

@@ -1,6 +1,6 @@
 -- The negation of the step goes out, and the other literals of its clause come in.
 use Rattle.sat_cdcl.proofs.ResolventLemmas.{if_ok, entails_resolved}
-use Rattle.sat_cdcl.proofs.CertifiedLemmas.{inferred_resolved}
+use Rattle.sat_cdcl.proofs.InferredLemmas.{inferred_resolved}
 use Rattle.sat_cdcl.proofs.analyse.resolve_step.Goals as goal
 
 pub returns-clause-entailed : goal.returns-clause-entailed

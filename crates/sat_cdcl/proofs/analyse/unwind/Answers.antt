@@ -1,7 +1,7 @@
 -- The clause of the conflict, whole.
 use Rattle.std.proofs.Common.{arith}
 use Rattle.sat_cdcl.proofs.ResolventLemmas.{entails_taken}
-use Rattle.sat_cdcl.proofs.CertifiedLemmas.{inferred_taken}
+use Rattle.sat_cdcl.proofs.InferredLemmas.{inferred_taken}
 use Rattle.sat_cdcl.proofs.analyse.unwind.Goals as goal
 
 pub loop-behind-init : goal.loop-behind-init

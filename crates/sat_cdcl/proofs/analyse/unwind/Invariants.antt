@@ -1,6 +1,6 @@
 use Rattle.std.proofs.Common.{◌≤◌, length}
-use Rattle.sat_cdcl.specs.Steps.{Entails}
-use Rattle.sat_cdcl.specs.Certified.{IsInferred}
+use Rattle.sat_clauses.specs.Held.{Entails}
+use Rattle.sat_clauses.specs.Certified.{IsInferred}
 use Rattle.sat_cdcl.proofs.analyse.unwind.Given as goal
 
 abbrev pub invariant-loop-behind : goal.invariant-loop-behind

@@ -1,7 +1,7 @@
 -- By opposed assumptions, or by a resolvent that has only negations of assumptions.
 use Rattle.std.proofs.Common.{subst}
 use Rattle.sat_cdcl.specs.Certified.{AreAssumedFalse}
-use Rattle.sat_cdcl.proofs.CertifiedLemmas.{refuted_opposed, refuted_inferred}
+use Rattle.sat_cdcl.proofs.InferredLemmas.{refuted_opposed, refuted_inferred}
 use Rattle.sat_cdcl.proofs.certify.is_refuted.Goals as goal
 
 pub returns-then-are_opposed-clause-refuted : goal.returns-then-are_opposed-clause-refuted

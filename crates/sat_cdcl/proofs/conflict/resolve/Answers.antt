@@ -1,7 +1,7 @@
 -- With a decision the trail rises, and with none nothing satisfies all.
 use Rattle.std.proofs.Common.{◌≡◌, ◌<◌, ◌+◌, false, length, drop, slice_get, Some, subst, sym}
-use Rattle.sat_cdcl.specs.declared.trail.Step.{Step}
-use Rattle.sat_cdcl.specs.Steps.{AllImplied}
+use Rattle.sat_trail.specs.declared.trail.Step.{Step}
+use Rattle.sat_trail.specs.Steps.{AllImplied}
 use Rattle.sat_cdcl.specs.Answered.{Clashes, Rises}
 use Rattle.sat_cdcl.proofs.SearchLemmas.{none_of}
 use Rattle.sat_cdcl.proofs.ResolventLemmas.{when_true, when_false}

@@ -1,6 +1,6 @@
 -- Each assumed literal in turn.
 use Rattle.std.proofs.Common.{refl, sym, subst, ◌∙◌}
-use Rattle.sat_cdcl.specs.Steps.{AllTrue}
+use Rattle.sat_trail.specs.Steps.{AllTrue}
 use Rattle.sat_cdcl.proofs.SearchLemmas.{assumed_more, assumed_fails}
 use Rattle.sat_cdcl.proofs.search.assume.Goals as goal
 

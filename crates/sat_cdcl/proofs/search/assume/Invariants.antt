@@ -1,6 +1,6 @@
 use Rattle.std.proofs.Common.{◌≡◌, ℕ, Bool, true, take}
 use Rattle.sat_base.specs.Logic.{each_true}
-use Rattle.sat_cdcl.specs.Steps.{AllTrue}
+use Rattle.sat_trail.specs.Steps.{AllTrue}
 use Rattle.sat_cdcl.proofs.search.assume.Given as goal
 
 abbrev pub invariant-loop-lit : goal.invariant-loop-lit

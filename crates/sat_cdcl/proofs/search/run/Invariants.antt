@@ -1,5 +1,5 @@
 use Rattle.std.proofs.Common.{◌≡◌, ◌-◌}
-use Rattle.sat_cdcl.specs.Weight.{numbers, trail_weight}
+use Rattle.sat_trail.specs.Weight.{numbers, trail_weight}
 use Rattle.sat_cdcl.specs.Answered.{AllFollow}
 use Rattle.sat_cdcl.proofs.search.run.Given as goal
 

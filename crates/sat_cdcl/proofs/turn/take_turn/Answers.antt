@@ -1,8 +1,8 @@
 -- What comes after the propagation.
 use Rattle.std.proofs.Common.{sym, subst, ap, ◌∙◌}
 use Rattle.sat_base.specs.Logic.{ClausesBelow, LitsBelow}
-use Rattle.sat_cdcl.specs.Decided.{IsChoice, Agrees}
-use Rattle.sat_cdcl.specs.declared.decide.Choice.TheVariants.{Full}
+use Rattle.sat_trail.specs.Decided.{IsChoice, Agrees}
+use Rattle.sat_trail.specs.declared.decisions.Choice.TheVariants.{Full}
 use Rattle.sat_cdcl.specs.declared.turn.Advance.TheVariants.{Decided}
 use Rattle.sat_cdcl.specs.Answered.{IsAdvance}
 use Rattle.sat_cdcl.proofs.SearchLemmas.{clash_of, advance_after, rises_decided, refuted_some}

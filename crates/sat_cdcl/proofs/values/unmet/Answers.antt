@@ -1,7 +1,7 @@
 -- Each clause in turn.
 use Rattle.std.proofs.Common.{sym, ap, ◌∙◌}
 use Rattle.sat_base.specs.Logic.{all_true, at}
-use Rattle.sat_cdcl.proofs.HeldLemmas.{all_more, all_fails, take_past}
+use Rattle.sat_clauses.proofs.HeldLemmas.{all_more, all_fails, take_past}
 use Rattle.sat_cdcl.proofs.values.unmet.Goals as goal
 
 pub returns-in-None : goal.returns-in-None

@@ -1,6 +1,5 @@
-use Rattle.std.proofs.Common.{◌≡◌, ◌∙◌, ℕ, List, ap, inr, subst, Err}
+use Rattle.std.proofs.Common.{◌∙◌, ap, inr, Err}
 use Rattle.saturn_verify.specs.Answer.{due_for, unread, read}
-use Rattle.saturn_verify.specs.Finding.{IsFinding}
 use Rattle.saturn_verify.proofs.Answered.{to_errors, Keeps-itself}
 use Rattle.saturn_verify.proofs.verify.verify_file.Goals as goal
 
@@ -12,6 +11,8 @@ returns-in-Ok-unread_line g c words named =
 
 pub returns-in-Ok-line_of : goal.returns-in-Ok-line_of
 returns-in-Ok-line_of g c words named =
-    let P : List ℕ → Type 0 = λ bytes. IsFinding bytes c.in-Ok-find.finding in
-    let is : IsFinding c.in-Ok.bytes.items c.in-Ok-find.finding = subst P c.deref-2.ensures.value c.in-Ok-find.ensures in
-    inr (due_for c.args.name.now c.in-Ok-find.finding, read c.args.name.now c.in-Ok.bytes.items _ named c.in-Ok.ensures.read is, c.say_finding.ensures)
+    inr (
+      due_for c.args.name.now c.in-Ok-find.finding,
+      read c.args.name.now c.in-Ok.bytes.items _ named c.in-Ok.ensures.read c.in-Ok-find.ensures,
+      c.say_finding.ensures,
+    )

@@ -1,0 +1,6 @@
+pub mod Finding
+pub mod Reading
+pub mod Fitting
+pub mod Sites
+pub mod Functions
+pub mod ExampleTyped

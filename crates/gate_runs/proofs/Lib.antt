@@ -1,0 +1,3 @@
+pub mod Bind
+mod Ending
+mod Gates

@@ -1,7 +1,0 @@
--- By the order, or by the last look.
-use Rattle.std.proofs.Common.{subst}
-use Rattle.sat_cdcl.specs.Decided.{IsChoice}
-use Rattle.sat_cdcl.proofs.decide.decide.Goals as goal
-
-pub returns : goal.returns
-returns c = subst (λ t. IsChoice t c.collect.new.trail c.in_ok-choice.choice) c.if-decide_active.ensures c.in_ok-choice.ensures

@@ -1,9 +1,0 @@
--- No other reference names the clause that is dropped.
-use Rattle.std.proofs.Common.{slice_get, ap, sym, ◌∙◌}
-use Rattle.sat_cdcl.proofs.LearntLemmas.{thins_one}
-use Rattle.sat_cdcl.proofs.learnt.forget_one.Goals as goal
-
-pub returns-in-Some-clause-thins : goal.returns-in-Some-clause-thins
-returns-in-Some-clause-thins c =
-    thins_one c.args.pool.now c.drop_clause.new.self c.args.table.now.items c.args.i c.in-Some.r c.requires
-    (ap (λ es. slice_get es c.args.i) (sym c.as_slice.ensures.value) ∙ c.in-Some.ensures.found) c.drop_clause.ensures.others

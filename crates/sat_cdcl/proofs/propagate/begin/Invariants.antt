@@ -1,5 +1,0 @@
-use Rattle.sat_cdcl.specs.Weight.{Extends}
-use Rattle.sat_cdcl.proofs.propagate.begin.Given as goal
-
-abbrev pub invariant-loop-i : goal.invariant-loop-i
-invariant-loop-i l = Extends l.clauses.given l.fn.trail l.trail

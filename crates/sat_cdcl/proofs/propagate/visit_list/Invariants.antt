@@ -1,5 +1,0 @@
-use Rattle.sat_cdcl.specs.Weight.{Extends}
-use Rattle.sat_cdcl.proofs.propagate.visit_list.Given as goal
-
-abbrev pub invariant-loop-entry : goal.invariant-loop-entry
-invariant-loop-entry l = Extends l.clauses.given l.fn.trail l.trail

@@ -1,5 +1,0 @@
-use Rattle.std.proofs.Common.{◌+◌, ◌-◌, vec_len}
-use Rattle.sat_cdcl.proofs.watch.note_at.Given as goal
-
-abbrev pub decreases-loop-pairs : goal.decreases-loop-pairs
-decreases-loop-pairs l = l.i + 1 - vec_len l.pairs

@@ -1,0 +1,3 @@
+pub mod Learnt
+pub mod Held
+pub mod Certified
