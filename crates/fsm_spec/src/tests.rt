@@ -35,7 +35,7 @@ fn a_machine_of_three_states(rt: HostRuntime) -> Result<(), Fail> {
 }
 
 /// Lines that break the form: (the file, the number of the line).
-const BROKEN: [(&[u8], u32); 28] = [
+const BROKEN: [(&[u8], u32); 29] = [
     // Missing lines, and files that end within a line.
     (b"", 1),
     (b"mach", 1),
@@ -69,7 +69,11 @@ const BROKEN: [(&[u8], u32); 28] = [
         4,
     ),
     (
-        b"machine m\nstates a b\nop f void a>b b>a\nop spin_trylock void a>b b>a\n",
+        b"machine m\nstates a b\nop f void a>b b>a\nop malloc void a>b b>a\n",
+        4,
+    ),
+    (
+        b"machine m\nstates a b\nop spin_trylock void a>b b>a\nop __builtin_expect zero a>b b>a\n",
         4,
     ),
     (b"machine m\nstates a b\nop f void a>b b>a\n\n", 4),
@@ -176,6 +180,23 @@ fn the_example_files(rt: HostRuntime) -> Result<(), Fail> {
             .ok_or("the machine has the function")?;
         assert_eq!(rt; machine.target(op, state), None);
     }
+    Ok(())
+}
+
+/// A machine of its own for the nine names of locks.
+const NINE: &[u8] =
+    b"machine m\nstates a b\nop spin_lock void a>b b>a\nop mutex_lock void a>b b>a\nop pthread_mutex_lock zero a>b b>a\nop spin_unlock void a>b b>a\nop mutex_unlock void a>b b>a\nop pthread_mutex_unlock zero a>b b>a\nop spin_trylock void a>b b>!\nop mutex_trylock zero a>b b>a\nop pthread_mutex_trylock zero a>b b>a\n";
+
+#[test]
+fn operations_on_all_names_of_locks(rt: HostRuntime) -> Result<(), Fail> {
+    let nine = machine(rt.alloc(), NINE)?;
+    assert_eq!(rt; nine.operations(), 9);
+    assert_eq!(rt; nine.find("spin_trylock"), Some(6));
+    assert_eq!(rt; nine.target(6, 0), Some(1));
+    assert_eq!(rt; nine.target(6, 1), None);
+    assert!(rt; !nine.is_zero(6));
+    assert_eq!(rt; nine.find("pthread_mutex_trylock"), Some(8));
+    assert!(rt; nine.is_zero(8));
     Ok(())
 }
 
