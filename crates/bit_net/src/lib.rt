@@ -9,8 +9,6 @@ mod laws;
 mod literals;
 mod memory;
 mod nodes;
-#[cfg(test)]
-mod tests;
 
 pub use laws::{growth_composes, runs_fit_tables, values_are_runs};
 pub use memory::OutOfMemory;

@@ -19,8 +19,6 @@ mod dividing;
 mod making;
 mod multiplying;
 mod shifting;
-#[cfg(test)]
-mod tests;
 
 use bit_net::{Gate, Net, OutOfMemory};
 use bits::Bitwise;

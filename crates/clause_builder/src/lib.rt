@@ -8,6 +8,3 @@ mod gate_clauses;
 mod loading;
 
 pub use loading::{Lits, load};
-
-#[cfg(test)]
-mod tests;

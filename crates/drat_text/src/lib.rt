@@ -16,6 +16,3 @@ pub use fault::ReadError;
 pub use laws::written_is_read_back;
 pub use reading::read;
 pub use writing::{write, write_parts};
-
-#[cfg(test)]
-mod tests;

@@ -30,12 +30,11 @@ states_in [] = None
 
 -- ---- the other lines
 
--- functions that have a meaning of their own beside the six that lock and unlock
+-- functions whose meaning no machine changes: all built-in ones but those that lock, unlock and try to lock
 abbrev pub built_in : List (List ℕ)
 built_in =
-    codes "spin_trylock" ∷ codes "mutex_trylock" ∷ codes "pthread_mutex_trylock" ∷ codes "malloc" ∷ codes "kmalloc"
-    ∷ codes "calloc" ∷ codes "kzalloc" ∷ codes "free" ∷ codes "kfree" ∷ codes "exit" ∷ codes "_exit" ∷ codes "abort"
-    ∷ codes "panic" ∷ codes "__assert_fail" ∷ codes "__builtin_expect" ∷ []
+    codes "malloc" ∷ codes "kmalloc" ∷ codes "calloc" ∷ codes "kzalloc" ∷ codes "free" ∷ codes "kfree" ∷ codes "exit"
+    ∷ codes "_exit" ∷ codes "abort" ∷ codes "panic" ∷ codes "__assert_fail" ∷ codes "__builtin_expect" ∷ []
 
 unfoldable pub is_function : List ℕ → Bool
 is_function word = is_word word && not (is_among word built_in)

@@ -1,5 +1,6 @@
 -- The machine of locks as a table: a lock is unlocked (U) or locked (L); locking a locked lock and unlocking an
--- unlocked one are errors. The functions that only try to lock are no operations: they have a rule of their own.
+-- unlocked one are errors. The functions that only try to lock are no operations of it: where no file gives the
+-- machine, they have a rule of their own.
 use Rattle.std.specs.Prelude.{ℕ, List, [], ◌∷◌, ◌++◌, Some, None, codes}
 use Rattle.fsm_spec.specs.declared.table.MachineSpec.{MachineSpec}
 use Rattle.fsm_spec.specs.declared.table.Operation.{Operation}

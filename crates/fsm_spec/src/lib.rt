@@ -22,6 +22,3 @@ pub use lock::locks;
 pub use reading::machine;
 pub use table::{MachineSpec, Operation, Returns};
 pub use words::Word;
-
-#[cfg(test)]
-mod tests;

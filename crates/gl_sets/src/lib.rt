@@ -9,8 +9,6 @@ mod laws;
 mod mapping;
 mod pairs;
 mod sets;
-#[cfg(test)]
-mod tests;
 
 pub use laws::{good_sets_stay_good, points_are_guards};
 pub use mapping::{moved, where_target};

@@ -9,8 +9,6 @@
 mod making;
 mod marks;
 mod stores;
-#[cfg(test)]
-mod tests;
 mod values;
 
 pub use making::merge;

@@ -14,6 +14,3 @@ mod tables;
 pub use kinds::{is_cell, is_outer, is_pointer_cell, is_stub};
 pub use lookup::Lookup;
 pub use placed::Placed;
-
-#[cfg(test)]
-mod tests;

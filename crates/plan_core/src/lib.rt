@@ -15,6 +15,3 @@ pub mod state;
 pub use mark::Mark;
 pub use plan::{Edge, Plan};
 pub use state::CoreState;
-
-#[cfg(test)]
-mod tests;

@@ -1,5 +1,6 @@
 //! The tests in which solver and checker of certificates meet: what the solver logs is accepted, and what a slow
-//! checker, written from the definition, says of certificates with one change is what `rup_check` says.
+//! checker, written from the definition, says of certificates with one change is what `rup_check` says. `small`
+//! has the tests of `rup_check` alone.
 #![tactic(auto)]
 
 #[cfg(test)]
@@ -10,3 +11,5 @@ mod formulas;
 mod refuted;
 #[cfg(test)]
 mod slow;
+#[cfg(test)]
+mod small;

@@ -9,6 +9,3 @@ mod occurrences;
 
 pub use least_model::least;
 pub use occurrences::occurring;
-
-#[cfg(test)]
-mod tests;

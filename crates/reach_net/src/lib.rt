@@ -6,7 +6,5 @@
 #![tactic(auto)]
 
 mod rows;
-#[cfg(test)]
-mod tests;
 
 pub use rows::reached;

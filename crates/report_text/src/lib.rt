@@ -17,6 +17,3 @@ mod shown;
 
 pub use checks::text;
 pub use replays::{Ending, replay};
-
-#[cfg(test)]
-mod tests;

@@ -13,6 +13,3 @@ pub use pointers::{Here, dereference, reach, set_state, state_of};
 pub use types::same_type;
 pub use value::Value;
 pub use world::{Ended, Marks, Slot, World};
-
-#[cfg(test)]
-mod tests;

@@ -18,6 +18,3 @@ mod watch;
 
 pub use check::{Checked, check_proof};
 pub use laws::{accepted_clauses_have_no_model, one_answer, refused_steps_are_no_certificate};
-
-#[cfg(test)]
-mod tests;

@@ -21,6 +21,3 @@ pub use fault::OutOfMemory;
 pub use literal::Lit;
 pub use plain::Plain;
 pub use solver::{Answer, Solver};
-
-#[cfg(test)]
-mod tests;

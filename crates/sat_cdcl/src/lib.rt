@@ -20,6 +20,3 @@ mod turn;
 mod values;
 
 pub use solver::Cdcl;
-
-#[cfg(test)]
-mod tests;

@@ -9,6 +9,3 @@ pub mod pool;
 
 pub use moves::Moves;
 pub use pool::{Pool, Ref};
-
-#[cfg(test)]
-mod tests;

@@ -129,6 +129,3 @@ pub fn check_main<F: Files, O: Sink, E: Sink>(
     }
     check_file(alloc, &words[1], files, out, err)
 }
-
-#[cfg(test)]
-mod tests;

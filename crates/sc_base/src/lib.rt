@@ -30,6 +30,3 @@ pub use real::{RealFiles, RealSink};
 pub use rows::RowList;
 pub use sink::Sink;
 pub use skip::{IllTyped, LimitKind, Skip, Unsupported};
-
-#[cfg(test)]
-mod tests;

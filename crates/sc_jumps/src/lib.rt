@@ -11,6 +11,3 @@ mod jumps;
 pub use check::check_jumps;
 pub use gather::jumps_of_body;
 pub use jumps::{Goto, Inward, Jumps};
-
-#[cfg(test)]
-mod tests;

@@ -3,7 +3,5 @@
 
 mod scopes;
 mod stack;
-#[cfg(test)]
-mod tests;
 
 pub use scopes::{Block, Scopes};

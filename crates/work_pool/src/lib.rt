@@ -16,6 +16,3 @@ pub use alone::run_alone;
 pub use gate::{FreeGate, Gate};
 pub use parallel::{Ran, run_all};
 pub use turns::{Ended, worker};
-
-#[cfg(test)]
-mod tests;

@@ -105,6 +105,3 @@ pub fn read_first(alloc: Global, bytes: &[u8]) -> Result<Option<First>, OutOfMem
         Err(Stop::Memory) => Err(OutOfMemory),
     }
 }
-
-#[cfg(test)]
-mod tests;

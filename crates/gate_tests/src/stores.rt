@@ -1,0 +1,321 @@
+//! Worked stores: one cell that is marked; three cells and two pointers over all choices of four inputs, beside a store by hand; and
+//! what a caller's proof looks like after a read, a write and a merge.
+ghost use Rattle.std.specs.Prelude.{◌≡◌, ℕ, ◌<◌, ◌≤◌, List, ◌∷◌, [], length, IfOk, OnOk, if◌then◌else◌};
+ghost use Rattle.bit_net.specs.Circuit.{input_count};
+ghost use Rattle.bit_net.specs.Runs.{Grown, Always};
+ghost use Rattle.bit_words.specs.Number.{top};
+ghost use Rattle.gl_sets.specs.Guards.{Points, guards_top};
+ghost use Rattle.run_store.specs.Concrete.{Place, Numbers, Pointers, load, write};
+ghost use Rattle.gl_store.specs.Meets.{MeetsAll, val_top, locations_top, kinds};
+
+use crate::values::value;
+use bit_net::{Gate, Net, OutOfMemory};
+use bit_words::{Word, constant};
+use gl_sets::{Set, join};
+use gl_store::{Flag, Shape, Store, Val, merge};
+use std::process::Abort;
+use std::test::Fail;
+
+/// The bits of a number.
+fn word(net: &Net, width: usize, number: u64) -> Result<Vec<Gate>, OutOfMemory>
+    ensures { IfOk result (λ r. top r.items ≤ length net.now) }
+{
+    let word = constant(net, number, width)?;
+    Ok(word.bits)
+}
+
+/// The number that a word spells; all bits set for another value.
+fn number(rt: &impl Abort, net: &Net, choice: &[bool], val: &Val) -> u64
+    requires { length choice.now ≡ input_count net.now }
+{
+    match val {
+        Val::Word(word) => {
+            let mut number = 0u64;
+            for bit in &word.bits {
+                number = (number << 1) | u64::from(value(rt, net, choice, *bit));
+            }
+            number
+        }
+        _ => u64::MAX,
+    }
+}
+
+#[test]
+fn marks_where_the_input_holds(rt: HostRuntime) -> Result<(), Fail> {
+    let mut net = Net::new(rt.alloc(), 1)?;
+    let shape = Shape {
+        cells: [8].to_vec(rt.alloc())?,
+    };
+    let mut store = Store::new(&mut net, &shape)?;
+    let input = net.input(0);
+    store.mark(&mut net, input, 0, Flag::Freed)?;
+    let freed = store.flag(0, Flag::Freed);
+    let escaped = store.flag(0, Flag::Escaped);
+    assert_eq!(rt; value(&rt, &net, &[true], freed), true);
+    assert_eq!(rt; value(&rt, &net, &[false], freed), false);
+    assert_eq!(rt; value(&rt, &net, &[true], escaped), false);
+    Ok(())
+}
+
+#[test]
+fn marks_where_the_pointer_leads(rt: HostRuntime) -> Result<(), Fail> {
+    let mut net = Net::new(rt.alloc(), 1)?;
+    let shape = Shape {
+        cells: [8, 255].to_vec(rt.alloc())?,
+    };
+    let mut store = Store::new(&mut net, &shape)?;
+    let input = net.input(0);
+    let first = Set::one(&net, 1);
+    let null = Set::one(&net, 0);
+    let pointer = join(&mut net, input, &first, &null)?;
+    let always = net.constant(true);
+    store.mark_where(&mut net, always, &pointer, Flag::Freed)?;
+    let same = store.try_clone(&net)?;
+    assert_eq!(rt; same.flag_anywhere(&net, 0, Flag::Freed), input);
+    assert_eq!(rt;
+        same.flag_anywhere(&net, 1, Flag::Freed),
+        net.constant(false)
+    );
+    assert_eq!(rt;
+        same.flag_anywhere(&net, 2, Flag::Freed),
+        net.constant(false)
+    );
+    Ok(())
+}
+
+/// A store of three cells of 8 bits, at targets 1 to 3, and of two pointers, at targets 4 and 5.
+fn cells_and_pointers(rt: &HostRuntime, net: &mut Net) -> Result<Store, OutOfMemory>
+    ensures same { net.new ≡ net.old }
+    ensures kinds { IfOk result (λ r. kinds r.locations.items ≡ Numbers 8 ∷ Numbers 8 ∷ Numbers 8 ∷ Pointers ∷ Pointers ∷ []) }
+    ensures below { IfOk result (λ r. locations_top r.locations.items ≤ length net.new) }
+{
+    let shape = Shape {
+        cells: [8, 8, 8, 255, 255].to_vec(rt.alloc())?,
+    };
+    let store = Store::new(net, &shape)?;
+    Ok(store)
+}
+
+/// Makes the pointer at a target point to `first` where `c` holds, else to `second`.
+fn aim(
+    net: &mut Net,
+    store: &mut Store,
+    at: u32,
+    c: Gate,
+    first: u32,
+    second: u32,
+) -> Result<(), OutOfMemory>
+    requires store { locations_top store.old.locations.items ≤ length net.old }
+    requires c { c.at < length net.old }
+    ensures grown { Grown net.old net.new }
+    ensures below { OnOk result (locations_top store.new.locations.items ≤ length net.new) }
+{
+    let always = net.constant(true);
+    let place = Set::one(net, at);
+    let aimed = join(net, c, &Set::one(net, first), &Set::one(net, second))?;
+    store.store(net, always, &place, &Val::Set(aimed))?;
+    Ok(())
+}
+
+/// The pointer that is read at a target, null where there is none.
+fn pointer(net: &mut Net, store: &Store, at: u32) -> Result<Set, OutOfMemory>
+    requires { locations_top store.now.locations.items ≤ length net.old }
+    ensures grown { Grown net.old net.new }
+    ensures below { IfOk result (λ r. guards_top r.pairs.items ≤ length net.new) }
+{
+    let place = Set::one(net, at);
+    let found = store.load(net, &place, 255)?;
+    match found {
+        Val::Set(set) => Ok(set),
+        _ => Ok(Set::one(net, 0)),
+    }
+}
+
+/// Where `live` holds, writes a number of 8 bits at what the pointer at a target points to.
+fn write_through(
+    net: &mut Net,
+    store: &mut Store,
+    live: Gate,
+    at: u32,
+    number: u64,
+) -> Result<(), OutOfMemory>
+    requires store { locations_top store.old.locations.items ≤ length net.old }
+    requires live { live.at < length net.old }
+    ensures grown { Grown net.old net.new }
+    ensures below { OnOk result (locations_top store.new.locations.items ≤ length net.new) }
+{
+    let to = pointer(net, store, at)?;
+    let val = Val::Word(Word {
+        bits: word(net, 8, number)?,
+    });
+    store.store(net, live, &to, &val)?;
+    Ok(())
+}
+
+/// What is read at a target as a number of 8 bits.
+fn cell(net: &mut Net, store: &Store, at: u32) -> Result<Val, OutOfMemory>
+    requires { locations_top store.now.locations.items ≤ length net.old }
+    ensures { Grown net.old net.new }
+{
+    let place = Set::one(net, at);
+    let found = store.load(net, &place, 8)?;
+    Ok(found)
+}
+
+/// What is read as a number of 8 bits where the pointer at a target points to.
+fn cell_through(net: &mut Net, store: &Store, at: u32) -> Result<Val, OutOfMemory>
+    requires { locations_top store.now.locations.items ≤ length net.old }
+    ensures { Grown net.old net.new }
+{
+    let to = pointer(net, store, at)?;
+    let found = store.load(net, &to, 8)?;
+    Ok(found)
+}
+
+/// The same store by hand, for one choice: what is left in the three cells, and what the two pointers then lead to.
+fn by_hand(choice: &[bool; 4]) -> [u64; 5] {
+    let mut cells = [0u64; 3];
+    let first = if choice[0] { 0 } else { 1 };
+    let second = if choice[1] { 1 } else { 2 };
+    if choice[2] {
+        cells[first] = 5;
+    }
+    if choice[3] {
+        cells[second] = 200;
+    }
+    [cells[0], cells[1], cells[2], cells[first], cells[second]]
+}
+
+/// The first pointer points to cell 0 or 1, the second to cell 1 or 2, as the first two inputs say.
+fn aimed(rt: &HostRuntime, net: &mut Net) -> Result<Store, OutOfMemory>
+    requires { input_count net.old ≡ 4 }
+    ensures grown { Grown net.old net.new }
+    ensures below { IfOk result (λ r. locations_top r.locations.items ≤ length net.new) }
+{
+    let first = net.input(0);
+    let second = net.input(1);
+    let mut store = cells_and_pointers(rt, net)?;
+    aim(net, &mut store, 4, first, 1, 2)?;
+    aim(net, &mut store, 5, second, 2, 3)?;
+    Ok(store)
+}
+
+/// Then, where the third input holds, 5 is written through the first pointer, and where the fourth holds, 200 through the second.
+fn written(rt: &HostRuntime, net: &mut Net) -> Result<Store, OutOfMemory>
+    requires { input_count net.old ≡ 4 }
+    ensures grown { Grown net.old net.new }
+    ensures below { IfOk result (λ r. locations_top r.locations.items ≤ length net.new) }
+{
+    let first = net.input(2);
+    let second = net.input(3);
+    let mut store = aimed(rt, net)?;
+    write_through(net, &mut store, first, 4, 5)?;
+    write_through(net, &mut store, second, 5, 200)?;
+    Ok(store)
+}
+
+/// What is read in the three cells, and where the two pointers lead to.
+fn read(net: &mut Net, store: &Store) -> Result<[Val; 5], OutOfMemory>
+    requires { locations_top store.now.locations.items ≤ length net.old }
+    ensures { Grown net.old net.new }
+{
+    let first = cell(net, store, 1)?;
+    let second = cell(net, store, 2)?;
+    let third = cell(net, store, 3)?;
+    let through_first = cell_through(net, store, 4)?;
+    let through_second = cell_through(net, store, 5)?;
+    Ok([first, second, third, through_first, through_second])
+}
+
+/// Holds what was read against the store by hand, for one choice.
+fn agrees(rt: &impl Abort, net: &Net, choice: &[bool; 4], found: &[Val; 5])
+    requires { input_count net.now ≡ 4 }
+{
+    let expected = by_hand(choice);
+    for i in 0..5 {
+        assert_eq!(rt; number(rt, net, choice, &found[i]), expected[i]);
+    }
+}
+
+#[test]
+fn writes_through_two_pointers(rt: HostRuntime) -> Result<(), Fail> {
+    let mut net = Net::new(rt.alloc(), 4)?;
+    let store = written(&rt, &mut net)?;
+    let found = read(&mut net, &store)?;
+    for number in 0..16u32 {
+        let choice = [
+            number % 2 == 1,
+            number / 2 % 2 == 1,
+            number / 4 % 2 == 1,
+            number / 8 % 2 == 1,
+        ];
+        agrees(&rt, &net, &choice, &found);
+    }
+    Ok(())
+}
+
+/// What a caller's proof looks like after three calls in a row: where `live` holds, the number at `from` is written at `to`, and the
+/// store is then merged with that of another branch.
+fn copied_in_a_branch(
+    net: &mut Net,
+    live: Gate,
+    store: &mut Store,
+    from: &Set,
+    to: &Set,
+    c: Gate,
+    other: &Store,
+) -> Result<Store, OutOfMemory>
+    requires kinds { kinds store.old.locations.items ≡ kinds other.now.locations.items }
+    requires store { locations_top store.old.locations.items ≤ length net.old }
+    requires other { locations_top other.now.locations.items ≤ length net.old }
+    requires from { guards_top from.now.pairs.items ≤ length net.old }
+    requires to { guards_top to.now.pairs.items ≤ length net.old }
+    requires live { live.at < length net.old }
+    requires c { c.at < length net.old }
+    ensures grown { Grown net.old net.new }
+    ensures below { IfOk result (λ r. locations_top r.locations.items ≤ length net.new) }
+    ensures same { IfOk result (λ r. kinds r.locations.items ≡ kinds store.old.locations.items) }
+    ensures value { IfOk result (λ r. Always net.new (λ choice v. (ps qs : List Place) (t u : ℕ) → MeetsAll v store.old.locations.items ps
+        → MeetsAll v other.now.locations.items qs → Points v from.now.pairs.items t → Points v to.now.pairs.items u
+        → MeetsAll v r.locations.items (if v c.at then if v live.at then write ps u (load ps (Numbers 8) t) else ps else qs))) }
+{
+    let found = store.load(net, from, 8)?;
+    store.store(net, live, to, &found)?;
+    let merged = merge(net, c, store, other)?;
+    Ok(merged)
+}
+
+/// The blank store with 5 in cell 1.
+fn with_five(rt: &HostRuntime, net: &mut Net) -> Result<Store, OutOfMemory>
+    ensures grown { Grown net.old net.new }
+    ensures kinds { IfOk result (λ r. kinds r.locations.items ≡ Numbers 8 ∷ Numbers 8 ∷ Numbers 8 ∷ Pointers ∷ Pointers ∷ []) }
+    ensures below { IfOk result (λ r. locations_top r.locations.items ≤ length net.new) }
+{
+    let mut store = cells_and_pointers(rt, net)?;
+    let always = net.constant(true);
+    let at = Set::one(net, 1);
+    let five = Val::Word(Word {
+        bits: word(net, 8, 5)?,
+    });
+    store.store(net, always, &at, &five)?;
+    Ok(store)
+}
+
+/// The store of the branch has 5 in cell 1, which is copied to cell 2 where the first input holds; the other store is blank.
+#[test]
+fn copies_in_a_branch(rt: HostRuntime) -> Result<(), Fail> {
+    let mut net = Net::new(rt.alloc(), 2)?;
+    let live = net.input(0);
+    let branch = net.input(1);
+    let from = Set::one(&net, 1);
+    let to = Set::one(&net, 2);
+    let other = cells_and_pointers(&rt, &mut net)?;
+    let mut store = with_five(&rt, &mut net)?;
+    let merged = copied_in_a_branch(&mut net, live, &mut store, &from, &to, branch, &other)?;
+    let found = cell(&mut net, &merged, 2)?;
+    assert_eq!(rt; number(&rt, &net, &[true, true], &found), 5);
+    assert_eq!(rt; number(&rt, &net, &[false, true], &found), 0);
+    assert_eq!(rt; number(&rt, &net, &[true, false], &found), 0);
+    assert_eq!(rt; number(&rt, &net, &[false, false], &found), 0);
+    Ok(())
+}

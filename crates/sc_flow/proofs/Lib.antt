@@ -1,0 +1,5 @@
+pub mod Easy
+pub mod Labels
+pub mod Loops
+pub mod Nodes
+pub mod Whole
