@@ -43,13 +43,11 @@ set_one m g k inside =
     (eqb_tells k g)
 
 length_marked : (gs : List ℕ) (m : List Bool) → length (marked m gs) ≡ length m
-unfolding marked
 length_marked [] m = refl
 length_marked (g ∷ gs) m = length_marked gs (set m g true) ∙ length-set m g true
 
 get_marked : (gs : List ℕ) (m : List Bool) (k : ℕ) → k < length m
     → get_or (marked m gs) k false ≡ (get_or m k false || calls_body gs k)
-unfolding marked
 get_marked [] m k inside = or_false (get_or m k false)
 get_marked (g ∷ gs) m k inside =
     get_marked gs (set m g true) k (subst (λ n. k < n) (sym (length-set m g true)) inside)
@@ -66,7 +64,7 @@ table gs n =
     let inside : k < n = subst (λ j. k < j) same below in
     get_marked gs (replicate n false) k (subst (λ j. k < j) (sym (length-replicate n false)) inside)
     ∙ (ap (λ b. b || calls_body gs k) (get_or-replicate n k false false inside)
-    ∙ sym (get_or-map-range_with_len (calls_body gs) 0 n k k false inside refl)))
+    ∙ sym (get_or-map-range_with_len (calls_body gs) 0 n k k false inside (omega arith))))
 
 -- what is set of such a table is what passes the test
 
@@ -75,7 +73,6 @@ by_test true x xs ys p = ap (λ zs. x ∷ zs) p
 by_test false x xs ys p = p
 
 set_table : (p : ℕ → Bool) (a n : ℕ) → set_from a (map p (range_with_len a n)) ≡ filter p (range_with_len a n)
-unfolding set_from
 set_table p a zero = refl
 set_table p a (suc n) =
     by_test (p a) a (set_from (a + 1) (map p (range_with_len (a + 1) n))) (filter p (range_with_len (a + 1) n))
@@ -90,7 +87,7 @@ marks_are_calls p s =
 -- The rows are a graph, and ascending.
 
 callees_inside : (p : Program) (f : ℕ) → f < length p.functions → callees (rows p) f ≡ row p f
-callees_inside p f inside = get_or-map-range_with_len (row p) 0 (length p.functions) f f [] inside refl
+callees_inside p f inside = get_or-map-range_with_len (row p) 0 (length p.functions) f f [] inside (omega arith)
 
 callees_past : (p : Program) (f : ℕ) → length p.functions ≤ f → callees (rows p) f ≡ []
 callees_past p f past =
@@ -123,7 +120,7 @@ within p f g has =
     (subst (λ gs. Contains gs g) (callees_inside p f inside) has))
     (λ past.
     let none : Contains [] g = subst (λ gs. Contains gs g) (callees_past p f past) has in
-    absurd (omega (arith, none.1.0)))
+    absurd (omega (arith, none.1)))
     (cases_lt f (length p.functions))
 
 pub rows_are_graph : (p : Program) → length p.functions < 2 ^ 32 → IsGraph (rows p)

@@ -1,2 +1,3 @@
 pub mod Marks
+pub mod Meanings
 pub mod CallRows

@@ -3,15 +3,14 @@ use Rattle.std.proofs.Common.{◌≡◌, ℕ, Bool, true, false, Option, Some, N
 use Rattle.sc_world.specs.Tree.{Exp, Comma, Assign, Cond, Binary, Cast, Unary, PreInc, PostInc, SizeofExpr, SizeofType, Index, Call, Field, Param, Local, Global, Function, Number, Str, Convert, Temp, TempPlace, Exps, NoExps, Exps', Given, Init, NoInit, One, Braces, Dec, Start, NoStart, Begin, Declare, Stm, Block, Decl, Evaluate, If, IfElse, While, Do, For, Switch, Case, Default, Goto, Break, Continue, Return, Label, Stms, NoStms, Stms'}
 use Rattle.sc_world.specs.Source.{Source}
 use Rattle.program_verdicts.specs.CallGraph.{called, in_exp, in_exps, in_exp_if, in_items, in_init, in_declarators, in_start, in_stm, in_stms}
+use Rattle.program_plan.proofs.Meanings.{called_same}
 use Rattle.program_plan.specs.Marks.{marked, mark_exp, mark_exps, mark_exp_if, mark_items, mark_init, mark_declarators, mark_start, mark_stm, mark_stms}
 
 marked_append : (m : List Bool) (xs ys : List ℕ) → marked m (xs ++ ys) ≡ marked (marked m xs) ys
-unfolding marked
 marked_append m [] ys = refl
 marked_append m (x ∷ xs) ys = marked_append _ xs ys
 
 nothing : (m : List Bool) → m ≡ marked m []
-unfolding marked
 nothing m = refl
 
 -- one walk behind another
@@ -36,7 +35,8 @@ module _ (s : Source) where
     exp (Index a b t) m = behind m (in_exp s a) (in_exp s b) (exp a m) (exp b (mark_exp s a m))
     exp (Call p f es t) m =
         behind m (in_exp s f) (in_exps s es ++ called s f) (exp f m)
-        (behind (mark_exp s f m) (in_exps s es) (called s f) (exps es (mark_exp s f m)) refl)
+        (behind (mark_exp s f m) (in_exps s es) (called s f) (exps es (mark_exp s f m))
+        (ap (marked (mark_exps s es (mark_exp s f m))) (called_same s f)))
     exp (Field a n arrow t) m = exp a m
     exp (Param n t) m = nothing m
     exp (Local n t) m = nothing m

@@ -3,22 +3,34 @@
 -- graph of `program_verdicts` names.
 use Rattle.std.specs.Prelude.{ℕ, ◌+◌, Bool, true, false, Option, Some, None, List, [], ◌∷◌, if◌then◌else◌, slice_set}
 use Rattle.sc_world.specs.Tree.{Exp, Comma, Assign, Cond, Binary, Cast, Unary, PreInc, PostInc, SizeofExpr, SizeofType, Index, Call, Field, Param, Local, Global, Function, Number, Str, Convert, Temp, TempPlace, Exps, NoExps, Exps', Given, Init, NoInit, One, Braces, Dec, Start, NoStart, Begin, Declare, Stm, Block, Decl, Evaluate, If, IfElse, While, Do, For, Switch, Case, Default, Goto, Break, Continue, Return, Label, Stms, NoStms, Stms'}
-use Rattle.sc_world.specs.Source.{Source, Effect, effect_of_name, text_of}
-use Rattle.program_verdicts.specs.CallGraph.{called}
+use Rattle.sc_world.specs.Source.{Source, Effect, Unknown, effect_of_name, text_of}
 
 -- the marks where the functions of a list are marked, too
-unfoldable pub marked : List Bool → List ℕ → List Bool
+abbrev pub marked : List Bool → List ℕ → List Bool
 marked marks [] = marks
 marked marks (g ∷ gs) = marked (slice_set marks g true) gs
 
 -- the numbers of the marks that are set, ascending, where the first has that number
-unfoldable pub set_from : ℕ → List Bool → List ℕ
+abbrev pub set_from : ℕ → List Bool → List ℕ
 set_from k [] = []
 set_from k (b ∷ bs) = if b then k ∷ set_from (k + 1) bs else set_from (k + 1) bs
+
+abbrev pub is_unknown : Effect → Bool
+is_unknown Unknown = true
+is_unknown _ = false
 
 abbrev pub is_meaningless : Option Effect → Bool
 is_meaningless None = true
 is_meaningless (Some e) = false
+
+-- the body that a callee means, where a call of it means one
+abbrev pub if_means : Bool → ℕ → List ℕ
+if_means true g = g ∷ []
+if_means false g = []
+
+abbrev pub called_if : Bool → Exp → List ℕ
+called_if b (Function n (Some g) t) = if_means b g
+called_if b _ = []
 
 module _ (s : Source) where
   -- whether a call of that callee means a body, if its name does: a name with a meaning of its own means none
@@ -39,7 +51,7 @@ module _ (s : Source) where
     mark_exp (SizeofExpr a n t) m = mark_exp a m
     mark_exp (SizeofType n t) m = m
     mark_exp (Index a b t) m = mark_exp b (mark_exp a m)
-    mark_exp (Call p f es t) m = marked (mark_exps es (mark_exp f m)) (called s f)
+    mark_exp (Call p f es t) m = marked (mark_exps es (mark_exp f m)) (called_if (means_body f) f)
     mark_exp (Field a n arrow t) m = mark_exp a m
     mark_exp (Param n t) m = m
     mark_exp (Local n t) m = m

@@ -3,7 +3,6 @@
 ghost use Rattle.std.specs.Prelude.{◌≡◌, true, slice_set};
 ghost use Rattle.sc_world.specs.View as view;
 ghost use Rattle.sc_gather.specs.Seen as seen;
-ghost use Rattle.program_verdicts.specs.CallGraph as graph;
 ghost use Rattle.program_plan.specs.Marks as spec;
 
 use sc_base::List;
@@ -20,7 +19,18 @@ fn mark(marks: &mut [bool], function: u32)
     }
 }
 
-// Whether a call of `f` means a body, if its name does: a name with a meaning of its own does not.
+fn is_unknown(effect: Effect) -> bool
+    ensures { result ≡ spec.is_unknown (seen.meaning effect) }
+{
+    match effect {
+        Effect::Unknown => true,
+        Effect::Operation(_) | Effect::Try(_, _) | Effect::Allocate(_) => false,
+        Effect::Release | Effect::Ends | Effect::Expect | Effect::Known(_) => false,
+    }
+}
+
+// Whether a call of `f` means a body, if its name does: a name with a meaning of its own does not. Where no callee
+// has a summary, nothing is known of a call exactly where its name has no such meaning.
 fn means_body(here: &Context, f: &TExpr) -> bool
     ensures { result ≡ spec.means_body (seen.source_of here.now) (view.exp (seen.source_of here.now).structs f.now) }
 {
@@ -29,17 +39,14 @@ fn means_body(here: &Context, f: &TExpr) -> bool
         verdicts: &[],
         ..*here
     };
-    match alone.effect(f, &[], &f.ctype) {
-        Effect::Unknown => true,
-        Effect::Operation(_) | Effect::Try(_, _) | Effect::Allocate(_) => false,
-        Effect::Release | Effect::Ends | Effect::Expect | Effect::Known(_) => false,
-    }
+    is_unknown(alone.effect(f, &[], &f.ctype))
 }
 
 // Marks the function that a call of `f` means.
 fn called(marks: &mut [bool], here: &Context, f: &TExpr)
     ensures { marks.new ≡ spec.marked marks.old
-        (graph.called (seen.source_of here.now) (view.exp (seen.source_of here.now).structs f.now)) }
+        (spec.called_if (spec.means_body (seen.source_of here.now) (view.exp (seen.source_of here.now).structs f.now))
+        (view.exp (seen.source_of here.now).structs f.now)) }
 {
     match &f.what {
         What::Function(_, body) => match body {

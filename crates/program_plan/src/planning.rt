@@ -30,7 +30,7 @@ fn edges(rows: &[List<u32>]) -> Result<u64, OutOfMemory>
 }
 
 // The plan of a call graph with that many edges.
-#[tactic(auto, using(crate::proofs::CallRows::rows_are_graph, crate::proofs::Rows::rows_ascend))]
+#[tactic(auto, using(crate::proofs::CallRows::rows_are_graph, crate::proofs::CallRows::rows_ascend))]
 fn planned(
     alloc: Global,
     program: &Program,

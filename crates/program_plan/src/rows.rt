@@ -44,13 +44,38 @@ fn row(alloc: Global, here: &Context) -> Result<List<u32>, OutOfMemory>
     requires few { length here.now.program.now.functions < 2 ^ 32 }
     ensures { IfOk result (λ row. row ≡ made.row_in here.now.program.now (seen.source_of here.now)) }
 {
-    let mut marks = vec![in alloc; false; here.program.functions.len()]?;
-    body(&mut marks, here);
-    set_marks(alloc, &marks)
+    let mut room = vec![in alloc; false; here.program.functions.len()]?;
+    let marks = room.as_mut_slice();
+    body(marks, here);
+    set_marks(alloc, marks)
+}
+
+// The row of the function with that number, with a machine that is told.
+#[tactic(auto, unfolding(sc_gather::specs::Seen::source_of))]
+fn row_with(
+    alloc: Global,
+    program: &Program,
+    machine: &MachineSpec,
+    tries: bool,
+    function: u32,
+) -> Result<List<u32>, OutOfMemory>
+    requires few { length program.now.functions < 2 ^ 32 }
+    ensures { IfOk result (λ row. row ≡ made.row_with program.now machine.now tries function) }
+{
+    let here = Context {
+        program,
+        machine,
+        tries,
+        function,
+        kept: &[],
+        verdicts: &[],
+        depth: 0,
+        reach: 0,
+    };
+    row(alloc, &here)
 }
 
 // The call graph, with a machine that is told.
-#[tactic(auto, unfolding(sc_gather::specs::Seen::source_of))]
 fn rows_with(
     alloc: Global,
     program: &Program,
@@ -62,17 +87,8 @@ fn rows_with(
 {
     let mut rows = List::new(alloc);
     for number in 0..program.functions.len() {
-        let here = Context {
-            program,
-            machine,
-            tries,
-            function: number as u32,
-            kept: &[],
-            verdicts: &[],
-            depth: 0,
-            reach: 0,
-        };
-        rows.push(row(alloc, &here)?)?;
+        let row = row_with(alloc, program, machine, tries, number as u32)?;
+        rows.push(row)?;
     }
     Ok(rows)
 }
