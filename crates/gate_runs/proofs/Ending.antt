@@ -1,9 +1,8 @@
 -- A run that ends for a reason where a gate holds.
-use Rattle.std.proofs.Common.{◌≡◌, ℕ, ◌+◌, ◌<◌, ◌≤◌, zero, suc, max, nat_eq, Bool, true, false, not, ◌&&◌, ◌||◌, if◌then◌else◌, Option, Some, None, List, [], ◌∷◌, length, set, get_or, refl, sym, ◌∙◌, ap, subst, eqb-true, arith}
-use Rattle.bit_net.specs.declared.nodes.Gate.{Gate}
+use Rattle.std.proofs.Common.{◌≡◌, ℕ, ◌<◌, nat_eq, Bool, true, false, not, ◌&&◌, ◌||◌, if◌then◌else◌, Some, List, length, refl, sym, ◌∙◌, ap, subst, eqb-true}
 use Rattle.gl_store.specs.declared.stores.Location.{Location}
 use Rattle.gl_store.specs.Meets.{MeetsAll}
-use Rattle.sc_world.specs.World.{World, Ended, Run, done, ends}
+use Rattle.sc_world.specs.World.{World, Ended, done, ends}
 use Rattle.gate_runs.specs.declared.ends.Ends.{Ends}
 use Rattle.gate_runs.specs.Standing.{Standing, On, Over, stand, after, is_aside, is_bad}
 use Rattle.gate_runs.specs.Stands.{Stands, Tells, Does, Any, told, ends_where}

@@ -1,5 +1,5 @@
 -- Where a run stands: it goes on with a value, or it is over. It is over with an end, or because it never came here.
-use Rattle.std.specs.Prelude.{ℕ, suc, nat_eq, Bool, true, false, Option, Some, None, Result, Ok, Err, List, [], ◌∷◌, slice_index_or}
+use Rattle.std.specs.Prelude.{ℕ, suc, nat_eq, Bool, true, false, Option, Some, None, Result, Ok, Err}
 use Rattle.sc_world.specs.declared.run.Reason.{Reason}
 use Rattle.sc_world.specs.declared.run.Reason.TheVariants as reason
 use Rattle.sc_world.specs.World.{World, Ended, Error, Inner, Aside, Run}

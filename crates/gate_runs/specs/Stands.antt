@@ -1,6 +1,6 @@
 -- When gates tell, for the values v of the gates, where a run stands; and when a step of gates does what a step of
 -- runs does.
-use Rattle.std.specs.Prelude.{◌≡◌, ℕ, suc, zero, ◌+◌, ◌<◌, ◌≤◌, max, Bool, true, false, ◌&&◌, ◌||◌, nat_eq, Option, Some, None, List, [], ◌∷◌, length, if◌then◌else◌}
+use Rattle.std.specs.Prelude.{◌≡◌, ℕ, suc, zero, ◌+◌, ◌<◌, ◌≤◌, max, Bool, false, List, [], ◌∷◌, length, if◌then◌else◌}
 use Rattle.bit_net.specs.declared.nodes.Gate.{Gate}
 use Rattle.bit_net.specs.declared.nodes.Node.{Node}
 use Rattle.bit_net.specs.Runs.{Runs}
@@ -9,7 +9,7 @@ use Rattle.gl_store.specs.Meets.{MeetsAll}
 use Rattle.sc_world.specs.declared.run.Reason.{Reason}
 use Rattle.sc_world.specs.World.{World, Ended, Error, Inner, Aside, Run, done, ends}
 use Rattle.gate_runs.specs.declared.ends.Ends.{Ends}
-use Rattle.gate_runs.specs.Standing.{Standing, On, Over, world_of, is_on, end_of, after, is_aside, is_bad, reasons, reason_number}
+use Rattle.gate_runs.specs.Standing.{Standing, On, Over, world_of, is_on, end_of, after, is_aside, is_bad, reasons}
 
 -- the value of the gate with a number, false where there is none
 unfoldable pub told : (v : ℕ → Bool) → List Gate → ℕ → Bool

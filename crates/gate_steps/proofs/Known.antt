@@ -1,12 +1,12 @@
 -- Steps that are the same in every world, and what is known of what a step gives where the run goes on behind it.
-use Rattle.std.proofs.Common.{◌≡◌, ℕ, Bool, true, false, not, Option, List, Result, Ok, Err, if◌then◌else◌, refl, sym, ◌∙◌, ap, subst}
+use Rattle.std.proofs.Common.{◌≡◌, ℕ, Bool, true, false, not, List, Result, Ok, Err, refl, ap, subst}
 use Rattle.gl_store.specs.declared.stores.Location.{Location}
 use Rattle.gl_store.specs.Meets.{MeetsAll}
 use Rattle.sc_world.specs.declared.run.Reason.{Reason}
-use Rattle.sc_world.specs.World.{World, Ended, Aside, Run, unless, aside, done, ends}
+use Rattle.sc_world.specs.World.{World, Ended, Run, unless, done}
 use Rattle.gate_runs.specs.declared.ends.Ends.{Ends}
 use Rattle.gate_runs.specs.Standing.{Standing, On, Over, stand, after}
-use Rattle.gate_runs.specs.Stands.{Stands, Does, Any, ends_where, aside_where}
+use Rattle.gate_runs.specs.Stands.{Stands, Does, Any, aside_where}
 
 -- another name of the same step
 
@@ -71,7 +71,7 @@ unless_is : (b : Bool) (reason : Reason) (w : World) → aside_where (λ x. not 
 unless_is true reason w = refl
 unless_is false reason w = refl
 
-has_passed : {A : Type 0} → Result A Ended × World → Bool
+abbrev has_passed : {A : Type 0} → Result A Ended × World → Bool
 has_passed (Ok a, w) = true
 has_passed (Err e, w) = false
 

@@ -1,13 +1,14 @@
 -- A place of the run's store and the target of a guarded set.
-use Rattle.std.proofs.Common.{◌≡◌, ℕ, zero, suc, ◌<◌, ◌≤◌, Bool, true, false, ◌||◌, List, [], ◌∷◌, Ok, length, slice_index_or, if◌then◌else◌, refl, sym, ◌∙◌, ap, subst}
+use Rattle.std.proofs.Common.{◌≡◌, ℕ, zero, suc, ◌<◌, ◌≤◌, Bool, true, false, ◌||◌, List, [], ◌∷◌, Ok, length, get_or, if◌then◌else◌, refl, sym, ◌∙◌, ap, subst, arith}
 use Rattle.bit_net.specs.declared.nodes.Node.{Node}
 use Rattle.bit_net.specs.Runs.{Runs, Grown}
 use Rattle.gl_sets.specs.declared.pairs.Pair.{Pair}
-use Rattle.gl_sets.specs.Guards.{Points}
 use Rattle.gl_store.specs.declared.values.Val.{Val}
 use Rattle.gl_store.specs.declared.stores.Location.{Location}
-use Rattle.gl_store.specs.Meets.{Meets, MeetsAll, val_kind, kinds}
-use Rattle.gl_store.specs.Steps.{IsLoaded, IsStored, IsMarkedWhere, marked_target}
+use Rattle.gl_store.specs.declared.values.Val.TheVariants.{Unit as Empty}
+use Rattle.gl_store.specs.Meets.{Meets, MeetsAll, val_kind, locations_top}
+use Rattle.gl_store.specs.Steps.{IsLoaded, IsSame, IsStored, IsMarkedWhere, marked_target}
+use Rattle.gl_store.proofs.PlaceLemmas.{locations_top-at}
 use Rattle.gl_store.proofs.ValueLemmas.{Meets-kind, put_same}
 use Rattle.run_store.specs.declared.Flag.{Flag}
 use Rattle.run_store.specs.declared.Flag.TheVariants.{Touched, Written, Allocated, Freed, Escaped}
@@ -18,7 +19,7 @@ use Rattle.sc_world.specs.World.{World, Run}
 use Rattle.gate_runs.specs.declared.ends.Ends.{Ends}
 use Rattle.gate_runs.specs.Standing.{Standing, On, Over, after}
 use Rattle.gate_runs.specs.Stands.{Stands, Does, Any}
-use Rattle.gate_steps.specs.Steps.{kind_at, LeadsTo, DoesLoad, DoesStore, DoesMark}
+use Rattle.gate_steps.specs.Steps.{kind_at, LeadsTo, DoesLoad, DoesMark, DoesRead, DoesStore}
 
 -- a place has a cell of the kind that its location has
 kind_met : (v : ℕ → Bool) (ls : List Location) (ps : List Place) (at : ℕ) → MeetsAll v ls ps → kind_of (nth_cell ps at) ≡ kind_at ls at
@@ -71,6 +72,70 @@ module _ (ns : List Node) (locations : List Location) (pointer : List Pair) (kin
         same = loaded.same;
         does = λ choice v runs gates at leads typed. record { does = load_from choice v runs gates at leads typed };
       }
+
+-- What a location has.
+
+cell_met : (v : ℕ → Bool) (ls : List Location) (ps : List Place) (at : ℕ) (d : Location) → at < length ls → MeetsAll v ls ps
+    → Meets v (get_or ls at d).val (nth_cell ps at)
+cell_met v (l ∷ ls) (p ∷ ps) zero d low h = h.0.cell
+cell_met v (l ∷ ls) (p ∷ ps) (suc at) d low h = cell_met v ls ps at d (omega (arith, low)) h.1
+cell_met v [] ps at d low h = absurd (omega (arith, low))
+cell_met v (l ∷ ls) [] at d low h = absurd h
+
+kind_there : (ls : List Location) (at : ℕ) (d : Location) → at < length ls → val_kind (get_or ls at d).val ≡ kind_at ls at
+kind_there (l ∷ ls) zero d low = refl
+kind_there (l ∷ ls) (suc at) d low = kind_there ls at d (omega (arith, low))
+kind_there [] at d low = absurd (omega (arith, low))
+
+no_cell : (v : ℕ → Bool) (ls : List Location) (ps : List Place) (at : ℕ) → length ls ≤ at → MeetsAll v ls ps → nth_cell ps at ≡ Nothing
+no_cell v [] [] at high h = refl
+no_cell v (l ∷ ls) (p ∷ ps) zero high h = absurd (omega (arith, high))
+no_cell v (l ∷ ls) (p ∷ ps) (suc at) high h = no_cell v ls ps at (omega (arith, high)) h.1
+no_cell v [] (p ∷ ps) at high h = absurd h
+no_cell v (l ∷ ls) [] at high h = absurd h
+
+no_kind : (ls : List Location) (at : ℕ) → length ls ≤ at → kind_at ls at ≡ NoCell
+no_kind [] at high = refl
+no_kind (l ∷ ls) zero high = absurd (omega (arith, high))
+no_kind (l ∷ ls) (suc at) high = no_kind ls at (omega (arith, high))
+
+read_from : (v : ℕ → Bool) (ls : List Location) (gates : Ends) (at : ℕ) (r : Val) → ((ps : List Place) → MeetsAll v ls ps → Meets v r (nth_cell ps at))
+    → (s : Standing (Unit {0})) → Stands v ls gates (Any {A = Unit {0}}) s → Stands v ls gates (Meets v r) (after s (λ u. run.load at))
+read_from v ls gates at r met (On u w) h =
+    record {
+      store = h.store;
+      tells = record { live = h.tells.live; asides = h.tells.asides; bads = h.tells.bads };
+      given = nth_cell w.places at;
+      good = met w.places h.store;
+      is = refl;
+    }
+read_from v ls gates at r met (Over e w) h =
+    record {
+      store = h.store;
+      tells = record { live = h.tells.live; asides = h.tells.asides; bads = h.tells.bads };
+      given = nth_cell w.places at;
+      good = met w.places h.store;
+      is = tt;
+    }
+
+pub does_read : (ns : List Node) (ls : List Location) (at : ℕ) (d : Location) (r : Val) → at < length ls → locations_top ls ≤ length ns
+    → IsSame (get_or ls at d).val r → DoesRead ns ls at r
+does_read ns ls at d r low below same =
+    record {
+      below = omega (arith, below, same.top, locations_top-at ls at d low);
+      same = same.kind ∙ kind_there ls at d low;
+      does = λ v gates.
+          record { does = read_from v ls gates at r (λ ps met. same.value v (nth_cell ps at) (cell_met v ls ps at d low met)) };
+    }
+
+pub does_read_none : (ns : List Node) (ls : List Location) (at : ℕ) → length ls ≤ at → DoesRead ns ls at Empty
+does_read_none ns ls at high =
+    record {
+      below = omega arith;
+      same = sym (no_kind ls at high);
+      does = λ v gates.
+          record { does = read_from v ls gates at Empty (λ ps met. subst (λ c. Meets v Empty c) (sym (no_cell v ls ps at high met)) tt) };
+    }
 
 -- Marking and writing.
 

@@ -32,6 +32,12 @@ pub record DoesLoad (ns : List Node) (locations : List Location) (pointer : List
   pub does : (choice v : ℕ → Bool) → Runs ns choice v → (gates : Ends) (at : ℕ) → LeadsTo v gates pointer at
       → (v gates.live.at ≡ true → kind_at locations at ≡ kind) → Does v locations gates (load at) locations gates (Meets v r)
 
+-- what a location has
+pub record DoesRead (ns : List Node) (locations : List Location) (at : ℕ) (r : Val) : Type 0 where
+  pub below : val_top r ≤ length ns
+  pub same : val_kind r ≡ kind_at locations at
+  pub does : (v : ℕ → Bool) (gates : Ends) → Does v locations gates (load at) locations gates (Meets v r)
+
 -- the value is stored at a place
 pub record DoesStore (ns : List Node) (gates : Ends) (pointer : List Pair) (val : Val) (old new : List Location) : Type 0 where
   pub below : locations_top new ≤ length ns

@@ -1,4 +1,4 @@
-//! Steps of runs as gates: what a place has is read, a cell is written, a mark is set, and a run goes on only where a
+//! Steps of runs as gates: what a location or a place has is read, a cell is written, a mark is set, and a run goes on only where a
 //! gate holds.
 //!
 //! Each step does, for every choice, what the step of its name does in a run (`Does` of `gate_runs`).
@@ -6,4 +6,4 @@
 
 mod steps;
 
-pub use steps::{load, mark, store, unless};
+pub use steps::{load, mark, read, store, unless};

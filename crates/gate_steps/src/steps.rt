@@ -6,12 +6,12 @@ ghost use Rattle.gl_sets.specs.Guards.{guards_top};
 ghost use Rattle.run_store.specs.Concrete.{width_kind};
 ghost use Rattle.gl_store.specs.Meets.{val_top, locations_top};
 ghost use Rattle.gate_runs.specs.Stands.{AreEnds};
-ghost use Rattle.gate_steps.specs.Steps.{DoesLoad, DoesStore, DoesMark, GoesOnWhere};
+ghost use Rattle.gate_steps.specs.Steps.{DoesLoad, DoesMark, DoesRead, DoesStore, GoesOnWhere};
 
 use bit_net::{Gate, Net, OutOfMemory};
 use gate_runs::Ends;
 use gl_sets::Set;
-use gl_store::{Flag, Store, Val};
+use gl_store::{Flag, Location, Store, Val};
 use sc_world::Reason;
 
 /// What the place to which `at` points has, of which a cell has that width: 0 for none, 255 for a pointer.
@@ -23,6 +23,27 @@ pub fn load(net: &mut Net, store: &Store, at: &Set, width: u32) -> Result<Val, O
 {
     let val = store.load(net, at, width)?;
     Ok(val)
+}
+
+/// What the location with that number has; nothing where there is none. Whatever its kind, this is what the run reads there.
+pub fn read(net: &Net, store: &Store, at: u32) -> Result<Val, OutOfMemory>
+    requires store { locations_top store.now.locations.items ≤ length net.now }
+    ensures { IfOk result (λ r. DoesRead net.now store.now.locations.items at r) }
+{
+    read_from(net, &store.locations, at as usize)
+}
+
+// What the location with that number has.
+fn read_from(net: &Net, locations: &[Location], at: usize) -> Result<Val, OutOfMemory>
+    requires { locations_top locations.now ≤ length net.now }
+    ensures { IfOk result (λ r. DoesRead net.now locations.now at r) }
+{
+    if at < locations.len() {
+        let val = locations[at].val.try_clone(net)?;
+        Ok(val)
+    } else {
+        Ok(Val::Unit)
+    }
 }
 
 /// The value is written to the place to which `at` points, which is marked as written, where the run goes on. After a

@@ -3,7 +3,6 @@ use Rattle.std.specs.Vec.{with_items}
 use Rattle.std.proofs.lemmas.List.{with_items_is}
 use Rattle.gate_runs.specs.declared.ends.Ends.{Ends}
 use Rattle.sc_world.specs.World.{Aside}
-use Rattle.gate_runs.specs.Standing.{reason_number}
 use Rattle.gate_runs.specs.Stands.{told}
 use Rattle.gate_runs.proofs.Ending.{put_or, or_false, ended}
 use Rattle.gate_runs.proofs.ends.Ends.end_where.Goals as goal

@@ -2,10 +2,10 @@ use Rattle.std.proofs.Common.{◌≡◌, ℕ, Bool, ◌&&◌, ◌||◌, nat_eq, 
 use Rattle.std.specs.Vec.{with_items}
 use Rattle.std.proofs.lemmas.List.{with_items_is}
 use Rattle.bit_net.specs.Runs.{Runs}
-use Rattle.sc_world.specs.World.{Ended, Error, Inner}
+use Rattle.sc_world.specs.World.{Error, Inner}
 use Rattle.gate_runs.specs.declared.ends.Ends.{Ends}
 use Rattle.gate_runs.specs.Stands.{told}
-use Rattle.gate_runs.proofs.Ending.{Ended', put_or, or_false, ended}
+use Rattle.gate_runs.proofs.Ending.{put_or, or_false, ended}
 use Rattle.gate_runs.proofs.ends.Ends.fail_where.Goals as goal
 
 pub returns-clause-ok : goal.returns-clause-ok
