@@ -1,11 +1,11 @@
 -- Steps of gates one after the other do what steps of runs do one after the other. No step needs to know whether the
 -- run goes on.
-use Rattle.std.proofs.Common.{◌≡◌, ℕ, Bool, Option, Some, None, List, Result, Ok, Err, refl, sym, subst}
+use Rattle.std.proofs.Common.{ℕ, Bool, Option, Some, List, Result, Ok, Err, refl, sym, subst}
 use Rattle.gl_store.specs.declared.stores.Location.{Location}
 use Rattle.sc_world.specs.World.{World, Ended, Run, ◌>>=◌, goes_on, done}
 use Rattle.gate_runs.specs.declared.ends.Ends.{Ends}
 use Rattle.gate_runs.specs.Standing.{Standing, On, Over, stand, after}
-use Rattle.gate_runs.specs.Stands.{Stands, Tells, Does, Any}
+use Rattle.gate_runs.specs.Stands.{Stands, Does, Any}
 
 -- what is known of where a run stands, without what it gave
 went_on : {A : Type 0} (v : ℕ → Bool) (l : List Location) (g : Ends) (Good : A → Type 0) (a : A) (w : World) → Stands v l g Good (On a w)

@@ -1,5 +1,5 @@
 -- Lists of gates: what one of them tells, and another one in its place.
-use Rattle.std.proofs.Common.{◌≡◌, ℕ, zero, suc, ◌+◌, ◌<◌, ◌≤◌, max, nat_eq, Bool, true, false, cond, List, [], ◌∷◌, ◌++◌, length, slice_index_or, slice_set, refl, sym, ◌∙◌, ap, subst, arith}
+use Rattle.std.proofs.Common.{◌≡◌, ℕ, zero, suc, ◌+◌, ◌<◌, ◌≤◌, max, nat_eq, Bool, false, cond, List, [], ◌∷◌, ◌++◌, length, slice_index_or, slice_set, refl, sym, ◌∙◌, ap, arith}
 use lib.Dec.{eqb-suc-zero, eqb-suc-suc, eqb-zero-suc}
 use Rattle.bit_net.specs.declared.nodes.Gate.{Gate}
 use Rattle.gate_runs.specs.Stands.{told, gates_top}

@@ -1,5 +1,5 @@
 -- Where a run stands: it goes on with a value, or it is over. It is over with an end, or because it never came here.
-use Rattle.std.specs.Prelude.{ℕ, nat_eq, Bool, true, false, Option, Some, None, Result, Ok, Err, List, [], ◌∷◌, slice_index_or}
+use Rattle.std.specs.Prelude.{ℕ, suc, nat_eq, Bool, true, false, Option, Some, None, Result, Ok, Err}
 use Rattle.sc_world.specs.declared.run.Reason.{Reason}
 use Rattle.sc_world.specs.declared.run.Reason.TheVariants as reason
 use Rattle.sc_world.specs.World.{World, Ended, Error, Inner, Aside, Run}
@@ -44,8 +44,9 @@ reason_number reason.Alias = 8
 reason_number reason.NoRow = 9
 reason_number reason.NoReturn = 10
 
+-- how many reasons there are
 abbrev pub reasons : ℕ
-reasons = 11
+reasons = suc (reason_number reason.NoReturn)
 
 -- whether that is the end of a run that was set aside for the reason with the number k
 abbrev pub is_aside : ℕ → Option Ended → Bool

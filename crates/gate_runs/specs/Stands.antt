@@ -1,15 +1,15 @@
 -- When gates tell, for the values v of the gates, where a run stands; and when a step of gates does what a step of
 -- runs does.
-use Rattle.std.specs.Prelude.{◌≡◌, ℕ, suc, zero, ◌+◌, ◌<◌, ◌≤◌, max, Bool, true, false, ◌&&◌, ◌||◌, nat_eq, Option, Some, None, List, [], ◌∷◌, length, if◌then◌else◌}
+use Rattle.std.specs.Prelude.{◌≡◌, ℕ, suc, zero, ◌+◌, ◌<◌, ◌≤◌, max, Bool, false, List, [], ◌∷◌, length, if◌then◌else◌}
 use Rattle.bit_net.specs.declared.nodes.Gate.{Gate}
 use Rattle.bit_net.specs.declared.nodes.Node.{Node}
 use Rattle.bit_net.specs.Runs.{Runs}
 use Rattle.gl_store.specs.declared.stores.Location.{Location}
 use Rattle.gl_store.specs.Meets.{MeetsAll}
 use Rattle.sc_world.specs.declared.run.Reason.{Reason}
-use Rattle.sc_world.specs.World.{World, Ended, Run, done, aside}
+use Rattle.sc_world.specs.World.{World, Ended, Error, Inner, Aside, Run, done, ends}
 use Rattle.gate_runs.specs.declared.ends.Ends.{Ends}
-use Rattle.gate_runs.specs.Standing.{Standing, On, Over, world_of, is_on, end_of, after, is_aside, is_bad, reasons, reason_number}
+use Rattle.gate_runs.specs.Standing.{Standing, On, Over, world_of, is_on, end_of, after, is_aside, is_bad, reasons}
 
 -- the value of the gate with a number, false where there is none
 unfoldable pub told : (v : ℕ → Bool) → List Gate → ℕ → Bool
@@ -58,14 +58,25 @@ pub record AreEnds (ns : List Node) (gates : Ends) : Type 0 where
   pub bads : gates_top gates.bads.items ≤ length ns
   pub each : length gates.asides.items ≡ reasons
 
+-- a run that ends so where the test holds
+abbrev pub ends_where : (World → Bool) → Ended → Run (Unit {0})
+ends_where test e w = (if test w then ends e else done tt) w
+
 -- a run that is set aside where the test holds
 abbrev pub aside_where : (World → Bool) → Reason → Run (Unit {0})
-aside_where test r w = (if test w then aside r else done tt) w
+aside_where test r = ends_where test (Aside r)
 
 -- the run ends for that reason where the gate holds and the run goes on
 pub record IsEndedWhere (ns : List Node) (when : ℕ) (reason : Reason) (old new : Ends) : Type 0 where
   pub does : (choice v : ℕ → Bool) → Runs ns choice v → (locations : List Location) (test : World → Bool)
       → ((w : World) → MeetsAll v locations w.places → v when ≡ test w) → Does v locations old (aside_where test reason) locations new Any
+
+-- the run ends by an error at that location, which callers know or not, where the gate holds and the run goes on
+pub record HasFailedWhere (ns : List Node) (when at : ℕ) (old new : Ends) : Type 0 where
+  pub outer : (choice v : ℕ → Bool) → Runs ns choice v → (locations : List Location) (test : World → Bool)
+      → ((w : World) → MeetsAll v locations w.places → v when ≡ test w) → Does v locations old (ends_where test (Error at)) locations new Any
+  pub inner : (choice v : ℕ → Bool) → Runs ns choice v → (locations : List Location) (test : World → Bool)
+      → ((w : World) → MeetsAll v locations w.places → v when ≡ test w) → Does v locations old (ends_where test (Inner at)) locations new Any
 
 -- a run that begins where a gate holds, and never comes here where it does not
 pub record HasBegun (ns : List Node) (begins : ℕ) (gates : Ends) : Type 0 where

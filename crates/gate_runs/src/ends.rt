@@ -3,11 +3,14 @@
 ghost use Rattle.std.specs.Prelude.{◌≡◌, ℕ, ◌+◌, ◌<◌, ◌≤◌, max, nat_eq, Bool, false, length, if◌then◌else◌, IfOk, OnOk, OnErr};
 ghost use Rattle.bit_net.specs.Runs.{Grown, Runs};
 ghost use Rattle.gate_runs.specs.Standing.{reason_number, reasons};
-ghost use Rattle.gate_runs.specs.Stands.{AreEnds, HasBegun, IsEndedWhere, told, gates_top};
+ghost use Rattle.gate_runs.specs.Stands.{AreEnds, HasBegun, HasFailedWhere, IsEndedWhere, told, gates_top};
 
 use bit_net::{Gate, Net, OutOfMemory};
 use sc_world::Reason;
 use std::alloc::Global;
+
+// How many reasons there are.
+const REASONS: usize = 11;
 
 /// The gates that tell where a run stands.
 #[derive(Drop)]
@@ -63,7 +66,7 @@ impl Ends {
         ensures locations { IfOk result (λ gates. length gates.bads.items ≡ locations) }
         ensures begun { IfOk result (λ gates. HasBegun net.now live.at gates) }
     {
-        let asides = none_of(alloc, net, 11)?;
+        let asides = none_of(alloc, net, REASONS)?;
         let bads = none_of(alloc, net, locations)?;
         Ok(Ends { live, asides, bads })
     }
@@ -91,6 +94,27 @@ impl Ends {
         let live = net.and(self.live, still)?;
         set_gate(self.asides.as_mut_slice(), k, told);
         self.live = live;
+        Ok(())
+    }
+
+    /// Ends the run by an error at that location where the gate holds and the run goes on. After a refusal of memory the
+    /// gates are as they were.
+    pub fn fail_where(&mut self, net: &mut Net, when: Gate, at: u32) -> Result<(), OutOfMemory>
+        requires ready { AreEnds net.old self.old }
+        requires when { when.at < length net.old }
+        requires at { at < length self.old.bads.items }
+        ensures grown { Grown net.old net.new }
+        ensures ready { OnOk result (AreEnds net.new self.new) }
+        ensures locations { length self.new.bads.items ≡ length self.old.bads.items }
+        ensures ok { OnOk result (HasFailedWhere net.new when.at at self.old self.new) }
+        ensures err { OnErr result (self.new ≡ self.old) }
+    {
+        let failed = net.and(self.live, when)?;
+        let told = net.or(gate_in(self.bads.as_slice(), at as usize), failed)?;
+        let still = net.not(when)?;
+        let rest = net.and(self.live, still)?;
+        set_gate(self.bads.as_mut_slice(), at as usize, told);
+        self.live = rest;
         Ok(())
     }
 }

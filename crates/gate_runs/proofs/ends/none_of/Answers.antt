@@ -1,4 +1,4 @@
-use Rattle.std.proofs.Common.{◌≡◌, ℕ, Bool, false, ◌≤◌, List, ◌+◌, length, sym, ap, subst, ◌∙◌}
+use Rattle.std.proofs.Common.{◌≤◌, ◌+◌, length, sym, ap, subst, ◌∙◌}
 use Rattle.bit_net.specs.declared.nodes.Gate.{Gate}
 use Rattle.gate_runs.specs.Stands.{told, gates_top}
 use Rattle.gate_runs.proofs.Gates.{told_more, top_more, length_more}

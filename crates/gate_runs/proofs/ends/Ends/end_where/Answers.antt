@@ -2,9 +2,9 @@ use Rattle.std.proofs.Common.{◌≡◌, ℕ, Bool, ◌&&◌, ◌||◌, nat_eq, 
 use Rattle.std.specs.Vec.{with_items}
 use Rattle.std.proofs.lemmas.List.{with_items_is}
 use Rattle.gate_runs.specs.declared.ends.Ends.{Ends}
-use Rattle.gate_runs.specs.Standing.{reason_number}
+use Rattle.sc_world.specs.World.{Aside}
 use Rattle.gate_runs.specs.Stands.{told}
-use Rattle.gate_runs.proofs.Ending.{put_or, ended}
+use Rattle.gate_runs.proofs.Ending.{put_or, or_false, ended}
 use Rattle.gate_runs.proofs.ends.Ends.end_where.Goals as goal
 
 pub returns-clause-ok : goal.returns-clause-ok
@@ -23,7 +23,7 @@ returns-clause-ok c =
           c.in_ok-told.ensures.ok.value choice v r1
           ∙ ap (λ b. b || v c.in_ok-over.over.at) (c.gate_in.ensures.told v ∙ ap (λ gs. told v gs k) c.as_slice.ensures.value)
           ∙ ap (λ b. f k || b) (c.in_ok-over.ensures.ok.value choice v r0) in
-          ended v c.args.when.at c.args.reason old new
+          ended v c.args.when.at (Aside c.args.reason) old new
           (record {
             live = c.in_ok-live.ensures.ok.value choice v runs ∙ ap (λ b. v old.live.at && b) (c.in_ok-still.ensures.ok.value choice v r2);
             asides = λ j.
@@ -33,6 +33,7 @@ returns-clause-ok c =
                 ∙ ap (λ b. cond (nat_eq k j) b (f j)) told_there
                 ∙ put_or f k j over (nat_eq k j) refl
                 ∙ ap (λ i. f j || (nat_eq i j && over)) c.number-k.ensures.is;
-            bads = refl;
+            bads = λ j. sym (or_false (told v old.bads.items j));
+            len = refl;
           });
     }

@@ -1,0 +1,6 @@
+mod Truths
+mod Ones
+mod Taking
+mod Computing
+mod Operating
+mod Targets

@@ -1,0 +1,17 @@
+use Rattle.gate_values.proofs.Targets.{tests_none, tests_step, tests_whole}
+use Rattle.gate_values.proofs.pointers.tests_of.Goals as goal
+
+pub loop-pair-init : goal.loop-pair-init
+loop-pair-init c = record { so_far = tests_none _ c.args.pairs.now _ _ c.new-tests.ensures.items }
+
+pub loop-pair-preserved : goal.loop-pair-preserved
+loop-pair-preserved c =
+    record {
+      so_far =
+          tests_step _ c.args.pairs.now c.args.b.now.pairs.items _ _ c.loop-pair.pair-index _ _ c.loop-pair-test.true c.in_ok-push.ensures.items c.points-test.ensures
+          c.loop-pair.invariant.so_far;
+    }
+
+pub returns : goal.returns
+returns c =
+    tests_whole _ c.args.pairs.now c.args.b.now.pairs.items _ c.loop-pair.pair-index c.loop-pair-test.false c.loop-pair.invariant.so_far
