@@ -1,0 +1,17 @@
+pub mod Types
+pub mod Trees
+pub mod Same
+pub mod Steps
+pub mod Nulls
+pub mod Made
+pub mod Operators
+pub mod Values
+pub mod Assigning
+pub mod Choosing
+pub mod Unary
+pub mod Members
+pub mod Builtins
+pub mod Calls
+pub mod Walk
+pub mod Induction
+pub mod Typing
