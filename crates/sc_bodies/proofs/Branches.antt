@@ -1,21 +1,50 @@
 -- `if` with `else`, one step after the other.
-use Rattle.std.proofs.Common.{◌≡◌, Option, Some, Result, ap}
+use Rattle.std.proofs.Common.{◌≡◌, Option, Some, Result, ap, sym, ◌∙◌, subst}
 use Rattle.sc_base.specs.declared.pos.Pos.{Pos}
 use Rattle.sc_tree.specs.declared.expr.Expr.{Expr}
+use Rattle.sc_tree.specs.declared.stmt.Stmt.{Stmt, Stmt-F}
+use Rattle.sc_tree.specs.declared.stmt.Stmt.TheFolds.{fold-roll-Stmt}
+use Rattle.sc_tree.specs.declared.stmt.Stmt.TheVariants as variant
 use Rattle.sc_typed.specs.declared.expr.TExpr.{TExpr}
 use Rattle.sc_typed.specs.declared.stmt.TStmt.{TStmt}
 use Rattle.sc_rules.specs.declared.walk.Walk.{Walk}
 use Rattle.sc_rules.specs.Gives.{Gives}
-use Rattle.sc_rules.specs.Walks.{scoped, open_scope, no_scope}
+use Rattle.sc_rules.specs.Walks.{Check, scoped, open_scope, no_scope, close_scope, then_with, done}
+use Rattle.sc_statements.specs.Forms.{if_else_of}
 use Rattle.sc_typing.specs.Here.{Here}
-use Rattle.sc_bodies.specs.Bodies.{Inside, Stating, condition, if_statement}
+use Rattle.sc_bodies.specs.Bodies.{Inside, Stating, condition, if_statement, plain, stmt_step, stating}
 use Rattle.sc_bodies.specs.Parts.{closed_if_else}
 
-pub else_gives : {E : Type 0} (here : Here) (at : Pos) (e : Expr) (x z : Stating) (s : Inside) (w w1 w2 w3 w4 : Walk)
-    (o : Unit {0}) (c : Option TExpr) (y t : Option TStmt) (r : Result (Option TStmt) E) (v : Walk)
-    → open_scope no_scope w ≡ (o, w1) → condition here at e w1 ≡ (c, w2)
-    → scoped (x.run s) w2 ≡ (y, w3) → scoped (z.run s) w3 ≡ (t, w4)
-    → Gives (closed_if_else at c y t w4) r v
-    → Gives (scoped (if_statement here at e x (Some z) s) w) r v
-else_gives here at e x z s w w1 w2 w3 w4 o c y t r v opened judged first second closed =
-    rw (ap (λ (p : Unit {0} × Walk). p.1) opened) (rw judged (rw first (rw second closed)))
+-- what the step of a statement with `else` is
+stating_else : (here : Here) (e : Expr) (x z : Stmt) (at : Pos)
+    → stating here (variant.If e x (Some z) at)
+    ≡ plain here (λ s. scoped (if_statement here at e (stating here x) (Some (stating here z)) s))
+stating_else here e x z at =
+    ap (stating here) (sym (variant.rolls-If e x (Some z) at))
+    ∙ fold-roll-Stmt Stating (stmt_step here) (Stmt-F.If e x (Some z) at)
+
+-- the steps that are left, behind each one that is known
+abbrev branch_left : (at : Pos) (c : Option TExpr) (y : Option TStmt) (m : Check (Option TStmt)) → Walk → Option TStmt × Walk
+branch_left at c y m w = then_with (m w) (λ t. closed_if_else at c y t)
+
+pub else_gives : {E : Type 0} (here : Here) (at : Pos) (e e' : Expr) (x x' z z' t : Stmt) (o : Option Stmt) (s : Inside)
+    (w w1 w2 w3 w4 : Walk) (u : Unit {0}) (c : Option TExpr) (p q : Option TStmt) (r : Result (Option TStmt) E) (v : Walk)
+    → t ≡ variant.If e x o at → o ≡ Some z → e' ≡ e → x' ≡ x → z' ≡ z
+    → open_scope no_scope w ≡ (u, w1) → condition here at e' w1 ≡ (c, w2)
+    → scoped ((stating here x').run s) w2 ≡ (p, w3) → scoped ((stating here z').run s) w3 ≡ (q, w4)
+    → Gives (closed_if_else at c p q w4) r v
+    → Gives ((stating here t).run s w) r v
+else_gives here at e e' x x' z z' t o s w w1 w2 w3 w4 u c p q r v is some same_e same_x same_z opened judged first second closed =
+    let tree : t ≡ variant.If e' x' (Some z') at =
+    is ∙ ap (λ a. variant.If e x a at) some ∙ ap (λ a. variant.If a x (Some z) at) (sym same_e)
+    ∙ ap (λ a. variant.If e' a (Some z) at) (sym same_x) ∙ ap (λ a. variant.If e' x' (Some a) at) (sym same_z) in
+    let step : (stating here t).run s w ≡ scoped (if_statement here at e' (stating here x') (Some (stating here z')) s) w =
+    ap (λ (m : Stating). m.run s w) (ap (stating here) tree ∙ stating_else here e' x' z' at) in
+    let due : scoped (if_statement here at e' (stating here x') (Some (stating here z')) s) w ≡ closed_if_else at c p q w4 =
+    ap (λ (k : Unit {0} × Walk). then_with (condition here at e' k.1) (λ a. λ b. then_with (scoped ((stating here x').run s) b)
+    (λ y. branch_left at a y (scoped ((stating here z').run s))))) opened
+    ∙ (ap (λ (k : Option TExpr × Walk). then_with k (λ a. λ b. then_with (scoped ((stating here x').run s) b)
+    (λ y. branch_left at a y (scoped ((stating here z').run s))))) judged
+    ∙ (ap (λ (k : Option TStmt × Walk). then_with k (λ y. branch_left at c y (scoped ((stating here z').run s)))) first
+    ∙ ap (λ (k : Option TStmt × Walk). then_with k (λ y. closed_if_else at c p y)) second)) in
+    subst (λ (k : Option TStmt × Walk). Gives k r v) (sym (step ∙ due)) closed

@@ -30,7 +30,6 @@ use std::alloc::Global;
 /// `numbers` has the numbers of the globals of `walk`, before and after. Where memory is refused neither is of
 /// further use.
 #[cycle(statement)]
-#[tactic(auto, using(crate::proofs::Branches::else_gives))]
 pub fn statement(
     alloc: Global,
     walk: &mut Walk,
