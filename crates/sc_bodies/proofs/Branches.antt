@@ -1,5 +1,5 @@
--- `if` with `else`, one step after the other.
-use Rattle.std.proofs.Common.{◌≡◌, Option, Some, Result, ap, sym, ◌∙◌, subst}
+-- Statements that hold statements: what is known of their parts gives what is due for them.
+use Rattle.std.proofs.Common.{◌≡◌, Option, Some, Result, List, map, ap, sym, ◌∙◌, subst}
 use Rattle.sc_base.specs.declared.pos.Pos.{Pos}
 use Rattle.sc_tree.specs.declared.expr.Expr.{Expr}
 use Rattle.sc_tree.specs.declared.stmt.Stmt.{Stmt, Stmt-F}
@@ -12,7 +12,7 @@ use Rattle.sc_rules.specs.Gives.{Gives}
 use Rattle.sc_rules.specs.Walks.{Check, scoped, open_scope, no_scope, close_scope, then_with, done}
 use Rattle.sc_statements.specs.Forms.{if_else_of}
 use Rattle.sc_typing.specs.Here.{Here}
-use Rattle.sc_bodies.specs.Bodies.{Inside, Stating, condition, if_statement, plain, stmt_step, stating}
+use Rattle.sc_bodies.specs.Bodies.{Inside, Stating, condition, if_statement, while_statement, switch_statement, plain, stmt_step, stating}
 use Rattle.sc_bodies.specs.Parts.{closed_if_else}
 
 -- what the step of a statement with `else` is
@@ -48,3 +48,43 @@ else_gives here at e e' x x' z z' t o s w w1 w2 w3 w4 u c p q r v is some same_e
     ∙ (ap (λ (k : Option TStmt × Walk). then_with k (λ y. branch_left at c y (scoped ((stating here z').run s)))) first
     ∙ ap (λ (k : Option TStmt × Walk). then_with k (λ y. closed_if_else at c p y)) second)) in
     subst (λ (k : Option TStmt × Walk). Gives k r v) (sym (step ∙ due)) closed
+
+-- `while`
+stating_while : (here : Here) (e : Expr) (x : Stmt) (at : Pos)
+    → stating here (variant.While e x at)
+    ≡ plain here (λ s. scoped (while_statement here at e (stating here x) s))
+stating_while here e x at =
+    ap (stating here) (sym (variant.rolls-While e x at))
+    ∙ fold-roll-Stmt Stating (stmt_step here) (Stmt-F.While e x at)
+
+pub while_gives : {E : Type 0} (here : Here) (at : Pos) (e e' : Expr) (x x' t : Stmt) (s : Inside) (w : Walk)
+    (r : Result (Option TStmt) E) (v : Walk)
+    → t ≡ variant.While e x at → e' ≡ e → x' ≡ x
+    → Gives (scoped (while_statement here at e' (stating here x') s) w) r v
+    → Gives ((stating here t).run s w) r v
+while_gives here at e e' x x' t s w r v is same_e same_x given =
+    let tree : t ≡ variant.While e' x' at =
+    is ∙ ap (λ a. variant.While a x at) (sym same_e) ∙ ap (λ a. variant.While e' a at) (sym same_x) in
+    let step : (stating here t).run s w ≡ scoped (while_statement here at e' (stating here x') s) w =
+    ap (λ (m : Stating). m.run s w) (ap (stating here) tree ∙ stating_while here e' x' at) in
+    subst (λ (k : Option TStmt × Walk). Gives k r v) (sym step) given
+
+-- `switch`
+stating_switch : (here : Here) (e : Expr) (xs : List Stmt) (at to : Pos)
+    → stating here (variant.Switch e xs at to)
+    ≡ plain here (λ s. scoped (switch_statement here at to e (map (stating here) xs) s))
+stating_switch here e xs at to =
+    ap (stating here) (sym (variant.rolls-Switch e xs at to))
+    ∙ fold-roll-Stmt Stating (stmt_step here) (Stmt-F.Switch e xs at to)
+
+pub switch_gives : {E : Type 0} (here : Here) (at to : Pos) (e e' : Expr) (xs xs' : List Stmt) (t : Stmt) (s : Inside)
+    (w : Walk) (r : Result (Option TStmt) E) (v : Walk)
+    → t ≡ variant.Switch e xs at to → e' ≡ e → xs' ≡ xs
+    → Gives (scoped (switch_statement here at to e' (map (stating here) xs') s) w) r v
+    → Gives ((stating here t).run s w) r v
+switch_gives here at to e e' xs xs' t s w r v is same_e same_xs given =
+    let tree : t ≡ variant.Switch e' xs' at to =
+    is ∙ ap (λ a. variant.Switch a xs at to) (sym same_e) ∙ ap (λ a. variant.Switch e' a at to) (sym same_xs) in
+    let step : (stating here t).run s w ≡ scoped (switch_statement here at to e' (map (stating here) xs') s) w =
+    ap (λ (m : Stating). m.run s w) (ap (stating here) tree ∙ stating_switch here e' xs' at to) in
+    subst (λ (k : Option TStmt × Walk). Gives k r v) (sym step) given
