@@ -1,0 +1,3 @@
+mod TypeKinds
+mod Making
+mod Evaluating
