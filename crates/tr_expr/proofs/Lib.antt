@@ -1,3 +1,2 @@
 mod TypeKinds
 mod Making
-mod Evaluating

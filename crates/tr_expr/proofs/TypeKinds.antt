@@ -85,17 +85,6 @@ converts_some s (Union n) t e none = absurd (cc)
 converts_some s (Func r b ts v) t e none = absurd (cc)
 converts_some s (Opaque o) t e none = absurd (cc)
 
-pub converts_no_array : (u t : Ty) → converts u t ≡ true → is_array u ≡ false
-converts_no_array (Array u n) t e = absurd (cc)
-converts_no_array Bool' t e = refl
-converts_no_array (Int k) t e = refl
-converts_no_array (Ptr u) t e = refl
-converts_no_array Void t e = refl
-converts_no_array (Struct n) t e = refl
-converts_no_array (Union n) t e = refl
-converts_no_array (Func r b ts v) t e = refl
-converts_no_array (Opaque o) t e = refl
-
 -- what an integer becomes that is no integer is a pointer, and what a pointer becomes that is no `_Bool` is one
 pub to_pointer : (u t : Ty) → is_integer u ≡ true → is_integer t ≡ false → converts u t ≡ true → is_pointer t ≡ true
 to_pointer u (Ptr t) i n e = refl

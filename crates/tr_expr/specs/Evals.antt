@@ -1,4 +1,4 @@
--- What the gates of an expression promise, for every choice.
+-- What the gates of a construct promise, for every choice.
 use Rattle.std.specs.Prelude.{◌≡◌, ℕ, ◌≤◌, Bool, true, false, not, Some, List, length}
 use Rattle.bit_net.specs.declared.nodes.Node.{Node}
 use Rattle.bit_net.specs.Runs.{Runs}
@@ -11,7 +11,7 @@ use Rattle.run_store.specs.Concrete.{Cell}
 use Rattle.sc_tree.specs.declared.op.BinaryOp.{BinaryOp}
 use Rattle.sc_tree.specs.declared.op.UnaryOp.{UnaryOp}
 use Rattle.sc_tree.specs.declared.op.UnaryOp.TheVariants as sign
-use Rattle.sc_world.specs.Tree.{Ty, Exp, type_of}
+use Rattle.sc_world.specs.Tree.{Ty}
 use Rattle.sc_world.specs.Source.{Source}
 use Rattle.sc_world.specs.Layout.{Layout}
 use Rattle.sc_world.specs.World.{Env, kind_of_type, is_true}
@@ -52,11 +52,3 @@ pub record Operates (s : Source) (ns : List Node) (o : BinaryOp) (operands whole
   pub does : (choice v : ℕ → Bool) → Runs ns choice v → (locations : List Location) (p : Layout) (bits : List Bool) (temps : List Cell) (turn : ℕ)
       (c d : Cell) → Meets v x c → Meets v y d
       → Does v locations old (eval.operated (env_of s p bits temps turn) o operands whole c d) locations new (Meets v r)
-
--- The value of an expression: from a store that the guarded one is, evaluation gives the value, leaves the store as it
--- is, and leads where the new gates say. This is for every choice, whatever was kept, in every turn.
-pub record Evals (s : Source) (p : Layout) (ns : List Node) (locations : List Location) (old new : Ends) (e : Exp) (r : Val) : Type 0 where
-  pub below : val_top r ≤ length ns
-  pub kind : val_kind r ≡ kind_of_type s (Some (type_of e))
-  pub does : (choice v : ℕ → Bool) → Runs ns choice v → (bits : List Bool) (temps : List Cell) (turn : ℕ)
-      → Does v locations old (eval.eval e eval.Value (env_of s p bits temps turn)) locations new (Meets v r)
