@@ -1,2 +1,0 @@
-mod TypeKinds
-mod Making
