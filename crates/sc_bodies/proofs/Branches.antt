@@ -9,7 +9,8 @@ use Rattle.sc_typed.specs.declared.expr.TExpr.{TExpr}
 use Rattle.sc_typed.specs.declared.stmt.TStmt.{TStmt}
 use Rattle.sc_rules.specs.declared.walk.Walk.{Walk}
 use Rattle.sc_rules.specs.Gives.{Gives}
-use Rattle.sc_rules.specs.Walks.{Check, scoped, open_scope, no_scope, then_with}
+use Rattle.sc_rules.specs.Walks.{Check, scoped, open_scope, no_scope, close_scope, then_with, done}
+use Rattle.sc_statements.specs.Forms.{if_else_of}
 use Rattle.sc_typing.specs.Here.{Here}
 use Rattle.sc_bodies.specs.Bodies.{Inside, Stating, condition, if_statement, while_statement, switch_statement, plain, stmt_step, stating}
 use Rattle.sc_bodies.specs.Parts.{closed_if_else}

@@ -16,12 +16,12 @@ use Rattle.sc_rules.specs.declared.walk.Walk.{Walk}
 use Rattle.sc_rules.specs.declared.walk.Fault.{Fault}
 use Rattle.sc_rules.specs.Gives.{Gives}
 use Rattle.sc_names.specs.declared.scope.Scope.{Scope as Closed}
-use Rattle.sc_rules.specs.Walks.{Scope, close_scope, Check, then_with, ◌>>=◌, done, given, ill_typed, holds_or}
+use Rattle.sc_rules.specs.Walks.{Scope, close_scope, Check, then_with, ◌>>=◌, done, given, fault, ill_typed, holds_or}
 use Rattle.sc_rules.specs.Conversions.{type_of, promote, opaque_kind}
 use Rattle.sc_rules.specs.Conversions.{converts, converted_or, converted_unless, converted}
 use Rattle.sc_statements.specs.declared.choices.Choice.{Choice}
 use Rattle.sc_statements.specs.Choices.{choice_of, seen_with, new_choice, choices_differ}
-use Rattle.sc_statements.specs.Statements.{scalar, switched, case_number}
+use Rattle.sc_statements.specs.Statements.{scalar, switched, statement, no_statement, case_number}
 use Rattle.sc_statements.specs.Statements.{case_of, jump, returned, return_void, return_as}
 
 abbrev pub Keeps : {A : Type 0} → Check A → Type 0

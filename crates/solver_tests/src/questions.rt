@@ -4,7 +4,7 @@ ghost use Rattle.std.specs.Prelude.{◌≡◌};
 
 use crate::literals::{all_below, negative, positive};
 use query::{least, occurring};
-use sat_base::{Plain, Solver};
+use sat_base::{Lit, Plain, Solver};
 use sat_cdcl::Cdcl;
 use std::alloc::Global;
 use std::process::Abort;
@@ -21,7 +21,7 @@ fn either_of_two<R: Abort, S: Solver>(rt: &R, alloc: Global, solver: &mut S) -> 
     solver.add(&either)?;
     let values = occurring(alloc, solver, &either)?;
     assert_eq!(rt; values.as_slice(), [1, 2, 3].as_slice());
-    let goal = positive(y);
+    let goal = Lit { var: y, neg: false };
     let first = least(alloc, solver, &either, goal)?;
     assert_eq!(rt;
         first.ok_or("no model")?.as_slice(),
@@ -30,7 +30,7 @@ fn either_of_two<R: Abort, S: Solver>(rt: &R, alloc: Global, solver: &mut S) -> 
     let neither = [negative(x)];
     assert!(rt; all_below(&neither, 2));
     solver.add(&neither)?;
-    let other = positive(x);
+    let other = Lit { var: x, neg: false };
     assert!(rt; least(alloc, solver, &either, other)?.is_none());
     Ok(())
 }
