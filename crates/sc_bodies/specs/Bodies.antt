@@ -15,7 +15,8 @@ use Rattle.sc_typed.specs.declared.stmt.TForStart.{TForStart}
 use Rattle.sc_typed.specs.declared.stmt.TForStart.TheVariants as tstart
 use Rattle.sc_rules.specs.Walks.{Check, ◌>>=◌, done, given, scoped}
 use Rattle.sc_rules.specs.Conversions.{type_of}
-use Rattle.sc_statements.specs.Forms.{all_items, block_of, expression_of, if_of, if_else_of, while_of, do_of, optional, start_of, for_of, switch_of, label_of}
+use Rattle.sc_statements.specs.Forms.{all_items, block_of, expression_of, if_of, if_else_of, while_of, do_of}
+use Rattle.sc_statements.specs.Forms.{optional, start_of, for_of, switch_of, label_of}
 use Rattle.sc_statements.specs.Choices.{choices_differ}
 use Rattle.sc_statements.specs.Statements.{scalar, switched, statement, case_of, jump, return_as}
 use Rattle.sc_typing.specs.Here.{Here}
