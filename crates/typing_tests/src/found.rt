@@ -1,5 +1,6 @@
 //! What the check finds in a file, or in two.
 
+use fsm_spec::MachineSpec;
 use sc_base::{List, Names, Pos, Skip};
 use sc_check::{CheckAnswer, check};
 use sc_lexer::{LexAnswer, tokens};
@@ -37,16 +38,32 @@ fn typed(
     widths: Widths,
     names: Names,
     units: &[Unit],
+    machine: Option<MachineSpec>,
 ) -> Result<Program, CheckAnswer> {
-    check(alloc, names, List::new(alloc), units, widths, None)
+    check(alloc, names, List::new(alloc), units, widths, machine)
+}
+
+// The same of one file.
+fn typed_file(
+    alloc: Global,
+    widths: Widths,
+    text: &str,
+    machine: Option<MachineSpec>,
+) -> Result<Program, Fail> {
+    let mut names = Names::new(alloc);
+    let mut units = Vec::new(alloc);
+    units.push(read(alloc, &mut names, 0, text)?)?;
+    Ok(typed(alloc, widths, names, units.as_slice(), machine)?)
 }
 
 /// The typed program of a file.
 pub fn checked(alloc: Global, widths: Widths, text: &str) -> Result<Program, Fail> {
-    let mut names = Names::new(alloc);
-    let mut units = Vec::new(alloc);
-    units.push(read(alloc, &mut names, 0, text)?)?;
-    Ok(typed(alloc, widths, names, units.as_slice())?)
+    typed_file(alloc, widths, text, None)
+}
+
+/// The same, with the operations of a machine in place of those on locks.
+pub fn checked_with(alloc: Global, machine: MachineSpec, text: &str) -> Result<Program, Fail> {
+    typed_file(alloc, Widths::Ilp32, text, Some(machine))
 }
 
 /// The answer for two files.
@@ -59,7 +76,18 @@ pub fn both(
     let mut units = Vec::new(alloc);
     units.push(read(alloc, &mut names, 0, first)?)?;
     units.push(read(alloc, &mut names, 1, second)?)?;
-    Ok(typed(alloc, Widths::Ilp32, names, units.as_slice()))
+    Ok(typed(alloc, Widths::Ilp32, names, units.as_slice(), None))
+}
+
+/// How many functions are skipped.
+pub fn skipped(program: &Program) -> usize {
+    let mut count = 0;
+    for f in program.functions.as_slice() {
+        if let TBody::Skipped(_) = &f.body {
+            count += 1;
+        }
+    }
+    count
 }
 
 /// Why the last function is skipped, if it is.
