@@ -3,4 +3,5 @@ pub mod Typed
 pub mod Heres
 pub mod Parts
 pub mod Bodied
+pub mod Known
 pub mod Checked

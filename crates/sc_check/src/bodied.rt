@@ -19,7 +19,7 @@ use sc_typing::Tables;
 use std::alloc::Global;
 use std::marker::Model;
 
-/// The functions that are local to their file. Contracts see the files and names, each pair once.
+// The functions that are local to their file. Contracts see the files and names, each pair once.
 #[derive(Drop)]
 pub struct LocalFunctions {
     keys: IndexSet<(u32, u32)>,
@@ -42,8 +42,8 @@ impl LocalFunctions {
         Ok(())
     }
 
-    /// Those that a declaration in their file makes local to it.
-    pub fn of(alloc: Global, locals: &[(u32, NameId)]) -> Result<LocalFunctions, OutOfMemory>
+    // Those that a declaration in their file makes local to it.
+    fn of(alloc: Global, locals: &[(u32, NameId)]) -> Result<LocalFunctions, OutOfMemory>
         ensures { IfOk result (λ l. (file name : ℕ)
             → spec.has_pair l file name ≡ typed.is_local_function locals.now file name) }
     {
@@ -56,8 +56,8 @@ impl LocalFunctions {
         Ok(all)
     }
 
-    /// Whether a function is local to that file.
-    pub fn contains(&self, file: u32, name: NameId) -> bool
+    // Whether a function is local to that file.
+    fn contains(&self, file: u32, name: NameId) -> bool
         ensures { result ≡ spec.has_pair self.now file name.at }
     {
         self.keys.contains(&(file, name.at))
@@ -103,8 +103,8 @@ fn add_bodies(
     Ok(())
 }
 
-/// The functions with bodies of all files, in their order.
-pub fn all_bodies(
+// The functions with bodies of all files, in their order.
+fn all_bodies(
     alloc: Global,
     w: Widths,
     builtins: &[Option<Builtin>],
@@ -120,4 +120,20 @@ pub fn all_bodies(
         add_bodies(&mut bodies, &here, local, x.segments.as_slice())?;
     }
     Ok(bodies)
+}
+
+/// The functions with bodies of all files, in their order, where these declarations make them local to a file.
+#[tactic(auto, using(crate::proofs::Found::by_pairs))]
+pub fn bodies_of(
+    alloc: Global,
+    w: Widths,
+    builtins: &[Option<Builtin>],
+    locals: &[(u32, NameId)],
+    units: &[Unit],
+) -> Result<List<Bodied>, OutOfMemory>
+    ensures { IfOk result (λ bodies. bodies
+        ≡ spec.bodies_over (typed.is_local_function locals.now) (alone_here w builtins.now) units.now) }
+{
+    let local = LocalFunctions::of(alloc, locals)?;
+    all_bodies(alloc, w, builtins, &local, units)
 }

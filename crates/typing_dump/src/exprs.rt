@@ -82,13 +82,28 @@ fn numbered(out: &mut Vec<u8>, e: &TExpr, word: &str, n: u64) -> Result<(), Erro
     put(out, ")")
 }
 
-fn one(out: &mut Vec<u8>, p: &Program, e: &TExpr, word: &str, more: &str, a: &TExpr) -> Result<(), Error> {
+fn one(
+    out: &mut Vec<u8>,
+    p: &Program,
+    e: &TExpr,
+    word: &str,
+    more: &str,
+    a: &TExpr,
+) -> Result<(), Error> {
     begin(out, e, word, more)?;
     expr(out, p, a)?;
     put(out, ")")
 }
 
-fn two(out: &mut Vec<u8>, p: &Program, e: &TExpr, word: &str, more: &str, a: &TExpr, b: &TExpr) -> Result<(), Error> {
+fn two(
+    out: &mut Vec<u8>,
+    p: &Program,
+    e: &TExpr,
+    word: &str,
+    more: &str,
+    a: &TExpr,
+    b: &TExpr,
+) -> Result<(), Error> {
     begin(out, e, word, more)?;
     expr(out, p, a)?;
     expr(out, p, b)?;

@@ -147,7 +147,11 @@ fn machine(rt: &HostRuntime, word: &str) -> Result<Option<fsm_spec::MachineSpec>
 
 fn run(rt: &HostRuntime, out: &mut Vec<u8>, words: &[String]) -> Result<(), Error> {
     let alloc = rt.alloc();
-    let widths = if words[1].as_str() == "64" { Widths::Lp64 } else { Widths::Ilp32 };
+    let widths = if words[1].as_str() == "64" {
+        Widths::Lp64
+    } else {
+        Widths::Ilp32
+    };
     let m = machine(rt, words[2].as_str())?;
     let how = words[3].as_str();
     let mut names = Names::new(alloc);
