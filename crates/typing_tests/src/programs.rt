@@ -124,7 +124,7 @@ fn the_names_of_a_file_end_with_it(rt: HostRuntime) -> Result<(), Fail> {
         Pos {
             file: 1,
             line: 1,
-            col: 30,
+            col: 29,
         },
     );
     assert_eq!(rt; skip(&found), Some(Skip::IllTyped { kind, pos }));

@@ -306,14 +306,14 @@ const NOT_ALLOWED: [(&str, IllTyped, u32); 71] = [
     ("void f(void){int a[-1];}", IllTyped::Constant, 20),
     ("void f(void){int a[4294967296];}", IllTyped::Constant, 20),
     (
-        "void f(int x){sizeof(struct{int a:x;});}",
+        "void f(int x){(struct{int a:x;}*)0;}",
         IllTyped::Constant,
-        35,
+        29,
     ),
     (
-        "void f(int x){sizeof(struct{int a:-1;});}",
+        "void f(int x){(struct{int a:-1;}*)0;}",
         IllTyped::Constant,
-        35,
+        29,
     ),
     ("void f(int x){sizeof(enum{A=x});}", IllTyped::Constant, 27),
     (
