@@ -13,7 +13,7 @@ use Rattle.sc_program.specs.Bodies.{body_named}
 use Rattle.sc_program.specs.Globals.{is_local_global, type_over_all}
 use Rattle.sc_typing.specs.Here.{Here}
 use Rattle.file_tables.specs.declared.tables.FileTables.{FileTables}
-use Rattle.file_tables.specs.Linkage.{body, is_local, global_type}
+use Rattle.file_tables.specs.Linkage.{body, is_local, global_type, file_of, AreTurned}
 use Rattle.sc_check.specs.Heres.{entry_of, alone_here, linked_here, known_here}
 use Rattle.sc_check.specs.Typed.{Sources, builtin_named, first_here, second_here}
 
@@ -63,3 +63,10 @@ turned_is w builtins t u b l g = fun_ext (λ f.
     same_here w f _ (entry_of builtins) (entry_of builtins) _ _ _ _ _ _ (λ n. refl)
     (λ n. ap (λ (x : ℕ → ℕ → Option ℕ). x f n) b) (λ n. ap (λ (x : ℕ → ℕ → Bool). x f n) l)
     (λ n. ap (λ (x : ℕ → ℕ → Option CType). x f n) g))
+
+-- the tables that were turned to a file say what the names mean in it
+pub turned_here : (w : Widths) (builtins : List (Option Builtin)) (t u : FileTables) (f : ℕ) → AreTurned t f u
+    → linked_here w builtins u (file_of u) ≡ linked_here w builtins t f
+turned_here w builtins t u f is =
+    ap (λ (g : ℕ). linked_here w builtins u g) is.at_hand
+    ∙ ap (λ (heres : ℕ → Here). heres f) (turned_is w builtins u t is.same_bodies is.same_locals is.same_types)

@@ -77,7 +77,6 @@ fn new_walk(alloc: Global, structs: List<StructDef>) -> Walk
 }
 
 /// The first walk, behind which it is known what the variables and functions of all files are.
-#[tactic(auto, using(crate::proofs::Walked::one_file))]
 pub fn first_walk(
     alloc: Global,
     w: Widths,
@@ -140,7 +139,6 @@ fn second_file(
 }
 
 // The second walk, which begins with these structs: the functions, the notes and the walk that it leaves.
-#[tactic(auto, using(crate::proofs::Walked::one_linked))]
 fn linked_walk(
     alloc: Global,
     w: Widths,

@@ -8,5 +8,6 @@ returns c =
     let known : linked_here c.args.w c.args.builtins.now c.in_ok-linked.linked
     ≡ known_here c.args.w c.args.builtins.now c.args.first.structs c.args.first.records c.args.bodies.now =
     linked_is c.args.w c.args.builtins.now c.args.first.structs c.args.first.records c.args.bodies.now
-    c.in_ok-linked.linked c.in_ok-linked.ensures.body c.in_ok-linked.ensures.locals c.in_ok-linked.ensures.types
+    c.in_ok-linked.linked c.in_ok-linked.ensures.body c.in_ok-linked.ensures.locals
+    (rw c.as_slice.ensures at c.in_ok-linked.ensures.types)
     in rw known at c.linked_walk.ensures
