@@ -1,0 +1,5 @@
+pub mod Kept
+pub mod Built
+pub mod Heres
+pub mod Walked
+pub mod Found

@@ -31,6 +31,7 @@ use Rattle.sc_typing.specs.Typing.{heading}
 use Rattle.sc_declarations.specs.Declarations.{name_of, declaration}
 use Rattle.sc_bodies.specs.Bodies.{Inside, stating}
 use Rattle.sc_jumps.specs.Jumps.{jumps, jumps_of}
+use Rattle.sc_names.specs.declared.scope.Scope.{Scope}
 
 -- Functions.
 
@@ -60,31 +61,44 @@ module _ (here : Here) where
     _ ← jumps_of (jumps s)
     done x
 
-  abbrev pub function_shaped : NameId → Pos → Bool → Option CType → Own → Body → Check Function
-  function_shaped name at is_local t own b = do
+  -- the head of a function, whose name is declared from then on
+  abbrev pub head_judged : NameId → Pos → (is_local : Bool) → Option CType → Own → Check Bool
+  head_judged name at is_local t own = do
     _ ← signature_at at t (Some own.params)
     _ ← declare_function_if name at t own.brackets
     _ ← local_function here.file name is_local
     _ ← holds_or (not own.variadic) (unsupported_at u.Variadic at)
-    _ ← few_params at (length own.params)
-    _ ← open_scope (record { names = own.scope.names; tags = own.scope.tags })
-    s ← body_in (result_type t) at b
+    few_params at (length own.params)
+
+  -- the body, in the scope of the parameters
+  abbrev pub body_scoped : Scope → (result : Option CType) → Pos → Body → Check (Option TStmt)
+  body_scoped scope t at b = do
+    _ ← open_scope (record { names = scope.names; tags = scope.tags })
+    s ← body_in t at b
     _ ← close_scope
+    done s
+
+  abbrev pub function_shaped : NameId → Pos → (is_local : Bool) → Option CType → Own → Body → Check Function
+  function_shaped name at is_local t own b = do
+    _ ← head_judged name at is_local t own
+    s ← body_scoped own.scope (result_type t) at b
     finish_function name at own.params (result_type t) s
 
-  abbrev pub function_named : Heading → Bool → Body → NameId × Pos → Check Function
+  abbrev pub function_named : Heading → (is_local : Bool) → Body → NameId × Pos → Check Function
   function_named h is_local b (name, at) = do
     s ← h.run at
     function_shaped name at is_local s.ctype (own_or s.own) b
 
   abbrev pub function : Head → Body → Check Function
   function h b =
-      function_named (heading here h) (has_local (out-Specs (out-Head h).specs).storage) b (name_of (heading here h).name)
+      function_named (heading here h) (has_local (out-Specs (out-Head h).specs).storage) b
+      (name_of (heading here h).name)
 
 -- Declarations at file scope.
 
 abbrev pub file_declaration : Here → Decl → List Skip → Check (List Skip)
-file_declaration here d notes w = noted_in (length w.globals) (length w.records) notes (declaration here true d w).1
+file_declaration here d notes w =
+    noted_in (length w.globals) (length w.records) notes (declaration here true d w).1
 
 -- The functions and notes of a file, added to those before.
 pub record Made : Type 0 where
@@ -97,7 +111,8 @@ segment_in here m (segment.Function h b) = do
   f ← function here h b
   done (record m { functions = m.functions ++ f ∷ [] })
 segment_in here m (segment.Decl (file_decl.Empty at)) = done m
-segment_in here m (segment.Decl (file_decl.Full d)) = file_declaration here d m.notes >>= λ notes. done (record m { notes = notes })
+segment_in here m (segment.Decl (file_decl.Full d)) =
+    file_declaration here d m.notes >>= λ notes. done (record m { notes = notes })
 
 abbrev pub segments_in : Here → Made → List Segment → Check Made
 segments_in here m [] = done m

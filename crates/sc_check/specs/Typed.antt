@@ -3,7 +3,7 @@
 --
 -- All files are walked twice. What a variable's type is over all files, and which names are local to a file, is
 -- known behind the first walk, and holds from the first line on in the second.
-use Rattle.std.specs.Prelude.{ℕ, ◌+◌, nat_eq, Bool, true, false, ◌&&◌, Option, Some, None, List, [], ◌∷◌, ◌++◌, length, slice_index_or, if◌then◌else◌}
+use Rattle.std.specs.Prelude.{ℕ, ◌+◌, nat_eq, Bool, true, false, ◌&&◌, Option, Some, None, List, [], ◌∷◌, ◌++◌, length, slice_get, if◌then◌else◌}
 use Rattle.std.specs.List.{list_any}
 use Rattle.sc_base.specs.declared.pos.NameId.{NameId}
 use Rattle.sc_tree.specs.declared.ctype.Widths.{Widths}
@@ -54,9 +54,13 @@ no_walk =
 abbrev pub nothing_made : Made
 nothing_made = record { functions = []; notes = [] }
 
--- the built-in function that a name means
+-- the built-in function that a name means; one without a text means none
+abbrev pub builtin_if : Option MachineSpec → Option (List ℕ) → Option Builtin
+builtin_if machine None = None
+builtin_if machine (Some text) = builtin machine text
+
 abbrev pub builtin_named : Sources → ℕ → Option Builtin
-builtin_named s n = builtin s.machine (slice_index_or s.names n [])
+builtin_named s n = builtin_if s.machine (slice_get s.names n)
 
 abbrev pub walk_files : (ℕ → Here) → Made → List file.Unit → Check Made
 walk_files here m [] = done m
@@ -121,7 +125,8 @@ second_here s v bodies f =
     }
 
 abbrev pub second_walk : Sources → Walk → List Bodied → Made × Walk
-second_walk s v bodies = walk_files (second_here s v bodies) nothing_made s.units (record no_walk { structs = v.structs })
+second_walk s v bodies =
+    walk_files (second_here s v bodies) nothing_made s.units (record no_walk { structs = v.structs })
 
 abbrev pub program_of : Sources → Made × Walk → Program
 program_of s (m, w) =

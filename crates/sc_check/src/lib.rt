@@ -1,5 +1,20 @@
-//! The typing of trees (C11 6.5 to 6.9), as definitions: which typed program the trees of all files are, and
-//! which function is skipped for which fault. `specs/Typed.antt` is the whole; the files below it have one
-//! subject each. Expressions, types and declarators are in `sc_typing`, and the rules that it asks in the crates
-//! below.
+//! The typing of all files of a program (C11 6.5 to 6.9): the typed program, in which each function has its tree or
+//! the first thing in it that is not taken, and each declaration that is left out has its note.
+//!
+//! `checking` has the whole: it walks over all files twice, since what a variable's type is over all files is known
+//! behind the first walk. `walks` has these walks, `files` one file, `functions` one function, `heads` the steps
+//! of a function's head, `bodied` the functions with bodies of all files, `builtins` the table of built-in
+//! functions, `answer` why there may be no program.
 #![tactic(auto)]
+
+mod answer;
+mod bodied;
+mod builtins;
+mod checking;
+mod files;
+mod functions;
+mod heads;
+mod walks;
+
+pub use answer::CheckAnswer;
+pub use checking::check;
