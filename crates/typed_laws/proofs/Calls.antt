@@ -54,6 +54,7 @@ results_may t g a f o = ap may_give (type_out t) ∙ layer (out-CType t) g a f o
     IsNone : Option OpaqueKind → Type 0
     IsNone None = Unit {0}
     IsNone (Some x) = ⊥
+
     layer : (f : CType-F CType Signature) → typed.is_aggregate_layer f ≡ false → typed.is_array_layer f ≡ false → typed.is_function_layer f ≡ false → opaque_layer f ≡ None → may_give (types.seen f) ≡ true
     layer CType-F.Void g a f o = refl
     layer CType-F.Bool g a f o = refl
@@ -284,12 +285,16 @@ module _ (s : Source) where
     where
       is : seen s (node (what.Call f as') t p) ≡ (Call p (seen s f) (seen_all as') (type t))
       is = call_seen s.structs f as' t p
+
       no_array : NamesAgree s (Call p (seen s f) (seen_all as') (type t)) → typed.is_array t ≡ false
       no_array names = sym (array_seen t) ∙ names.2
+
       no_function : NamesAgree s (Call p (seen s f) (seen_all as') (type t)) → typed.is_function t ≡ false
       no_function names = sym (function_seen t) ∙ names.3
+
       no_object : NamesAgree s (Call p (seen s f) (seen_all as') (type t)) → is_object t ≡ false
       no_object names = or_from (typed.is_aggregate t) (typed.is_array t || typed.is_function t) no_aggregate (or_from (typed.is_array t) (typed.is_function t) (no_array names) (no_function names))
+
       holds : NamesAgree s (Call p (seen s f) (seen_all as') (type t)) → opaque_kind t ≡ None → IsTyped s Value (Call p (seen s f) (seen_all as') (type t))
       holds names o = (callee names.0, all_typed as' all names.1, tt, fit names.4 (results_may t no_aggregate (no_array names) (no_function names) o))
 
@@ -398,6 +403,7 @@ module _ (s : Source) where
       IsPointer : Given → Type 0
       IsPointer takes.Pointer = Unit {0}
       IsPointer _ = ⊥
+
       side : (o : Option (List (Option TExpr))) → OnSome (Ready w at takes.Pointer) o → OnSome (λ r. Ready w at takes.Pointer r × Counted takes.Pointer r) o
       side None k = tt
       side (Some r) k = (k, λ is. absurd (subst IsPointer is tt))

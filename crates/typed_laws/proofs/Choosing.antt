@@ -86,10 +86,11 @@ module _ (s : Source) where
     unfolding out-CType denote.Hole.Carrier.out
     arms b c =
         on_if (OnSome (Arms b c)) (both_integers b c) (Some (common_of w b c)) (if typed.is_void (type_of b) && typed.is_void (type_of c) then Some ty.Void else (if some_pointer b c then mixed_arms w b c else None))
-        (λ h. let both = and_parts (typed.is_integer (type_of b)) (typed.is_integer (type_of c)) h in
-        (integer_to s b (common_of w b c) both.0 (int_scalar (common w (typed.promoted_kind (type_of b)) (typed.promoted_kind (type_of c)))),
-        integer_to s c (common_of w b c) both.1 (int_scalar (common w (typed.promoted_kind (type_of b)) (typed.promoted_kind (type_of c)))),
-        int_no_object (common w (typed.promoted_kind (type_of b)) (typed.promoted_kind (type_of c)))))
+        (λ h. let both = and_parts (typed.is_integer (type_of b)) (typed.is_integer (type_of c)) h in (
+          integer_to s b (common_of w b c) both.0 (int_scalar (common w (typed.promoted_kind (type_of b)) (typed.promoted_kind (type_of c)))),
+          integer_to s c (common_of w b c) both.1 (int_scalar (common w (typed.promoted_kind (type_of b)) (typed.promoted_kind (type_of c)))),
+          int_no_object (common w (typed.promoted_kind (type_of b)) (typed.promoted_kind (type_of c))),
+        ))
         (λ h. on_if (OnSome (Arms b c)) (typed.is_void (type_of b) && typed.is_void (type_of c)) (Some ty.Void) (if some_pointer b c then mixed_arms w b c else None)
         (λ k. (void_goes (tree.type_of (seen s b)) (type ty.Void) type_void, void_goes (tree.type_of (seen s c)) (type ty.Void) type_void, refl))
         (λ k. on_if (OnSome (Arms b c)) (some_pointer b c) (mixed_arms w b c) None (λ l. mixed b c) (λ l. tt)))
@@ -136,5 +137,6 @@ module _ (s : Source) where
     where
       is : seen s (comma p a b) ≡ Comma (seen s a) (seen s b) (type (type_of b))
       is = comma_seen s.structs a b (type_of b) p
+
       holds : (want : Want) → (NamesAgree s (seen s b) → IsTyped s want (seen s b)) → NamesAgree s (Comma (seen s a) (seen s b) (type (type_of b))) → IsTyped s want (Comma (seen s a) (seen s b) (type (type_of b)))
       holds want h names = (x.value names.0, h names.1, typed_of s.structs b)

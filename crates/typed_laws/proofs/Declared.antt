@@ -23,6 +23,9 @@ use Rattle.sc_typed.specs.declared.stmt.TInitItem.{TInitItem}
 use Rattle.sc_rules.specs.Faults.{unsupported_at}
 use Rattle.sc_rules.specs.Walks.{Check, ◌>>=◌, done}
 use Rattle.sc_unary.specs.Members.{is_there}
+use Rattle.sc_names.specs.Notes.{note_unless}
+use Rattle.sc_names.specs.Structs.{size_now}
+use Rattle.sc_declare.specs.Locals.{declare_local}
 use Rattle.sc_declare.specs.declared.functions.Parameter.{Parameter}
 use Rattle.sc_declare.specs.declared.linkage.Linked.{Linked}
 use Rattle.sc_declare.specs.Storage.{has_typedef, has_extern, has_static, has_local}
@@ -121,14 +124,11 @@ module _ (s : Source) where
     local_made : (n : ℕ) (name : NameId) (at : Pos) (t : CType) (x : Option Init) → Gives (Initial s) (local_initialiser here n name at t x)
     local_made n name at t None = by_none (Initial s)
     local_made n name at t (Some x) =
-        behind (OnSome (Initial s)) _ _ (λ m.
-        by_then (OnSome (Initial s)) (OnSome (Initial s)) (initialiser here at (sized t m) x) _ (initialisers_made at (sized t m) x) (λ r hr.
-        behind (OnSome (Initial s)) _ _ (λ l. by_done (OnSome (Initial s)) r hr)))
+        record { all = λ w. (initialisers_made at (sized t (size_now here.widths t w).0) x).all (size_now here.widths t w).1 }
 
     typed_local_made : (name : NameId) (at : Pos) (x : Option Init) (t : CType) → Every Declarator (typed_local here name at x t)
     typed_local_made name at x t =
-        behind Declarator _ _ (λ n.
-        by_then (OnSome (Initial s)) Declarator (local_initialiser here n name at t x) _ (local_made n name at t x) (λ r hr. by_done Declarator _ hr))
+        record { all = λ w. (local_made (declare_local here.widths name at t w).0 name at t x).all (declare_local here.widths name at t w).1 }
 
     faulty_made : (at : Pos) (x : Option Init) → Gives (Initial s) (faulty_initialiser here at x)
     faulty_made at None = by_none (Initial s)
@@ -136,19 +136,19 @@ module _ (s : Source) where
 
     local_if_made : (name : NameId) (at : Pos) (x : Option Init) (t : Option CType) → Every Declarator (local_if here name at x t)
     local_if_made name at x (Some t) = typed_local_made name at x t
-    local_if_made name at x None = by_then (OnSome (Initial s)) Declarator (faulty_initialiser here at x) _ (faulty_made at x) (λ r hr. by_done Declarator _ hr)
+    local_if_made name at x None = record { all = λ w. (faulty_made at x).all w }
 
     local_declared_made : (ss : List Storage) (name : NameId) (at : Pos) (x : Option Init) (t : Option CType) → Every Declarator (local_declared here ss name at x t)
-    local_declared_made ss name at x t = behind Declarator _ _ (λ m. local_if_made name at x t)
+    local_declared_made ss name at x t = record { all = λ w. (local_if_made name at x t).all (note_unless (not (has_static ss)) (unsupported_at u.Static at) w).1 }
 
     function_made : (file : ℕ) (is_local : Bool) (name : NameId) (at : Pos) (t : Option CType) (ps : Option (List Parameter)) → Every Declarator (function_declared file is_local name at t ps)
-    function_made file is_local name at t ps = behind Declarator _ _ (λ a. behind Declarator _ _ (λ b. behind Declarator _ _ (λ c. by_done Declarator _ tt)))
+    function_made file is_local name at t ps = record { all = λ w. tt }
 
     extern_made : (name : NameId) (at : Pos) (has : Bool) (d : Option Linked) → Every Declarator (extern_declared name at has d)
-    extern_made name at has d = behind Declarator _ _ (λ a. behind Declarator _ _ (λ b. by_done Declarator _ tt))
+    extern_made name at has d = record { all = λ w. tt }
 
     file_made : (ss : List Storage) (name : NameId) (at : Pos) (x : Option Init) (t : Option CType) → Every Declarator (file_variable here ss name at x t)
-    file_made ss name at x t = behind Declarator _ _ (λ a. behind Declarator _ _ (λ b. behind Declarator _ _ (λ c. by_done Declarator _ tt)))
+    file_made ss name at x t = record { all = λ w. tt }
 
     body_made : (ss : List Storage) (name : NameId) (at : Pos) (x : Option Init) (t : Option CType) → Every Declarator (body_variable here ss name at x t)
     body_made ss name at x t = by_if Declarator (has_extern ss) _ _ (λ h. extern_made name at (has_static ss) (linked_if here name at false t)) (λ h. local_declared_made ss name at x t)
@@ -157,7 +157,7 @@ module _ (s : Source) where
     variable_made at_file ss name at x t = by_if Declarator at_file _ _ (λ h. file_made ss name at x t) (λ h. body_made ss name at x t)
 
     typedef_made : (name : NameId) (at : Pos) (t : Option CType) → Every Declarator (typedef_declared name at t)
-    typedef_made name at t = behind Declarator _ _ (λ a. by_done Declarator _ tt)
+    typedef_made name at t = record { all = λ w. tt }
 
     declared_made : (at_file : Bool) (ss : List Storage) (name : NameId) (at : Pos) (x : Option Init) (h : Shape) → Every Declarator (declared_as here at_file ss name at x h)
     declared_made at_file ss name at x h =
@@ -165,7 +165,7 @@ module _ (s : Source) where
         (λ k. by_if Declarator (is_function_of h.ctype (is_there h.own)) _ _ (λ l. function_made here.file (at_file && has_local ss) name at h.ctype (params_if h.own)) (λ l. variable_made at_file ss name at x h.ctype))
 
     named_made : (at_file : Bool) (ss : List Storage) (t : Option CType) (d : Declaring) (x : Option Init) (n : NameId × Pos) → Every Declarator (declarator_named here at_file ss t d x n)
-    named_made at_file ss t d x (name, at) = behind Declarator _ _ (λ h. declared_made at_file ss name at x h)
+    named_made at_file ss t d x (name, at) = record { all = λ w. (declared_made at_file ss name at x (d.run at t w).0).all (d.run at t w).1 }
 
     declarator_made : (at_file : Bool) (ss : List Storage) (t : Option CType) (d : InitDeclarator) → Every Declarator (declarator here at_file ss t d)
     declarator_made at_file ss t d = named_made at_file ss t (declaring here d.declarator) d.init (name_of (declaring here d.declarator).name)

@@ -15,3 +15,6 @@ pub mod Calls
 pub mod Walk
 pub mod Induction
 pub mod Typing
+pub mod Filled
+pub mod Declared
+pub mod Stated

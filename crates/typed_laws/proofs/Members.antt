@@ -154,10 +154,12 @@ module _ (s : Source) where
   named_made settled body name q p (Some (entity.Constant n)) =
       by_some (MadeAs (Some (name, q))) (node (what.Int n) int p) (record { is = (int_made s n kind.Int p).made; names = by_name (Some (name, q)) (node (what.Int n) int p) (Number n (type int)) (int_seen s.structs n int p) refl })
   named_made settled body name q p (Some (entity.Global n t)) =
-      record { all = λ w. record {
-        is = any_base s (node (what.Global n) (global_type settled w.globals n t) p) (Global n (type (global_type settled w.globals n t))) (global_seen s.structs n (global_type settled w.globals n t) p) (λ names want. names);
-        names = by_name (Some (name, q)) (node (what.Global n) (global_type settled w.globals n t) p) (Global n (type (global_type settled w.globals n t))) (global_seen s.structs n (global_type settled w.globals n t) p) refl;
-      } }
+      record {
+        all = λ w. record {
+          is = any_base s (node (what.Global n) (global_type settled w.globals n t) p) (Global n (type (global_type settled w.globals n t))) (global_seen s.structs n (global_type settled w.globals n t) p) (λ names want. names);
+          names = by_name (Some (name, q)) (node (what.Global n) (global_type settled w.globals n t) p) (Global n (type (global_type settled w.globals n t))) (global_seen s.structs n (global_type settled w.globals n t) p) refl;
+        };
+      }
   named_made settled body name q p (Some (entity.Param n t)) =
       by_some (MadeAs (Some (name, q))) (node (what.Param n) t p) (record { is = any_base s (node (what.Param n) t p) (Param n (type t)) (param_seen s.structs n t p) (λ names want. names); names = by_name (Some (name, q)) (node (what.Param n) t p) (Param n (type t)) (param_seen s.structs n t p) refl })
   named_made settled body name q p (Some (entity.Local n t)) =

@@ -45,6 +45,7 @@ integers_fit o t u h k = side (is_logical o)
   where
     scalars : (is_scalar t && is_scalar u) ≡ true
     scalars = and_from (is_scalar t) (is_scalar u) (or_left (tree.is_integer t) (tree.is_pointer t) h) (or_left (tree.is_integer u) (tree.is_pointer u) k)
+
     side : (b : Bool) → (if b then is_scalar t && is_scalar u else ((tree.is_integer t && tree.is_integer u) || (compares_pointers o && (tree.is_pointer t && tree.is_pointer u)))) ≡ true
     side true = scalars
     side false = or_left (tree.is_integer t && tree.is_integer u) (compares_pointers o && (tree.is_pointer t && tree.is_pointer u)) (and_from (tree.is_integer t) (tree.is_integer u) h k)
@@ -153,9 +154,11 @@ module _ (s : Source) where
       where
         by_pointer : typed.is_pointer (type_of e) ≡ true → converts_to (tree.type_of (seen s e)) (type t) ≡ true
         by_pointer j = pointer_to s e t j (or_left (typed.is_pointer t) (typed.is_bool t) k)
+
         by_null : (typed.is_integer (type_of e) ≡ true) ⊎ (typed.is_pointer (type_of e) ≡ true) → converts_to (tree.type_of (seen s e)) (type t) ≡ true
         by_null (inl j) = integer_to s e t j (or_right (typed.is_integer t) (typed.is_pointer t) k)
         by_null (inr j) = by_pointer j
+
         side : (typed.is_pointer (type_of e) ≡ true) ⊎ (is_null_constant w e ≡ true) → converts_to (tree.type_of (seen s e)) (type t) ≡ true
         side (inl j) = by_pointer j
         side (inr j) = by_null (null_scalar w e j)

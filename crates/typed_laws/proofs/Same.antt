@@ -1,7 +1,6 @@
 -- Types that typing finds to be one are one type to runs.
 use Rattle.std.proofs.Common.{◌≡◌, ℕ, Bool, true, false, not, ◌&&◌, List, [], ◌∷◌, map, refl, sym, ap, subst, ◌∙◌, nat_eq, eqb-true}
 use Rattle.std.proofs.lemmas.Bool.{true≢false, and_parts}
-
 use Rattle.std.specs.Prelude.{Option, Some, None, if◌then◌else◌}
 use Rattle.sc_tree.specs.declared.ctype.CType.{CType, CType-F, out-CType, roll-CType}
 use Rattle.sc_tree.specs.declared.ctype.CType.TheFolds as folds

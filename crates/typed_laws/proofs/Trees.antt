@@ -201,4 +201,3 @@ minus_value a t p = lvalue_by (what.Unary sign.Minus a) (What-F.Unary sign.Minus
 
 pub complement_value : (a : TExpr) (t : CType) (p : Place) → is_lvalue (node (what.Unary sign.Complement a) t p) ≡ false
 complement_value a t p = lvalue_by (what.Unary sign.Complement a) (What-F.Unary sign.Complement a) t p (what.rolls-Unary sign.Complement a)
-

@@ -103,6 +103,7 @@ module _ (s : Source) where
       Layer : CType-F CType Signature → Option CType → Type 0
       Layer f None = Unit {0}
       Layer f (Some v) = typed.is_pointer_layer f ≡ true
+
       out : (f : CType-F CType Signature) → Layer f (typed.target_layer f)
       out CType-F.Void = tt
       out CType-F.Bool = tt
@@ -113,9 +114,11 @@ module _ (s : Source) where
       out (CType-F.Union n) = tt
       out (CType-F.Func x) = tt
       out (CType-F.Opaque k) = tt
+
       back : (o : Option CType) → Layer (out-CType t) o → Points t o
       back None h = tt
       back (Some v) h = h
+
       layer : (f : CType-F CType Signature) → Points t (typed.target t)
       layer f = back (typed.target t) (out (out-CType t))
 
@@ -182,6 +185,7 @@ module _ (s : Source) where
       IsNone : Option OpaqueKind → Type 0
       IsNone None = Unit {0}
       IsNone (Some x) = ⊥
+
       no_some : (j : OpaqueKind) → Some j ≡ None → ⊥
       no_some j e = subst IsNone (sym e) tt
 
@@ -231,6 +235,7 @@ module _ (s : Source) where
       other (inr k) =
           let both = and_parts (typed.is_scalar t) (converts w e t) k in
           record { goes = λ o. scalar_goes s w e t both.0 both.1; no_object = scalar_no_object t both.0 }
+
       side : (is_opaque_of_integer t e (opaque_kind t) ≡ true) ⊎ ((typed.is_void t || (typed.is_scalar t && converts w e t)) ≡ true) → Casting t e
       side (inl k) = record { goes = λ o. absurd (opaque_there t e (opaque_kind t) k o); no_object = opaque_no_object t (opaque_there t e (opaque_kind t) k) }
       side (inr k) = other (or_cases (typed.is_void t) (typed.is_scalar t && converts w e t) k)
@@ -300,9 +305,11 @@ module _ (s : Source) where
       Layer : CType-F CType Signature → Option CType → Type 0
       Layer f None = Unit {0}
       Layer f (Some t) = ((n : Option ℕ) × (types.seen f ≡ Array (type t) n)) ⊎ (types.seen f ≡ Ptr (type t))
+
       pointer : (t : CType) (b : Bool) → Layer (CType-F.Ptr t) (if b then None else Some t)
       pointer t true = tt
       pointer t false = inr refl
+
       layer : (f : CType-F CType Signature) → Layer f (element_layer f)
       layer (CType-F.Array t n) = inl (n, refl)
       layer (CType-F.Ptr t) = pointer t (typed.is_function t)
@@ -313,6 +320,7 @@ module _ (s : Source) where
       layer (CType-F.Union n) = tt
       layer (CType-F.Func x) = tt
       layer (CType-F.Opaque k) = tt
+
       back : (o : Option CType) → Layer (out-CType v) o → Element v o
       back None h = tt
       back (Some t) (inl (n, is)) = inl (n, type_out v ∙ is)

@@ -187,10 +187,13 @@ module _ (s : Source) where
     where
       is : type (type_of e) ≡ type t
       is = same_type_seen (type_of e) t h
+
       no_void : typed.is_void (type_of e) ≡ false
       no_void = sym (void_seen (type_of e)) ∙ (ap tree.is_void is ∙ (void_seen t ∙ k))
+
       scalar_is : (b : Bool) → typed.is_scalar (type_of e) ≡ b → is_scalar (type t) ≡ b
       scalar_is b j = ap is_scalar (sym is) ∙ (scalar_seen (type_of e) ∙ j)
+
       by_scalar : (b : Bool) → typed.is_scalar (type_of e) ≡ b → NamesAgree s (seen s e) → IsTyped s (if_scalar (type t)) (seen s e)
       by_scalar true j names = subst (λ w. IsTyped s w (seen s e)) (sym (ap (λ b. if b then Value else Place') (scalar_is true j))) (v.value names)
       by_scalar false j names = subst (λ w. IsTyped s w (seen s e)) (sym (ap (λ b. if b then Value else Place') (scalar_is false j))) (v.object names (others_are_objects (type_of e) j no_void v.no_opaque))
@@ -203,6 +206,7 @@ module _ (s : Source) where
     where
       by_scalar : typed.is_scalar t ≡ true → Goes w e t
       by_scalar j = (j, integer_to s e t h j)
+
       side : (typed.is_integer t ≡ true) ⊎ ((typed.is_pointer t && is_null_integer w e) ≡ true) → Goes w e t
       side (inl j) = by_scalar (or_left (typed.is_integer t) (typed.is_pointer t) j)
       side (inr j) = by_scalar (or_right (typed.is_integer t) (typed.is_pointer t) (and_parts (typed.is_pointer t) (is_null_integer w e) j).0)

@@ -262,8 +262,10 @@ module _ (s : Source) where
         none_of : (o : Option Effect) → Means None o → o ≡ None
         none_of None h = refl
         none_of (Some x) h = absurd h
+
         none : effect_of_name s (text_of s name) ≡ None
         none = none_of (effect_of_name s (text_of s name)) m
+
         declared : (d : Bool) → Gives (Called s) (spec.callee_if here d name p e)
         declared false = by_some (Called s) (undeclared (here.body name.at) name p) (unknown_called name p none)
         declared true = callee_value_made e h (subst Plain (sym is) none)

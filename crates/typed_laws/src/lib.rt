@@ -4,4 +4,4 @@
 
 mod laws;
 
-pub use laws::{places_are_typed, types_are_seen, values_are_typed};
+pub use laws::{places_are_typed, statements_are_typed, types_are_seen, values_are_typed};
