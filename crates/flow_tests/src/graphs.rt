@@ -1,7 +1,7 @@
 // Graphs of small functions, counted and read by hand.
 
-use crate::trees::{at_depth, cases, endless, jump, program, two_locks};
-use fsm_spec::locks;
+use crate::trees::{at_depth, cases, endless, function, jump, locals, program_of, two_locks};
+use fsm_spec::locks as machine_of_locks;
 use sc_base::OutOfMemory;
 use sc_flow::{Flow, Node, unroll};
 use std::alloc::Global;
@@ -37,8 +37,9 @@ fn all_told(alloc: Global, flow: &Flow) -> Result<Vec<(char, u32, u32)>, OutOfMe
 fn a_loop_in_each_depth(rt: HostRuntime) -> Result<(), Fail> {
     // Ten nodes stand once, and each turn has eleven.
     let alloc = rt.alloc();
-    let program = program(alloc, two_locks(alloc)?)?;
-    let machine = locks(alloc)?;
+    let f = function(alloc, locals(alloc)?, two_locks(alloc)?);
+    let program = program_of(alloc, f)?;
+    let machine = machine_of_locks(alloc)?;
     for (depth, nodes) in [(1, 21), (2, 32), (4, 54), (8, 98)] {
         let flow = unroll(alloc, &at_depth(&program, &machine, depth))?;
         assert_eq!(rt; flow.nodes.len(), nodes);
@@ -50,8 +51,9 @@ fn a_loop_in_each_depth(rt: HostRuntime) -> Result<(), Fail> {
 fn a_loop_that_never_ends(rt: HostRuntime) -> Result<(), Fail> {
     // A test, its turn, the test behind the turn, and the run set aside.
     let alloc = rt.alloc();
-    let program = program(alloc, endless(alloc)?)?;
-    let machine = locks(alloc)?;
+    let f = function(alloc, locals(alloc)?, endless(alloc)?);
+    let program = program_of(alloc, f)?;
+    let machine = machine_of_locks(alloc)?;
     let flow = unroll(alloc, &at_depth(&program, &machine, 1))?;
     let list = all_told(alloc, &flow)?;
     let wanted = [
@@ -76,8 +78,9 @@ fn a_loop_that_never_ends(rt: HostRuntime) -> Result<(), Fail> {
 fn a_default_in_the_middle(rt: HostRuntime) -> Result<(), Fail> {
     // The number is kept, marked, compared with 1 and with 2; behind the `break` the function ends.
     let alloc = rt.alloc();
-    let program = program(alloc, cases(alloc)?)?;
-    let machine = locks(alloc)?;
+    let f = function(alloc, locals(alloc)?, cases(alloc)?);
+    let program = program_of(alloc, f)?;
+    let machine = machine_of_locks(alloc)?;
     let flow = unroll(alloc, &at_depth(&program, &machine, 8))?;
     let list = all_told(alloc, &flow)?;
     let wanted = [
@@ -99,8 +102,9 @@ fn a_default_in_the_middle(rt: HostRuntime) -> Result<(), Fail> {
 fn the_right_side_runs_where_the_left_holds(rt: HostRuntime) -> Result<(), Fail> {
     // `i`, its branch, `1`, its branch, the events, the `goto`; then the argument and the call; then the end.
     let alloc = rt.alloc();
-    let program = program(alloc, jump(alloc)?)?;
-    let machine = locks(alloc)?;
+    let f = function(alloc, locals(alloc)?, jump(alloc)?);
+    let program = program_of(alloc, f)?;
+    let machine = machine_of_locks(alloc)?;
     let flow = unroll(alloc, &at_depth(&program, &machine, 8))?;
     let list = all_told(alloc, &flow)?;
     let wanted = [

@@ -87,9 +87,10 @@ fn turns(alloc: Global) -> Result<TStmt, OutOfMemory> {
 
 /// `{ spin_lock(l); for (i = 0; i < n; i++) if (i == 2) spin_lock(l); }`
 pub fn two_locks(alloc: Global) -> Result<TStmt, OutOfMemory> {
-    let first = lock(alloc)?;
-    let second = turns(alloc)?;
-    Ok(block(vec![in alloc; first, second]?))
+    let mut list = Vec::new(alloc);
+    list.push(lock(alloc)?)?;
+    list.push(turns(alloc)?)?;
+    Ok(block(list))
 }
 
 /// `{ while (1) ; }`
@@ -133,27 +134,32 @@ fn block(list: Vec<TStmt>) -> TStmt {
     TStmt::Block(List::from_vec(list), pos(9), pos(84))
 }
 
-// A function of that body, with the local `i`.
-fn function(alloc: Global, body: TStmt) -> Result<Function, OutOfMemory> {
+/// The local `i`, alone.
+pub fn locals(alloc: Global) -> Result<List<Param>, OutOfMemory> {
     let mut locals = List::new(alloc);
     locals.push(Param {
         name: NameId { at: 0 },
         ctype: int(),
     })?;
-    Ok(Function {
+    Ok(locals)
+}
+
+/// A function of that body.
+pub fn function(alloc: Global, locals: List<Param>, body: TStmt) -> Function {
+    Function {
         name: NameId { at: 0 },
         pos: pos(6),
         params: List::new(alloc),
         result: CType::Void,
         locals,
         body: TBody::Tree(body),
-    })
+    }
 }
 
-/// A program with one function of that body, which has the local `i`.
-pub fn program(alloc: Global, body: TStmt) -> Result<Program, OutOfMemory> {
+/// A program with that function alone.
+pub fn program_of(alloc: Global, function: Function) -> Result<Program, OutOfMemory> {
     let mut functions = List::new(alloc);
-    functions.push(function(alloc, body)?)?;
+    functions.push(function)?;
     Ok(Program {
         names: Names::new(alloc),
         files: List::new(alloc),
