@@ -1,11 +1,10 @@
 // Graphs of small functions, counted and read by hand.
 
-use crate::trees::{at_depth, binary, block, i, lock, number, pos, program, two_locks};
-use fsm_spec::locks;
-use sc_base::{Boxed, List, NameId};
-use sc_flow::{Node, unroll};
-use sc_tree::op::BinaryOp;
-use sc_typed::TStmt;
+use crate::trees::{at_depth, cases, endless, function, jump, locals, program_of, two_locks};
+use fsm_spec::locks as machine_of_locks;
+use sc_base::OutOfMemory;
+use sc_flow::{Flow, Node, unroll};
+use std::alloc::Global;
 use std::test::Fail;
 
 // A letter for each kind of node, and where it goes on.
@@ -26,13 +25,22 @@ fn told(node: &Node) -> (char, u32, u32) {
     }
 }
 
+fn all_told(alloc: Global, flow: &Flow) -> Result<Vec<(char, u32, u32)>, OutOfMemory> {
+    let mut list = Vec::new(alloc);
+    for node in flow.nodes.as_slice() {
+        list.push(told(node))?;
+    }
+    Ok(list)
+}
+
 #[test]
 fn a_loop_in_each_depth(rt: HostRuntime) -> Result<(), Fail> {
     // Ten nodes stand once, and each turn has eleven.
     let alloc = rt.alloc();
-    let program = program(alloc, two_locks(alloc)?)?;
-    let machine = locks(alloc)?;
-    for (depth, nodes) in [(1, 21), (2, 32), (3, 43), (4, 54), (5, 65), (6, 76), (7, 87), (8, 98)] {
+    let f = function(alloc, locals(alloc)?, two_locks(alloc)?);
+    let program = program_of(alloc, f)?;
+    let machine = machine_of_locks(alloc)?;
+    for (depth, nodes) in [(1, 21), (2, 32), (4, 54), (8, 98)] {
         let flow = unroll(alloc, &at_depth(&program, &machine, depth))?;
         assert_eq!(rt; flow.nodes.len(), nodes);
     }
@@ -41,17 +49,13 @@ fn a_loop_in_each_depth(rt: HostRuntime) -> Result<(), Fail> {
 
 #[test]
 fn a_loop_that_never_ends(rt: HostRuntime) -> Result<(), Fail> {
-    // `{ while (1) ; }` in one turn: a test, its turn, the test behind the turn, and the run set aside.
+    // A test, its turn, the test behind the turn, and the run set aside.
     let alloc = rt.alloc();
-    let nothing = Boxed::new(alloc, TStmt::Expr(None, pos(18)))?;
-    let body = block(vec![in alloc; TStmt::While(number(1), nothing, pos(10))]?)?;
-    let program = program(alloc, body)?;
-    let machine = locks(alloc)?;
+    let f = function(alloc, locals(alloc)?, endless(alloc)?);
+    let program = program_of(alloc, f)?;
+    let machine = machine_of_locks(alloc)?;
     let flow = unroll(alloc, &at_depth(&program, &machine, 1))?;
-    let mut list = Vec::new(alloc);
-    for node in flow.nodes.as_slice() {
-        list.push(told(node))?;
-    }
+    let list = all_told(alloc, &flow)?;
     let wanted = [
         ('k', 1, 0),
         ('b', 3, 2),
@@ -71,26 +75,14 @@ fn a_loop_that_never_ends(rt: HostRuntime) -> Result<(), Fail> {
 }
 
 #[test]
-fn a_switch_with_its_default_in_the_middle(rt: HostRuntime) -> Result<(), Fail> {
-    // `{ switch (i) { case 1: i; default: break; case 2: return; } }`
+fn a_default_in_the_middle(rt: HostRuntime) -> Result<(), Fail> {
+    // The number is kept, marked, compared with 1 and with 2; behind the `break` the function ends.
     let alloc = rt.alloc();
-    let items = vec![in alloc;
-        TStmt::Case(1, number(1), pos(20)),
-        TStmt::Expr(Some(i()), pos(28)),
-        TStmt::Default(pos(31)),
-        TStmt::Break(pos(40)),
-        TStmt::Case(2, number(2), pos(47)),
-        TStmt::Return(None, pos(55)),
-    ]?;
-    let body = block(vec![in alloc; TStmt::Switch(i(), List::from_vec(items), pos(10), pos(62))]?)?;
-    let program = program(alloc, body)?;
-    let machine = locks(alloc)?;
+    let f = function(alloc, locals(alloc)?, cases(alloc)?);
+    let program = program_of(alloc, f)?;
+    let machine = machine_of_locks(alloc)?;
     let flow = unroll(alloc, &at_depth(&program, &machine, 8))?;
-    let mut list = Vec::new(alloc);
-    for node in flow.nodes.as_slice() {
-        list.push(told(node))?;
-    }
-    // the number is kept, marked, compared with 1 and with 2; behind the `break` the function ends
+    let list = all_told(alloc, &flow)?;
     let wanted = [
         ('k', 1, 0),
         ('w', 2, 0),
@@ -108,24 +100,13 @@ fn a_switch_with_its_default_in_the_middle(rt: HostRuntime) -> Result<(), Fail> 
 
 #[test]
 fn the_right_side_runs_where_the_left_holds(rt: HostRuntime) -> Result<(), Fail> {
-    // `{ if (i && 1) goto out; spin_lock(l); out: ; }`
+    // `i`, its branch, `1`, its branch, the events, the `goto`; then the argument and the call; then the end.
     let alloc = rt.alloc();
-    let both = binary(alloc, BinaryOp::And, i(), number(1))?;
-    let away = Boxed::new(alloc, TStmt::Goto(NameId { at: 7 }, pos(22)))?;
-    let nothing = Boxed::new(alloc, TStmt::Expr(None, pos(50)))?;
-    let items = vec![in alloc;
-        TStmt::If(both, away, None, pos(10)),
-        lock(alloc)?,
-        TStmt::Label(NameId { at: 7 }, nothing, pos(45)),
-    ]?;
-    let program = program(alloc, block(items)?)?;
-    let machine = locks(alloc)?;
+    let f = function(alloc, locals(alloc)?, jump(alloc)?);
+    let program = program_of(alloc, f)?;
+    let machine = machine_of_locks(alloc)?;
     let flow = unroll(alloc, &at_depth(&program, &machine, 8))?;
-    let mut list = Vec::new(alloc);
-    for node in flow.nodes.as_slice() {
-        list.push(told(node))?;
-    }
-    // `i`, its branch, `1`, its branch, the events, the `goto`; then the argument and the call; then the end
+    let list = all_told(alloc, &flow)?;
     let wanted = [
         ('k', 1, 0),
         ('b', 2, 4),
