@@ -1,5 +1,5 @@
 pub mod Ambiguous
 pub mod Firsts
 pub mod Same
-pub mod Texts
+pub mod Turns
 pub mod Whole

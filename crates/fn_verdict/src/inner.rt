@@ -1,25 +1,20 @@
 // Reports of errors at locations that the caller does not know, one for each text.
 
-ghost use Rattle.std.specs.Prelude.{◌≡◌, ◌++◌, [], IfOk, OnOk, bytes_eq, length, map, if◌then◌else◌};
-ghost use Rattle.std.specs.List.{flat_map, list_any, range_with_len};
-ghost use Rattle.sc_world.specs.Paths.{text_at as the_text};
-ghost use Rattle.sc_world.specs.Shows as shows;
-ghost use Rattle.sc_world.specs.Source.{Source};
-ghost use Rattle.sc_world.specs.Verdict as spec;
-ghost use Rattle.layout_base.specs.Seen as laid;
+ghost use Rattle.std.specs.Prelude.{◌≡◌, ◌++◌, [], IfOk, OnOk, bytes_eq, length};
+ghost use Rattle.std.specs.List.{list_any, range_with_len};
 ghost use Rattle.location_texts.specs.Seen as named;
 ghost use Rattle.fn_verdict.specs.Inner as inner;
 
 use fn_rows::numbers;
 use location_texts::{Texts, text_at};
 use run_questions::{Answerer, Query};
-use sc_base::OutOfMemory;
+use sc_base::{List, OutOfMemory};
 use std::alloc::Global;
 use sum_rows::Report;
 
 // Whether that text is among these.
-fn has_text(found: &[Vec<u8>], text: &[u8]) -> bool
-    ensures { result ≡ list_any (λ t. bytes_eq text.now t.items) found.now }
+fn has_text(found: &[List<u8>], text: &[u8]) -> bool
+    ensures { result ≡ list_any (bytes_eq text.now) found.now }
 {
     for other in found {
         if text == other.as_slice() {
@@ -30,9 +25,8 @@ fn has_text(found: &[Vec<u8>], text: &[u8]) -> bool
 }
 
 // Puts a text that is not there. There are few: as many as locations at most, of which a function has 256.
-#[tactic(auto, using(crate::proofs::Texts::any_map))]
-fn put_text(found: &mut Vec<Vec<u8>>, text: Vec<u8>) -> Result<(), OutOfMemory>
-    ensures { OnOk result (map (λ t. t.items) found.new.items ≡ inner.with_text text.items (map (λ t. t.items) found.old.items)) }
+fn put_text(found: &mut Vec<List<u8>>, text: List<u8>) -> Result<(), OutOfMemory>
+    ensures { OnOk result (found.new.items ≡ inner.with_text text.entry found.old.items) }
 {
     if !has_text(found.as_slice(), text.as_slice()) {
         found.push(text)?;
@@ -46,14 +40,14 @@ fn put_ending<A: Answerer>(
     texts: &Texts,
     asks: &mut A,
     at: u32,
-    found: &mut Vec<Vec<u8>>,
+    found: &mut Vec<List<u8>>,
 ) -> Result<(), OutOfMemory>
-    ensures found { OnOk result (map (λ t. t.items) found.new.items
-        ≡ inner.with_ending (named.texts texts.now) (A.answers asks.old) at (map (λ t. t.items) found.old.items)) }
+    ensures found { OnOk result (found.new.items
+        ≡ inner.with_ending (named.texts texts.now) (A.answers asks.old) at found.old.items) }
     ensures answers { A.answers asks.new ≡ A.answers asks.old }
 {
     if asks.some(Query::EndsAt(at))? {
-        put_text(found, text_at(alloc, texts, at)?)?;
+        put_text(found, List::from_vec(text_at(alloc, texts, at)?))?;
     }
     Ok(())
 }
@@ -63,8 +57,8 @@ fn endings<A: Answerer>(
     alloc: Global,
     texts: &Texts,
     asks: &mut A,
-) -> Result<Vec<Vec<u8>>, OutOfMemory>
-    ensures texts { IfOk result (λ ts. map (λ t. t.items) ts.items ≡ inner.endings (named.texts texts.now) (A.answers asks.old) []
+) -> Result<Vec<List<u8>>, OutOfMemory>
+    ensures texts { IfOk result (λ ts. ts.items ≡ inner.endings (named.texts texts.now) (A.answers asks.old) []
         (range_with_len 0 (length (named.texts texts.now).layout.locations))) }
     ensures answers { A.answers asks.new ≡ A.answers asks.old }
 {

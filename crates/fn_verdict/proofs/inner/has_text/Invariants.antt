@@ -5,4 +5,4 @@ use Rattle.fn_verdict.proofs.inner.has_text.Given as goal
 
 abbrev pub invariant-loop-other : goal.invariant-loop-other
 invariant-loop-other l =
-    list_any (λ t. bytes_eq l.text t.items) (drop l.other-index l.found) ≡ list_any (λ t. bytes_eq l.fn.text t.items) l.fn.found
+    list_any (bytes_eq l.text) (drop l.other-index l.found) ≡ list_any (bytes_eq l.fn.text) l.fn.found
