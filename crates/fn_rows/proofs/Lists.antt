@@ -1,5 +1,6 @@
 -- What is listed, as the definitions list it.
-use Rattle.std.proofs.Common.{◌≡◌, ℕ, List, length, sym, ap, ◌∙◌}
+use Rattle.std.proofs.Common.{◌≡◌, ℕ, ◌+◌, ◌<◌, List, [], ◌∷◌, ◌++◌, length, map, take, get_or, sym, ap, ◌∙◌}
+use Rattle.std.proofs.lemmas.List.{map_more}
 use Rattle.std.specs.List.{range_with_len}
 use Rattle.sc_world.specs.Layout.{location, is_outer, is_cell}
 use Rattle.sc_world.specs.Source.{Source}
@@ -32,3 +33,12 @@ changed_is s x q ns is = ap (those q listed.Changes) (is ∙ sym (pointers_are s
 
 pub set_is : (s : Source) (x : Texts) (q : Answers) (ns : List ℕ) → ns ≡ pointing to.Pointer 0 s.params → those q listed.Sets ns ≡ spec.set_params s x q
 set_is s x q ns is = ap (those q listed.Sets) (is ∙ sym (outs_are s x q 0 s.params))
+
+-- a loop that puts the value of one element more
+pub map_turn : {X Y : Type 0} (f : X → Y) (xs : List X) (i : ℕ) (d : X) (y : Y) (before after : List Y) → i < length xs → before ≡ map f (take i xs)
+    → y ≡ f (get_or xs i d) → after ≡ before ++ y ∷ [] → after ≡ map f (take (i + 1) xs)
+map_turn f xs i d y before after low so_far is put =
+    put
+    ∙ ap (λ ys. ys ++ y ∷ []) so_far
+    ∙ ap (λ z. map f (take i xs) ++ z ∷ []) is
+    ∙ sym (map_more f xs i d low)

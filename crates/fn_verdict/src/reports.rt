@@ -20,7 +20,6 @@ use std::alloc::Global;
 use sum_rows::{Report, Verdict};
 
 // The reports: each kind by location or place.
-#[tactic(auto, using(crate::proofs::Whole::reports_are))]
 fn reports<A: Answerer>(
     alloc: Global,
     here: &Context,
