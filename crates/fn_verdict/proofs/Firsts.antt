@@ -10,25 +10,25 @@ at_index xs i d low = rw add-one (drop-cons xs i d low)
 -- the first that passes
 pub find_hit : {X : Type 0} (p : X → Bool) (xs : List X) (i : ℕ) (d : X) → i < length xs → p (get_or xs i d) ≡ true
     → find p (drop i xs) ≡ Some (get_or xs i d)
-find_hit p xs i d low yes = ap (find p) (at_index xs i d low) ∙ cond-true (p (get_or xs i d)) _ _ yes
+find_hit p xs i d low is = ap (find p) (at_index xs i d low) ∙ cond-true (p (get_or xs i d)) _ _ is
 
 pub find_miss : {X : Type 0} (p : X → Bool) (xs : List X) (i : ℕ) (d : X) → i < length xs → p (get_or xs i d) ≡ false
     → find p (drop (i + 1) xs) ≡ find p (drop i xs)
-find_miss p xs i d low no = sym (ap (find p) (at_index xs i d low) ∙ cond-false (p (get_or xs i d)) _ _ no)
+find_miss p xs i d low is = sym (ap (find p) (at_index xs i d low) ∙ cond-false (p (get_or xs i d)) _ _ is)
 
 -- the first that does not pass
 and_false : (b c : Bool) → b ≡ false → (b && c) ≡ false
-and_false b c no = ap (λ a. a && c) no
+and_false b c is = ap (λ a. a && c) is
 
 and_true : (b c : Bool) → b ≡ true → (b && c) ≡ c
-and_true b c yes = ap (λ a. a && c) yes
+and_true b c is = ap (λ a. a && c) is
 
 pub all_stop : {X : Type 0} (p : X → Bool) (xs : List X) (i : ℕ) (d : X) → i < length xs → p (get_or xs i d) ≡ false → list_all p (drop i xs) ≡ false
-all_stop p xs i d low no = ap (list_all p) (at_index xs i d low) ∙ and_false (p (get_or xs i d)) _ no
+all_stop p xs i d low is = ap (list_all p) (at_index xs i d low) ∙ and_false (p (get_or xs i d)) _ is
 
 pub all_go : {X : Type 0} (p : X → Bool) (xs : List X) (i : ℕ) (d : X) → i < length xs → p (get_or xs i d) ≡ true
     → list_all p (drop (i + 1) xs) ≡ list_all p (drop i xs)
-all_go p xs i d low yes = sym (ap (list_all p) (at_index xs i d low) ∙ and_true (p (get_or xs i d)) _ yes)
+all_go p xs i d low is = sym (ap (list_all p) (at_index xs i d low) ∙ and_true (p (get_or xs i d)) _ is)
 
 pub ruleset find_turn = (find_hit, find_miss)
 

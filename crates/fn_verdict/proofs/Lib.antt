@@ -1,5 +1,4 @@
-pub mod Ambiguous
 pub mod Firsts
 pub mod Same
-pub mod Turns
+pub mod TwoStates
 pub mod Whole

@@ -1,16 +1,20 @@
 -- What the definitions say of a function, said of the parts of its rows.
-use Rattle.std.proofs.Common.{◌≡◌, ℕ, Bool, true, false, List, [], ◌∷◌, ◌++◌, cond, refl, sym, ap, ◌∙◌}
+use Rattle.std.proofs.Common.{◌≡◌, ℕ, Bool, true, false, List, [], ◌∷◌, ◌++◌, cond, map, refl, sym, ap, ◌∙◌}
 use Rattle.std.specs.Prelude.{Option, Some, None, filter}
 use Rattle.std.specs.List.{find}
 use Rattle.sum_rows.specs.declared.row.State.{State}
+use Rattle.sum_rows.specs.declared.path.Path.{Path}
 use Rattle.sum_rows.specs.declared.report.Report.{Report}
+use Rattle.sum_rows.specs.declared.report.Report.TheVariants as report
+use Rattle.sum_rows.specs.declared.report.Shown.{Shown}
 use Rattle.sc_base.specs.declared.pos.Pos.{Pos}
 use Rattle.sc_world.specs.Gather.{Site}
 use Rattle.sc_world.specs.Source.{Source}
-use Rattle.sc_world.specs.Paths.{Texts}
+use Rattle.sc_world.specs.Paths.{Texts, path_of}
+use Rattle.sc_world.specs.Shows.{Locks}
 use Rattle.sc_world.specs.Verdict as spec
 use Rattle.sc_world.specs.Verdict.{Answers}
-use Rattle.fn_verdict.specs.Double.{errs_from_all}
+use Rattle.fn_verdict.specs.Double.{errs_from_all, error_row}
 use Rattle.fn_verdict.specs.Inner.{endings, with_ending}
 use Rattle.fn_verdict.specs.Leaks.{places_of_calls, with_pos}
 
@@ -31,6 +35,16 @@ double_is s x q at givens states c cs bs is =
     ap (spec.double_for s x q at) (is ∙ ap (λ ns. find (errs_from_all q at states) ns) cs
         ∙ ap (λ ss. find (errs_from_all q at ss) (spec.givens s)) bs
         ∙ sym (first_of_filter s x q (spec.errs_from_all s x q at) (spec.givens s)))
+
+-- that report with its path and its runs
+pub double_put : (s : Source) (x : Texts) (q : Answers) (at : ℕ) (given : Option ℕ) (c : ℕ) (path : Path) (runs : List Shown) (states : List State) (before after : List Report)
+    → given ≡ Some c → path ≡ path_of x.layout at → runs ≡ map (λ b. q.shown (Locks at (error_row c b))) states → states ≡ spec.machine_states s
+    → after ≡ before ++ report.Double path runs ∷ [] → after ≡ before ++ spec.double_for s x q at given
+double_put s x q at given c path runs states before after is located shown all put =
+    put
+    ∙ ap (λ p. before ++ report.Double p runs ∷ []) located
+    ∙ ap (λ rs. before ++ report.Double (path_of x.layout at) rs ∷ []) (shown ∙ ap (map (λ b. q.shown (Locks at (error_row c b)))) all)
+    ∙ ap (λ o. before ++ spec.double_for s x q at o) (sym is)
 
 pub endings_are : (s : Source) (x : Texts) (q : Answers) (ts : List (List ℕ)) (ats : List ℕ) → endings x q ts ats ≡ spec.texts_from s x q ts ats
 endings_are s x q ts [] = refl

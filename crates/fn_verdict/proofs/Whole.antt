@@ -14,7 +14,7 @@ use Rattle.fn_verdict.specs.declared.pairs.Pair.{Pair}
 use Rattle.fn_verdict.specs.Pairs.{pairs, ambiguous}
 use Rattle.fn_verdict.specs.Inner.{inners, inner}
 use Rattle.fn_verdict.specs.Leaks.{leak, places_of_calls}
-use Rattle.fn_verdict.proofs.Ambiguous.{ambiguous_is}
+use Rattle.fn_verdict.proofs.TwoStates.{ambiguous_is}
 use Rattle.fn_verdict.proofs.Same.{endings_are, calls_are}
 
 flat_same : {X Y : Type 0} (f g : X → List Y) → ((x : X) → f x ≡ g x) → (xs : List X) → flat_map f xs ≡ flat_map g xs

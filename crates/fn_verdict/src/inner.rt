@@ -26,7 +26,7 @@ fn has_text(found: &[List<u8>], text: &[u8]) -> bool
 
 // Puts a text that is not there. There are few: as many as locations at most, of which a function has 256.
 fn put_text(found: &mut Vec<List<u8>>, text: List<u8>) -> Result<(), OutOfMemory>
-    ensures { OnOk result (found.new.items ≡ inner.with_text text.entry found.old.items) }
+    ensures { OnOk result (found.new.items ≡ inner.with_text text found.old.items) }
 {
     if !has_text(found.as_slice(), text.as_slice()) {
         found.push(text)?;
