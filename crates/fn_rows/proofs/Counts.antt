@@ -28,7 +28,7 @@ entries_are zero k ts = refl
 entries_are (suc more) k [] = refl
 entries_are (suc more) k (t ∷ ts) =
     elim (is_integer t || is_pointer t) as (λ b. length (cond b (k ∷ entry_params_from more (k + 1) ts) (entry_params_from (suc more) (k + 1) ts))
-        ≡ cond b (suc (entries more ts)) (entries (suc more) ts)) [
+    ≡ cond b (suc (entries more ts)) (entries (suc more) ts)) [
       | true ↦ ap suc (entries_are more (k + 1) ts)
       | false ↦ entries_are (suc more) (k + 1) ts
     ]

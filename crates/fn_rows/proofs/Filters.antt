@@ -22,10 +22,10 @@ pub filter_three : {X : Type 0} (f g h : X → Bool) (xs : List X) → filter (�
 filter_three f g h [] = refl
 filter_three f g h (x ∷ xs) =
     elim (f x) as (λ b. cond (b && (g x && h x)) (x ∷ filter (λ y. f y && (g y && h y)) xs) (filter (λ y. f y && (g y && h y)) xs)
-        ≡ filter h (cond (b && g x) (x ∷ filter (λ y. f y && g y) xs) (filter (λ y. f y && g y) xs))) [
+    ≡ filter h (cond (b && g x) (x ∷ filter (λ y. f y && g y) xs) (filter (λ y. f y && g y) xs))) [
       | true ↦
           elim (g x) as (λ b. cond (b && h x) (x ∷ filter (λ y. f y && (g y && h y)) xs) (filter (λ y. f y && (g y && h y)) xs)
-              ≡ filter h (cond b (x ∷ filter (λ y. f y && g y) xs) (filter (λ y. f y && g y) xs))) [
+          ≡ filter h (cond b (x ∷ filter (λ y. f y && g y) xs) (filter (λ y. f y && g y) xs))) [
             | true ↦ ap (λ ys. cond (h x) (x ∷ ys) ys) (filter_three f g h xs)
             | false ↦ filter_three f g h xs
           ]

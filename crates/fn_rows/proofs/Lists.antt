@@ -26,7 +26,7 @@ pub written_is : (s : Source) (x : Texts) (q : Answers) (ats : List ℕ) → ats
 written_is s x q ats is =
     ap (those q listed.Writes) is
     ∙ sym (filter_three (λ at. is_outer (location x.layout at)) (λ at. is_cell (location x.layout at)) (λ at. q.some (Writes at))
-        (range_with_len 0 (length x.layout.locations)))
+    (range_with_len 0 (length x.layout.locations)))
 
 pub changed_is : (s : Source) (x : Texts) (q : Answers) (ns : List ℕ) → ns ≡ pointing to.Anything 0 s.params → those q listed.Changes ns ≡ spec.changed s x q
 changed_is s x q ns is = ap (those q listed.Changes) (is ∙ sym (pointers_are s x q 0 s.params))

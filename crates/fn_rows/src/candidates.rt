@@ -105,7 +105,13 @@ pub(crate) fn exit_candidates(
     requires parts { AreParts (seen.source_of here.now) parts.now }
     ensures { IfOk result (λ rows. rows.items ≡ spec.exit_candidates (seen.source_of here.now)) }
 {
-    let rows = candidates(alloc, parts.givens, &[State::Nil], parts.results, exit_kinds(here))?;
+    let rows = candidates(
+        alloc,
+        parts.givens,
+        &[State::Nil],
+        parts.results,
+        exit_kinds(here),
+    )?;
     Ok(rows)
 }
 

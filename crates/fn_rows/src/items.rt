@@ -103,7 +103,14 @@ pub(crate) fn put_exit<A: Answerer>(
     ensures answers { A.answers asks.new ≡ A.answers asks.old }
 {
     let rows = exit_candidates(alloc, here, parts)?;
-    put_item(alloc, texts.places, asks, Subject::Exit, rows.as_slice(), found)?;
+    put_item(
+        alloc,
+        texts.places,
+        asks,
+        Subject::Exit,
+        rows.as_slice(),
+        found,
+    )?;
     Ok(())
 }
 

@@ -102,12 +102,7 @@ pub(crate) fn number(k: usize) -> Result<u32, OutOfMemory>
 }
 
 // Puts the number of a parameter that points to that.
-fn put_param(
-    found: &mut Vec<u32>,
-    to: PointsTo,
-    k: usize,
-    param: &Param,
-) -> Result<(), OutOfMemory>
+fn put_param(found: &mut Vec<u32>, to: PointsTo, k: usize, param: &Param) -> Result<(), OutOfMemory>
     ensures { OnOk result (found.new.items ≡ found.old.items ++ spec.number_if (spec.points to (type param.now.ctype)) k) }
 {
     if points(&param.ctype, to) {

@@ -33,8 +33,8 @@ pub double_is : (s : Source) (x : Texts) (q : Answers) (at : ℕ) (givens : List
     → spec.double_for s x q at c ≡ spec.double s x q at
 double_is s x q at givens states c cs bs is =
     ap (spec.double_for s x q at) (is ∙ ap (λ ns. find (errs_from_all q at states) ns) cs
-        ∙ ap (λ ss. find (errs_from_all q at ss) (spec.givens s)) bs
-        ∙ sym (first_of_filter s x q (spec.errs_from_all s x q at) (spec.givens s)))
+    ∙ ap (λ ss. find (errs_from_all q at ss) (spec.givens s)) bs
+    ∙ sym (first_of_filter s x q (spec.errs_from_all s x q at) (spec.givens s)))
 
 -- that report with its path and its runs
 pub double_put : (s : Source) (x : Texts) (q : Answers) (at : ℕ) (given : Option ℕ) (c : ℕ) (path : Path) (runs : List Shown) (states : List State) (before after : List Report)

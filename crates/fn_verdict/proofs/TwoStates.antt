@@ -47,7 +47,7 @@ module _ (s : Source) (x : Texts) (q : Answers) where
   found_is at [] = refl
   found_is at (p ∷ ps) =
       elim (both_stand q at p) as (λ b. spec.first_of s x q (cond b (view p ∷ filter (spec.both_stand s x q at) (map view ps)) (filter (spec.both_stand s x q at) (map view ps)))
-          ≡ option_map view (cond b (Some p) (find (both_stand q at) ps))) [
+      ≡ option_map view (cond b (Some p) (find (both_stand q at) ps))) [
         | true ↦ refl
         | false ↦ found_is at ps
       ]
@@ -61,4 +61,4 @@ module _ (s : Source) (x : Texts) (q : Answers) where
   ambiguous_is at =
       for_is at (find (both_stand q at) (pairs (spec.givens s) (spec.machine_states s) (spec.results s)))
       ∙ ap (spec.ambiguous_for s x q at) (sym (found_is at (pairs (spec.givens s) (spec.machine_states s) (spec.results s)))
-          ∙ ap (λ ps. spec.first_of s x q (filter (spec.both_stand s x q at) ps)) pairs_are)
+      ∙ ap (λ ps. spec.first_of s x q (filter (spec.both_stand s x q at) ps)) pairs_are)

@@ -38,13 +38,13 @@ reports_are s x q ats ps f1 f2 f3 f4 touched paired is1 is2 is3 is4 =
     ap (flat_map (leak q)) (calls_are s x q [] x.layout.sites) in
     is4
     ∙ ap (λ ys. ys ++ flat_map (leak q) (places_of_calls [] x.layout.sites))
-        (is3 ∙ ap (λ ys. ys ++ inners x q) (is2 ∙ ap (λ ys. ys ++ flat_map (ambiguous x.layout q ps) ats) is1))
+    (is3 ∙ ap (λ ys. ys ++ inners x q) (is2 ∙ ap (λ ys. ys ++ flat_map (ambiguous x.layout q ps) ats) is1))
     ∙ in_order (flat_map (spec.double s x q) ats) (flat_map (ambiguous x.layout q ps) ats) (inners x q) (flat_map (leak q) (places_of_calls [] x.layout.sites))
     ∙ ap (λ ys. flat_map (spec.double s x q) ats ++ ys)
-        (ap (λ ys. ys ++ (inners x q ++ flat_map (leak q) (places_of_calls [] x.layout.sites))) a
-        ∙ ap (λ ys. flat_map (spec.ambiguous s x q) ats ++ ys)
-            (ap (λ ys. ys ++ flat_map (leak q) (places_of_calls [] x.layout.sites)) i
-            ∙ ap (λ ys. flat_map (spec.inner s x q) (spec.texts_from s x q [] (spec.numbers s x q)) ++ ys) l))
+    (ap (λ ys. ys ++ (inners x q ++ flat_map (leak q) (places_of_calls [] x.layout.sites))) a
+    ∙ ap (λ ys. flat_map (spec.ambiguous s x q) ats ++ ys)
+    (ap (λ ys. ys ++ flat_map (leak q) (places_of_calls [] x.layout.sites)) i
+    ∙ ap (λ ys. flat_map (spec.inner s x q) (spec.texts_from s x q [] (spec.numbers s x q)) ++ ys) l))
     ∙ ap (λ ns. flat_map (spec.double s x q) ns ++ (flat_map (spec.ambiguous s x q) ns ++ (flat_map (spec.inner s x q) (spec.texts_from s x q [] (spec.numbers s x q)) ++ flat_map (spec.leak s x q) (spec.places_of_calls s x q [] x.layout.sites)))) touched
 
 pairs_of_parts : (s : Source) (ps : List Pair) (cs : List ℕ) (ss : List State) (rs : List Gives) → cs ≡ spec.givens s → ss ≡ spec.machine_states s → rs ≡ spec.results s
@@ -64,10 +64,10 @@ pub reports_in_turn : (s : Source) (x : Texts) (q q1 q2 q3 : Answers) (ats : Lis
     → f4 ≡ spec.reports s x q
 reports_in_turn s x q q1 q2 q3 ats ps cs ss rs f0 f1 f2 f3 f4 touched givens states results paired a1 a2 a3 is0 is1 is2 is3 is4 =
     reports_are s x q ats ps f1 f2 f3 f4 touched (pairs_of_parts s ps cs ss rs givens states results paired)
-        (is1 ∙ ap (λ ys. ys ++ flat_map (spec.double s x q) ats) is0)
-        (is2 ∙ ap (λ p. f1 ++ flat_map (ambiguous x.layout p ps) ats) a1)
-        (is3 ∙ ap (λ p. f2 ++ inners x p) (a2 ∙ a1))
-        (is4 ∙ ap (λ p. f3 ++ flat_map (leak p) (places_of_calls [] x.layout.sites)) (a3 ∙ (a2 ∙ a1)))
+    (is1 ∙ ap (λ ys. ys ++ flat_map (spec.double s x q) ats) is0)
+    (is2 ∙ ap (λ p. f1 ++ flat_map (ambiguous x.layout p ps) ats) a1)
+    (is3 ∙ ap (λ p. f2 ++ inners x p) (a2 ∙ a1))
+    (is4 ∙ ap (λ p. f3 ++ flat_map (leak p) (places_of_calls [] x.layout.sites)) (a3 ∙ (a2 ∙ a1)))
 
 -- summary and reports, where no call changes the answers
 pub done_is : (s : Source) (x : Texts) (q q1 q2 : Answers) (sum : Summary) (rs : List Report) → q1 ≡ q → q2 ≡ q1

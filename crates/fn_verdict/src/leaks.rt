@@ -47,11 +47,7 @@ fn places_of_calls(alloc: Global, places: &Places) -> Result<Vec<Pos>, OutOfMemo
 }
 
 // Puts the report of a place, if an object of it is lost.
-fn put_leak<A: Answerer>(
-    asks: &mut A,
-    pos: Pos,
-    found: &mut Vec<Report>,
-) -> Result<(), OutOfMemory>
+fn put_leak<A: Answerer>(asks: &mut A, pos: Pos, found: &mut Vec<Report>) -> Result<(), OutOfMemory>
     ensures found { OnOk result (found.new.items ≡ found.old.items ++ spec.leak (A.answers asks.old) pos) }
     ensures answers { A.answers asks.new ≡ A.answers asks.old }
 {

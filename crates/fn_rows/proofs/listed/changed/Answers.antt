@@ -10,4 +10,4 @@ pub returns-clause-changed : goal.returns-clause-changed
 returns-clause-changed g c =
     c.in_ok-listed.ensures.those
     ∙ changed_is (source_of c.args.here.now) (texts c.args.texts.now) (g.A.Answerer.answers c.args.asks.now) _
-        (c.as_slice.ensures.value ∙ c.in_ok-all.ensures ∙ ap (pointing to.Anything 0) c.params.ensures)
+    (c.as_slice.ensures.value ∙ c.in_ok-all.ensures ∙ ap (pointing to.Anything 0) c.params.ensures)

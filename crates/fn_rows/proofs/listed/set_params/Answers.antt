@@ -10,4 +10,4 @@ pub returns-clause-set_params : goal.returns-clause-set_params
 returns-clause-set_params g c =
     c.in_ok-listed.ensures.those
     ∙ set_is (source_of c.args.here.now) (texts c.args.texts.now) (g.A.Answerer.answers c.args.asks.now) _
-        (c.as_slice.ensures.value ∙ c.in_ok-all.ensures ∙ ap (pointing to.Pointer 0) c.params.ensures)
+    (c.as_slice.ensures.value ∙ c.in_ok-all.ensures ∙ ap (pointing to.Pointer 0) c.params.ensures)

@@ -8,4 +8,4 @@ pub returns-clause-touched : goal.returns-clause-touched
 returns-clause-touched g c =
     c.in_ok-listed.ensures.those
     ∙ touched_is (source_of c.args.here.now) (texts c.args.texts.now) (g.A.Answerer.answers c.args.asks.now) _
-        (c.as_slice.ensures.value ∙ c.in_ok-all.ensures)
+    (c.as_slice.ensures.value ∙ c.in_ok-all.ensures)

@@ -17,4 +17,4 @@ unfolding write
 returns c q =
     same _ _ _ _ c.in_ok-path.ensures
     (c.width.ensures (texts c.args.texts.now) q
-        ∙ ap (λ l. width_of (source_of c.args.here.now) (texts c.args.texts.now) q l.type) c.location.ensures)
+    ∙ ap (λ l. width_of (source_of c.args.here.now) (texts c.args.texts.now) q l.type) c.location.ensures)

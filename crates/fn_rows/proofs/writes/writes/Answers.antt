@@ -8,4 +8,4 @@ pub loop-at-preserved : goal.loop-at-preserved
 loop-at-preserved g c =
     let q = g.A.Answerer.answers c.args.asks.now in
     map_turn (write_of (source_of c.args.here.now) (texts c.args.texts.now) q) _ _ 0 _ _ _
-        c.loop-at-test.true c.loop-at.invariant (c.in_ok-write_of.ensures q) c.in_ok-push.ensures.items
+    c.loop-at-test.true c.loop-at.invariant (c.in_ok-write_of.ensures q) c.in_ok-push.ensures.items

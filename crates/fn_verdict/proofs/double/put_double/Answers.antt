@@ -11,5 +11,5 @@ returns-clause-found g c =
     let x = texts c.args.texts.now in
     c.in_ok-put_report.ensures.found
     ∙ ap (λ rs. c.args.found.now.items ++ rs)
-        (ap (λ q. double_for s x q c.args.at c.in_ok-given.given) c.first_double.ensures.answers
-        ∙ double_is s x (g.A.Answerer.answers c.args.asks.now) c.args.at _ _ _ c.requires.parts.givens (c.as_slice.ensures.value ∙ c.requires.parts.states) c.in_ok-given.ensures.first)
+    (ap (λ q. double_for s x q c.args.at c.in_ok-given.given) c.first_double.ensures.answers
+    ∙ double_is s x (g.A.Answerer.answers c.args.asks.now) c.args.at _ _ _ c.requires.parts.givens (c.as_slice.ensures.value ∙ c.requires.parts.states) c.in_ok-given.ensures.first)

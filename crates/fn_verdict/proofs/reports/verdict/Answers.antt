@@ -6,4 +6,4 @@ use Rattle.fn_verdict.proofs.reports.verdict.Goals as goal
 pub returns-clause-verdict : goal.returns-clause-verdict
 returns-clause-verdict g c =
     done_is (source_of c.args.here.now) (texts c.args.texts.now) (g.A.Answerer.answers c.args.asks.now) _ _ _ _
-        c.touched.ensures.answers c.summary.ensures.answers c.in_ok-summary.ensures.summary c.in_ok-reports.ensures.reports
+    c.touched.ensures.answers c.summary.ensures.answers c.in_ok-summary.ensures.summary c.in_ok-reports.ensures.reports
