@@ -1,5 +1,5 @@
 -- Parameters, one after the other: how many have entry bits, and which are pointers.
-use Rattle.std.proofs.Common.{◌≡◌, ℕ, zero, suc, ◌+◌, ◌-◌, ◌<◌, ◌≤◌, Bool, true, false, ◌&&◌, ◌||◌, List, [], ◌∷◌, ◌++◌, cond, length, map, drop, drop-cons, add-one, get_or, refl, sym, ap, ◌∙◌, append_assoc, add-zero, arith}
+use Rattle.std.proofs.Common.{◌≡◌, ℕ, zero, suc, ◌+◌, ◌-◌, ◌<◌, ◌≤◌, Bool, true, false, ◌||◌, List, [], ◌∷◌, ◌++◌, cond, length, drop, drop-cons, add-one, get_or, refl, sym, ap, ◌∙◌, append_assoc, add-zero, arith}
 use Rattle.std.proofs.lemmas.List.{drop_all}
 use Rattle.sc_typed.specs.declared.program.Param.{Param}
 use Rattle.sc_world.specs.Tree.{Ty, is_integer, is_pointer, target_or_void}

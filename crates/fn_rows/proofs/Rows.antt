@@ -1,5 +1,5 @@
 -- The rows that a location might have.
-use Rattle.std.proofs.Common.{◌≡◌, ℕ, List, [], ◌∷◌, ◌++◌, refl, ap, ◌∙◌}
+use Rattle.std.proofs.Common.{◌≡◌, ℕ, List, [], ◌∷◌, ◌++◌, ap, ◌∙◌}
 use Rattle.sum_rows.specs.declared.row.Gives.TheVariants as gives
 use Rattle.sum_rows.specs.declared.row.State.{State}
 use Rattle.sum_rows.specs.declared.row.State.TheVariants as state

@@ -1,5 +1,5 @@
 -- Rows and numbers for which some run answers yes.
-use Rattle.std.specs.Prelude.{ℕ, Bool, List, filter}
+use Rattle.std.specs.Prelude.{ℕ, List, filter}
 use Rattle.sum_rows.specs.declared.row.Row.{Row}
 use Rattle.sc_world.specs.Shows.{Query, Exits, Touches, Locks, Changes, Params, Sets, Outs, Writes}
 use Rattle.sc_world.specs.Verdict.{Answers}

@@ -1,6 +1,6 @@
 // Rows and numbers for which some run answers yes.
 
-ghost use Rattle.std.specs.Prelude.{◌≡◌, ◌++◌, [], ◌∷◌, IfOk, OnOk, filter};
+ghost use Rattle.std.specs.Prelude.{◌≡◌, ◌++◌, [], ◌∷◌, IfOk, OnOk};
 ghost use Rattle.run_questions.specs.Seen.{query};
 ghost use Rattle.fn_rows.specs.Asked as spec;
 

@@ -1,6 +1,6 @@
 // Numbers of locations.
 
-ghost use Rattle.std.specs.Prelude.{◌≡◌, ◌++◌, [], ◌∷◌, ◌&&◌, IfOk, OnOk, filter, length};
+ghost use Rattle.std.specs.Prelude.{◌≡◌, ◌++◌, [], ◌∷◌, ◌&&◌, IfOk, OnOk, filter};
 ghost use Rattle.std.specs.List.{range_with_len};
 ghost use Rattle.sc_world.specs.Layout as layouts;
 ghost use Rattle.layout_base.specs.Seen as laid;

@@ -1,6 +1,6 @@
 // What is read of a function's parameters.
 
-ghost use Rattle.std.specs.Prelude.{◌≡◌, ◌+◌, ◌<◌, ◌≤◌, ◌++◌, ◌||◌, [], ◌∷◌, IfOk, OnOk, length, map, get_or};
+ghost use Rattle.std.specs.Prelude.{◌≡◌, ◌+◌, ◌<◌, ◌≤◌, ◌++◌, ◌||◌, [], IfOk, OnOk, length};
 ghost use Rattle.sc_world.specs.Programs.{types_of};
 ghost use Rattle.sc_world.specs.Shows.{entry_params, entry_params_from};
 ghost use Rattle.sc_world.specs.Tree as tree;

@@ -1,8 +1,7 @@
 // What rows are made of.
 
-ghost use Rattle.std.specs.Prelude.{◌≡◌, ◌≤◌, ◌^◌, ◌||◌, IfOk, map, length};
+ghost use Rattle.std.specs.Prelude.{◌≡◌, ◌≤◌, ◌^◌, ◌||◌, IfOk};
 ghost use Rattle.std.specs.List.{range_with_len};
-ghost use Rattle.sum_rows.specs.declared.row.State.TheVariants as state;
 ghost use Rattle.sc_world.specs.Tree as tree;
 ghost use Rattle.sc_world.specs.Verdict as spec;
 ghost use Rattle.sc_world.specs.World.{states};

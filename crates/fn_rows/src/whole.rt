@@ -1,6 +1,6 @@
 // The summary of a function.
 
-ghost use Rattle.std.specs.Prelude.{◌≡◌, IfOk, length};
+ghost use Rattle.std.specs.Prelude.{◌≡◌, IfOk};
 ghost use Rattle.sc_world.specs.Verdict as spec;
 ghost use Rattle.sc_gather.specs.Seen as seen;
 ghost use Rattle.location_texts.specs.Seen as named;

@@ -1,4 +1,4 @@
-use Rattle.std.proofs.Common.{◌∙◌, ap}
+use Rattle.std.proofs.Common.{◌∙◌}
 use Rattle.sc_gather.specs.Seen.{source_of}
 use Rattle.location_texts.specs.Seen.{texts}
 use Rattle.fn_rows.proofs.Lists.{written_is}
