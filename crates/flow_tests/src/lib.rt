@@ -1,8 +1,0 @@
-//! The tests of `sc_flow`, over typed trees that are written by hand. They stand in a crate of their own, so that
-//! `sc_flow` is proved once, without tests.
-#![tactic(auto)]
-
-#[cfg(test)]
-mod graphs;
-#[cfg(test)]
-mod trees;

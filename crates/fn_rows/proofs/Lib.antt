@@ -1,0 +1,5 @@
+pub mod Counts
+pub mod Filters
+pub mod Lists
+pub mod Ranges
+pub mod Rows

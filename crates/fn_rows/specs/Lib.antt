@@ -1,0 +1,5 @@
+pub mod Asked
+pub mod Items
+pub mod Outer
+pub mod Params
+pub mod Parts

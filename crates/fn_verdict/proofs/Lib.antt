@@ -1,0 +1,4 @@
+pub mod Firsts
+pub mod Same
+pub mod TwoStates
+pub mod Whole

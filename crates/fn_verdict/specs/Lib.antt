@@ -1,0 +1,4 @@
+pub mod Double
+pub mod Inner
+pub mod Leaks
+pub mod Pairs
