@@ -1,8 +1,7 @@
 -- Numbers one after another: the first of them, and none.
 use Rattle.std.proofs.Common.{◌≡◌, ℕ, zero, suc, ◌+◌, ◌-◌, ◌<◌, ◌≤◌, Bool, true, false, ◌||◌, List, [], ◌∷◌, ◌++◌, ap, sym, refl, ◌∙◌, arith, append_assoc}
 use Rattle.std.proofs.lemmas.List.{append-nil}
-use Rattle.std.specs.List.{list_any, range_with_len}
-use Rattle.core.specs.List.{filter}
+use Rattle.std.specs.List.{filter, list_any, range_with_len}
 use Rattle.run_answers.specs.Rest.{rest}
 
 pub rest_all : (n : ℕ) → range_with_len 0 n ≡ rest 0 n

@@ -1,7 +1,7 @@
 -- Walks, one step after another.
 use Rattle.std.proofs.Common.{◌≡◌, ℕ, zero, suc, ◌+◌, ◌-◌, ◌<◌, ◌≤◌, Bool, List, ap, sym, refl, ◌∙◌, arith, length, take, get_or}
 use Rattle.std.proofs.lemmas.List.{take_more_same, take_all}
-use Rattle.core.specs.List.{filter}
+use Rattle.std.specs.List.{filter}
 use Rattle.sc_world.specs.Shows.{Over}
 use Rattle.run_answers.specs.Rest.{rest}
 use Rattle.run_answers.specs.Seen.{some_leads, comes_next, further, walked, reached}

@@ -1,5 +1,5 @@
 use Rattle.std.proofs.Common.{◌≡◌, ◌++◌, length}
-use Rattle.core.specs.List.{filter}
+use Rattle.std.specs.List.{filter}
 use Rattle.run_answers.specs.Rest.{rest}
 use Rattle.run_answers.specs.Seen.{over, comes_next, further}
 use Rattle.run_answers.proofs.walks.one_further.Given as goal
