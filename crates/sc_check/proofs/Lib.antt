@@ -3,3 +3,4 @@ pub mod Built
 pub mod Heres
 pub mod Walked
 pub mod Found
+pub mod Named

@@ -5,7 +5,11 @@ ghost use Rattle.std.specs.Option.{option_copied};
 ghost use Rattle.sc_rules.specs.Gives.{Gives};
 ghost use Rattle.sc_declare.specs.Numbers.{keys_of};
 ghost use Rattle.sc_typing.specs.Tables as tables;
+ghost use Rattle.sc_typing.specs.Typing.{heading};
 ghost use Rattle.sc_declarations.specs.Declarations as declared;
+ghost use Rattle.sc_tree.specs.declared.expr.Head.{out-Head};
+ghost use Rattle.sc_tree.specs.declared.expr.Specs.{out-Specs};
+ghost use Rattle.sc_declare.specs.Storage.{has_local};
 ghost use Rattle.sc_check.specs.Files as spec;
 ghost use Rattle.sc_check.specs.Parts as parts;
 
@@ -184,6 +188,54 @@ fn function_shaped(
     finish(alloc, walk, name, at, params, result, s)
 }
 
+// The name that the head of a function declares, with its place.
+fn head_name(here: &Tables, h: &Head) -> (NameId, Pos)
+    ensures { result ≡ declared.name_of (heading (tables.here_of here.now) h.now).name }
+{
+    name_or(here.declared_name(&h.declarator))
+}
+
+// Whether the words of a head make its function local to the file.
+fn head_is_local(h: &Head) -> bool
+    ensures { result ≡ has_local (out-Specs (out-Head h.now).specs).storage }
+{
+    has_local(h.specs.storage.as_slice())
+}
+
+// A function of that name, with its head and its body.
+fn function_named(
+    alloc: Global,
+    walk: &mut Walk,
+    numbers: &mut GlobalNumbers,
+    here: &Tables,
+    h: &Head,
+    is_local: bool,
+    b: &Body,
+    name: NameId,
+    at: Pos,
+) -> Result<Function, OutOfMemory>
+    requires { numbers.old ≡ keys_of walk.old.globals }
+    ensures typed { Gives (spec.function_named (tables.here_of here.now) (heading (tables.here_of here.now) h.now) is_local b.now
+        (name, at) walk.old)
+        result walk.new }
+    ensures tied { OnOk result (numbers.new ≡ keys_of walk.new.globals) }
+{
+    let Shape { ctype, own } = shape_of(alloc, walk, here, h, at)?;
+    let own = own_or(alloc, own)?;
+    function_shaped(
+        alloc,
+        walk,
+        numbers,
+        here,
+        name,
+        at,
+        is_local,
+        ctype.as_ref(),
+        own,
+        b,
+    )
+}
+
 /// Types a function: its tree, or the first fault in it. Its name stays declared, and what its head declares.
 ///
 /// `numbers` has the numbers of the globals of `walk`, before and after. Where memory is refused neither is of
@@ -200,20 +252,7 @@ pub fn function(
     ensures typed { Gives (spec.function (tables.here_of here.now) h.now b.now walk.old) result walk.new }
     ensures tied { OnOk result (numbers.new ≡ keys_of walk.new.globals) }
 {
-    let (name, at) = name_or(here.declared_name(&h.declarator));
-    let is_local = has_local(h.specs.storage.as_slice());
-    let Shape { ctype, own } = shape_of(alloc, walk, here, h, at)?;
-    let own = own_or(alloc, own)?;
-    function_shaped(
-        alloc,
-        walk,
-        numbers,
-        here,
-        name,
-        at,
-        is_local,
-        ctype.as_ref(),
-        own,
-        b,
-    )
+    let (name, at) = head_name(here, h);
+    let is_local = head_is_local(h);
+    function_named(alloc, walk, numbers, here, h, is_local, b, name, at)
 }
