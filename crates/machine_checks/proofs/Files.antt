@@ -1,6 +1,9 @@
 -- Files that name no function that tries to lock are typed the same.
 use Rattle.std.proofs.Common.{◌≡◌, ℕ, List, [], ◌∷◌, ◌++◌, length, refl, sym, ap, subst, ◌∙◌}
-use Rattle.std.specs.Prelude.{Bool, true, false, Option, Some, None, slice_index_or, if◌then◌else◌}
+use Rattle.std.specs.Prelude.{Bool, true, false, Option, Some, None, slice_get, if◌then◌else◌}
+use Rattle.std.proofs.lemmas.Option.{get_or_from_slice_get}
+use Rattle.fsm_spec.specs.Lock.{locks}
+use Rattle.sc_world.specs.Source.{trying}
 use Rattle.sc_base.specs.declared.pos.NameId.{NameId}
 use Rattle.sc_tree.specs.declared.expr.Head.{Head}
 use Rattle.sc_tree.specs.declared.unit.Unit as file
@@ -15,11 +18,17 @@ use Rattle.sc_typing.specs.Here.{Here}
 use Rattle.sc_typing.specs.Typing.{heading}
 use Rattle.sc_declarations.specs.Declarations.{name_of}
 use Rattle.sc_check.specs.Files.{Made}
-use Rattle.sc_check.specs.Typed.{Sources, Answer, Duplicate, TooMany, Typed, no_walk, nothing_made, builtin_named, walk_files, first_walk, head_name, is_local_function, bodied, bodies_in, bodies_of, second_walk, program_of, answer_unless, answer_behind, typed}
+use Rattle.sc_check.specs.Typed.{Sources, Answer, Duplicate, TooMany, Typed, no_walk, nothing_made, builtin_if, builtin_named, walk_files, first_walk, head_name, is_local_function, bodied, bodies_in, bodies_of, second_walk, program_of, answer_unless, answer_behind, typed}
 use Rattle.sc_typed.specs.declared.program.Program.{Program}
 use Rattle.machine_laws.specs.Tries.{NoNameTries, without_file}
 use Rattle.machine_checks.specs.Files.{sources_with, sources_without, with_lock}
 use Rattle.machine_checks.proofs.Builtins.{builtin_same}
+
+-- the built-in function of a name, if it has a text
+text_same : (text : Option (List ℕ)) → ((t : List ℕ) → text ≡ Some t → trying t ≡ None)
+    → builtin_if None text ≡ builtin_if (Some locks) text
+text_same None h = refl
+text_same (Some t) h = builtin_same t (h t refl)
 
 module _ (s : Sources) (h : NoNameTries s.names) where
   abbrev one : Sources
@@ -29,7 +38,9 @@ module _ (s : Sources) (h : NoNameTries s.names) where
   other = sources_with s
 
   named_same : builtin_named one ≡ builtin_named other
-  named_same = λ i n. builtin_same (slice_index_or s.names n []) (h n) i
+  named_same = λ i n.
+      text_same (slice_get s.names n)
+      (λ t is. subst (λ text. trying text ≡ None) (get_or_from_slice_get s.names n t [] is) (h n)) i
 
   -- what stays the same on the first walk, with such built-in functions
   abbrev first_with : (ℕ → Option Builtin) → ℕ → Here
