@@ -3,3 +3,4 @@ pub mod Fits
 pub mod Items
 pub mod LoopLaws
 pub mod Signs
+pub mod Statements

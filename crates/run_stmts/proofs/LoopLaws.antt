@@ -11,7 +11,7 @@ use Rattle.sc_world.specs.Exec.{while_by, do_by, for_by, condition, condition_if
 use Rattle.run_exprs.specs.Room.{room}
 use Rattle.run_room.specs.Room.{room_if, loop_room}
 use Rattle.run_stmts.specs.Loops.{Loop, While, For, Do, ended_by, tested_behind, loop_turn, last_test, more_or, loops}
-use Rattle.run_stmts.specs.Loops.{first_room, turn_room, turns_room}
+use Rattle.run_stmts.specs.Loops.{loop_stm, first_room, turn_room, turns_room}
 use Rattle.run_stmts.specs.Room.{Fits}
 use Rattle.run_stmts.proofs.Fits.{fits_less, fits_tests, body_fits, room_turn, room_last}
 
@@ -57,7 +57,7 @@ while_turns p e env s (suc left) t w =
     (loops (While e) p env s left (t + 1)) (λ w. refl) (λ w. while_turns p e env s left (t + 1) w)
     (condition p what.Loop e (in_turn env (env.source.depth + 1) t) w)
 
-pub while_is : (p : Pos) (e : Exp) (env : Env) (s : Stm) (w : World)
+while_is : (p : Pos) (e : Exp) (env : Env) (s : Stm) (w : World)
     → loops (While e) p env s env.source.depth 0 w ≡ while_by p e env (exec s) w
 while_is p e env s w = sym (while_turns p e env s env.source.depth 0 w)
 
@@ -84,7 +84,7 @@ for_turns p c n env s (suc left) t w =
     (λ w. for_turns p c n env s left (t + 1) w)
     (condition_if p c (in_turn env (env.source.depth + 1) t) w)
 
-pub for_is : (p : Pos) (c n : Option Exp) (env : Env) (s : Stm) (w : World)
+for_is : (p : Pos) (c n : Option Exp) (env : Env) (s : Stm) (w : World)
     → loops (For c n) p env s env.source.depth 0 w ≡ for_by p c n env (exec s) w
 for_is p c n env s w = sym (for_turns p c n env s env.source.depth 0 w)
 
@@ -126,7 +126,7 @@ do_loops p e env s (suc left) t w =
     (loops (Do e) p env s left (t + 1)) (λ w. do_loops p e env s left (t + 1) w)
     (exec s (in_turn env env.source.depth t) w)
 
-pub do_is : (p : Pos) (e : Exp) (env : Env) (s : Stm) (w : World)
+do_is : (p : Pos) (e : Exp) (env : Env) (s : Stm) (w : World)
     → loops (Do e) p env s env.source.depth 0 w ≡ do_by p e env (exec s) w
 do_is p e env s w = sym (do_loops p e env s env.source.depth 0 w)
 
@@ -158,9 +158,20 @@ loop_errs l p env s depth t x w after low h =
     loop_by l p env s depth t w low
     ∙ ap (λ r. goes_on r (more_or (loops l p env s (depth - (t + 1)) (t + 1)))) h
 
-pub loop_all : (l : Loop) (p : Pos) (env : Env) (s : Stm) (depth : ℕ) (w : World)
+loop_all : (l : Loop) (p : Pos) (env : Env) (s : Stm) (depth : ℕ) (w : World)
     → loops l p env s (depth - 0) 0 w ≡ loops l p env s depth 0 w
 loop_all l p env s depth w = let e : depth - 0 ≡ depth = omega arith in ap (λ n. loops l p env s n 0 w) e
+
+-- all turns are the loop
+loop_is : (l : Loop) (p : Pos) (env : Env) (s : Stm) (w : World)
+    → loops l p env s env.source.depth 0 w ≡ exec (loop_stm l p s) env w
+loop_is (While e) p env s w = while_is p e env s w
+loop_is (For c n) p env s w = for_is p c n env s w
+loop_is (Do e) p env s w = do_is p e env s w
+
+pub loop_begins : (l : Loop) (p : Pos) (env : Env) (s : Stm) (w : World)
+    → loops l p env s (env.source.depth - 0) 0 w ≡ exec (loop_stm l p s) env w
+loop_begins l p env s w = loop_all l p env s env.source.depth w ∙ loop_is l p env s w
 
 pub loop_last : (l : Loop) (p : Pos) (env : Env) (s : Stm) (depth t : ℕ) (w : World) → depth ≤ t → t ≤ depth
     → loops l p env s (depth - t) t w ≡ last_test l p env depth w
@@ -209,6 +220,4 @@ loop_body_fits (For c n) turn depth b t low fits =
     (body_fits turn depth (room_if c + 1) (b + room_if n) t low fits)
 loop_body_fits (Do e) turn depth b t low fits = body_fits turn depth (room e + 1) b t low fits
 
-pub ruleset loop_kinds = (while_is, for_is, do_is)
-
-pub ruleset loop_steps = (loop_all, turns_turn, turns_all, turns_last, turns_one, loop_on, loop_ends, loop_errs, loop_last, loop_tests_fit, loop_body_fits)
+pub ruleset loop_steps = (loop_begins, turns_turn, turns_all, turns_last, turns_one, loop_on, loop_ends, loop_errs, loop_last, loop_tests_fit, loop_body_fits)

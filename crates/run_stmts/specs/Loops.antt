@@ -3,7 +3,8 @@ use Rattle.std.specs.Prelude.{ℕ, zero, suc, ◌+◌, Bool, true, false, Option
 use Rattle.sc_base.specs.declared.pos.Pos.{Pos}
 use Rattle.sum_rows.specs.declared.report.What.TheVariants as what
 use Rattle.sc_world.specs.declared.run.Reason.TheVariants as reason
-use Rattle.sc_world.specs.Tree.{Exp, Stm}
+use Rattle.sc_world.specs.Tree as tree
+use Rattle.sc_world.specs.Tree.{Exp, Stm, NoStart}
 use Rattle.sc_world.specs.World.{Run, Env, ◌>>=◌, done, aside}
 use Rattle.sc_world.specs.Exec.{Flow, Next, Breaks, Continues, GoesTo, Returns, exec, in_turn}
 use Rattle.sc_world.specs.Exec.{condition, condition_if, with_step}
@@ -15,6 +16,12 @@ pub data Loop : Type 0 where
   While : (test : Exp) → Loop
   For : (test step : Option Exp) → Loop
   Do : (test : Exp) → Loop
+
+-- the loop as a statement, with nothing in the first place of a `for`
+abbrev pub loop_stm : Loop → Pos → (body : Stm) → Stm
+loop_stm (While e) p s = tree.While p e s
+loop_stm (For c n) p s = tree.For p NoStart c n s
+loop_stm (Do e) p s = tree.Do p s e
 
 -- where the run goes on behind the loop, if its body ends it
 abbrev pub ended_by : Flow → Option Flow

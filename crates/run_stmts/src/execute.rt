@@ -27,7 +27,7 @@ use sum_rows::What;
 /// Executes a statement: where the run goes on behind it. There has to be room for what the statement needs; the
 /// arguments are as before unless the run ends.
 #[cycle(execute)]
-#[tactic(auto, using(crate::proofs::LoopLaws::loop_kinds), unfolding(crate::specs::Loops::turns_room))]
+#[tactic(auto, unfolding(crate::specs::Loops::turns_room))]
 pub fn exec<C: Calls>(
     here: &Here,
     world: &mut World,
@@ -234,8 +234,8 @@ fn exec_loop<C: Calls>(
     requires fits { Fits here.now.turn
         (room_of_turns here.now (shown.loop_of (seen.env here.now).source.structs tests) body.now) }
     ensures done { seen.Does shown.flow
-        (loops.loops (shown.loop_of (seen.env here.now).source.structs tests.entry) pos (seen.env here.now)
-        (stm_of here.now body.now) (seen.env here.now).source.depth 0 (seen.world world.old))
+        (spec.exec (loops.loop_stm (shown.loop_of (seen.env here.now).source.structs tests.entry) pos
+        (stm_of here.now body.now)) (seen.env here.now) (seen.world world.old))
         result (seen.world world.new) }
     ensures used { Uses world.old world.new space.old.kept space.new.kept
         (room_of_turns here.now (shown.loop_of (seen.env here.now).source.structs tests.entry) body.now) }

@@ -1,9 +1,9 @@
 use Rattle.std.proofs.Common.{◌≡◌, ◌+◌, ◌-◌, ◌≤◌, length, drop, vec_capacity}
-use Rattle.sc_world.specs.Exec.{exec_all}
+use Rattle.sc_world.specs.Exec.{exec, exec_all}
 use Rattle.run_world.specs.Seen.{world, env}
 use Rattle.run_inits.specs.Reads.{reads_at}
 use Rattle.run_inits.specs.Seen.{most}
-use Rattle.run_stmts.specs.Loops.{loops, turns_room}
+use Rattle.run_stmts.specs.Loops.{loop_stm, loops, turns_room}
 use Rattle.run_stmts.specs.Room.{Fits, room_of, room_of_items, room_of_turns}
 use Rattle.run_stmts.specs.Seen.{seek, loop_of}
 use Rattle.run_stmts.specs.Trees.{stm_of, stms_of}
@@ -31,8 +31,8 @@ abbrev pub invariant-exec_loop-loop-turn : goal.invariant-exec_loop-loop-turn
 invariant-exec_loop-loop-turn g l = record {
   executed : loops (loop_of (env l.here).source.structs l.tests) l.pos (env l.here) (stm_of l.here l.body)
       ((env l.here).source.depth - l.turn) l.turn (world l.world)
-      ≡ loops (loop_of (env l.fn.here).source.structs l.fn.tests) l.fn.pos (env l.fn.here) (stm_of l.fn.here l.fn.body)
-      (env l.fn.here).source.depth 0 (world l.fn.world);
+      ≡ exec (loop_stm (loop_of (env l.fn.here).source.structs l.fn.tests) l.fn.pos (stm_of l.fn.here l.fn.body))
+      (env l.fn.here) (world l.fn.world);
   few_events : length l.world.trace.items
       + turns_room (loop_of (env l.here).source.structs l.tests) ((env l.here).source.depth - l.turn)
       (room_of l.here l.body)
