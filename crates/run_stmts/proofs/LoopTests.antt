@@ -31,10 +31,10 @@ pub turn_in : (tests : Tests) (p : Pos) (body : TStmt) (env within : Env) (n t :
 turn_in tests p body env within n t b f w mid late is depth tested holds executed =
     let l = loop_of env.source.structs tests in
     let s = stm env.source.structs body in
-    let then = λ (b : Bool). if b
+    let turned = λ (b : Bool). if b
     then (λ (w : World). goes_on (exec s (in_turn env env.source.depth t) w) (λ f. behind_body l p (in_turn env env.source.depth t) f))
     else done (Some Next) in
     let at : in_turn env env.source.depth t ≡ within = ap (λ j. in_turn env j t) (sym depth) ∙ sym is in
-    ap (λ r. goes_on r then) tested ∙ (ap (λ b. then b mid) holds
+    ap (λ r. goes_on r turned) tested ∙ (ap (λ b. turned b mid) holds
     ∙ (ap (λ (y : Env). goes_on (exec (stm y.source.structs body) y mid) (λ f. behind_body (loop_of y.source.structs tests) p y f)) at
     ∙ ap (λ r. goes_on r (λ f. behind_body (loop_of within.source.structs tests) p within f)) executed))
