@@ -1,0 +1,5 @@
+pub mod Events
+pub mod Fits
+pub mod Items
+pub mod LoopLaws
+pub mod Signs
