@@ -159,7 +159,7 @@ impl<'p, 'm, 'f> Machine<'p, 'm, 'f> {
 
     /// Runs the function on a choice: how the run ends, with the trace and the store of that run alone. It takes no
     /// memory.
-    #[tactic(auto, unfolding(run_world::specs::Seen::env))]
+    #[tactic(auto, using(crate::proofs::Runs::ending_steps), unfolding(run_world::specs::Seen::env))]
     pub fn run(&mut self, choice: &[bool]) -> Outcome
         ensures run { spec.run (laid.ground_of self.old.given).source (laid.layout_of self.old.places.now) choice.now
             ≡ (ended result, seen.world self.new.world) }

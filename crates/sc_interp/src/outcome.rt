@@ -31,4 +31,16 @@ impl Outcome {
             Err(Ended::Aside(reason)) => Outcome::Aside(reason),
         }
     }
+
+    /// The same in the words of a step of a run.
+    pub fn into_result(self) -> Result<Value, Ended>
+        ensures { gone result ≡ ended self }
+    {
+        match self {
+            Outcome::Exit(value) => Ok(value),
+            Outcome::Error(at) => Err(Ended::Error(at)),
+            Outcome::Inner(at) => Err(Ended::Inner(at)),
+            Outcome::Aside(reason) => Err(Ended::Aside(reason)),
+        }
+    }
 }

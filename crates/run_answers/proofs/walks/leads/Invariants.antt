@@ -1,0 +1,10 @@
+use Rattle.std.proofs.Common.{◌≡◌, length}
+use Rattle.std.specs.List.{list_any}
+use Rattle.run_answers.specs.Rest.{rest}
+use Rattle.run_answers.specs.Seen.{over, leads, leads_at}
+use Rattle.run_answers.proofs.walks.leads.Given as goal
+
+abbrev pub invariant-loop-k : goal.invariant-loop-k
+invariant-loop-k l =
+    list_any (leads_at (over l.over) l.from l.to) (rest l.k (length (over l.over).layout.locations))
+    ≡ leads (over l.fn.over) l.fn.from l.fn.to
