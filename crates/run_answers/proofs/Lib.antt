@@ -1,7 +1,7 @@
 pub mod Bits
 pub mod Blanks
+pub mod Fates
 pub mod Held
-pub mod Objects
 pub mod Rests
 pub mod Upward
 pub mod Walked

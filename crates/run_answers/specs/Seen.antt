@@ -1,6 +1,6 @@
 -- What contracts see of a run that is over: the run of the definitions. And the definitions in the words of the code,
 -- which asks all that holds objects by one function.
-use Rattle.std.specs.Prelude.{ℕ, ◌+◌, ◌-◌, ◌^◌, nat_eq, Bool, true, false, not, ◌&&◌, ◌||◌, Option, Some, None, List, Result, Ok, Err, map, length, if◌then◌else◌}
+use Rattle.std.specs.Prelude.{ℕ, ◌+◌, ◌-◌, ◌^◌, ◌<◌, nat_eq, Bool, true, false, not, ◌&&◌, ◌||◌, Option, Some, None, List, Result, Ok, Err, map, length, if◌then◌else◌}
 use Rattle.std.specs.List.{list_any, list_all}
 use Rattle.sc_base.specs.declared.pos.Pos.{Pos}
 use Rattle.run_store.specs.Concrete.{Cell}
@@ -37,6 +37,10 @@ over o =
       ended = ended o.ended;
       world = world o.world.now;
     }
+
+-- there are so few locations that each has a number of 32 bits
+abbrev pub HasFew : Over → Type 0
+HasFew o = length o.here.places.now.locations.items < 2 ^ 32
 
 -- Entry.
 

@@ -1,6 +1,6 @@
 // What the choice of a run gave at entry.
 
-ghost use Rattle.std.specs.Prelude.{◌≡◌, ◌+◌, ◌*◌, ◌≤◌, ◌<◌, ◌^◌, ◌∷◌, List, IfOk, length};
+ghost use Rattle.std.specs.Prelude.{◌≡◌, ◌+◌, ◌*◌, ◌≤◌, ◌<◌, ◌∷◌, List, IfOk};
 ghost use Rattle.fsm_spec.specs.Table as table;
 ghost use Rattle.sc_world.specs.Layout as layouts;
 ghost use Rattle.sc_world.specs.Programs.{types_of};
@@ -118,7 +118,7 @@ pub fn state_before(over: &Over, at: u32) -> u64
 // The location of a parameter.
 #[tactic(auto, unfolding(crate::specs::Seen::over, run_world::specs::Seen::env))]
 fn param_location(over: &Over, n: u32) -> u32
-    requires { length over.here.now.places.now.locations.items < 2 ^ 32 }
+    requires { seen.HasFew over.now }
     ensures { result ≡ spec.param_location (seen.over over.now) n }
 {
     location_of(&over.here, Origin::Param(n))
@@ -127,7 +127,7 @@ fn param_location(over: &Over, n: u32) -> u32
 /// Whether a parameter was neither 0 nor null.
 #[tactic(auto, unfolding(crate::specs::Seen::is_given, crate::specs::Seen::was_true))]
 pub fn is_given(over: &Over, n: u32) -> bool
-    requires { length over.here.now.places.now.locations.items < 2 ^ 32 }
+    requires { seen.HasFew over.now }
     ensures { result ≡ seen.is_given (seen.over over.now) n }
 {
     was_true(over, param_location(over, n))
@@ -136,7 +136,7 @@ pub fn is_given(over: &Over, n: u32) -> bool
 /// What a parameter points to.
 #[tactic(auto, unfolding(crate::specs::Seen::param_object))]
 pub fn param_object(over: &Over, n: u32) -> u32
-    requires { length over.here.now.places.now.locations.items < 2 ^ 32 }
+    requires { seen.HasFew over.now }
     ensures { result ≡ seen.param_object (seen.over over.now) n }
 {
     match location_at(over, param_location(over, n)).target {
@@ -179,7 +179,7 @@ fn with_digit(number: u32, bit: bool) -> u32
 // The bit of a parameter is read, if it has one and one is left to read.
 #[tactic(auto, using(crate::proofs::Bits::bit_steps))]
 fn read_bit(over: &Over, bits: Bits, k: u32, param: &Param) -> Bits
-    requires few { length over.here.now.places.now.locations.items < 2 ^ 32 }
+    requires few { seen.HasFew over.now }
     requires left { bits.left ≤ 3 }
     requires number { bits.number < seen.size_of bits.left }
     ensures bits { (ts : List Ty) → seen.bits_from (seen.over over.now) result.number result.left (k + 1) ts
@@ -199,7 +199,7 @@ fn read_bit(over: &Over, bits: Bits, k: u32, param: &Param) -> Bits
 /// The entry bits as a number, the first parameter's highest. No memory has room for 2^32 parameters.
 #[tactic(auto, using(crate::proofs::Bits::bit_steps))]
 pub fn given(over: &Over) -> Result<u32, OutOfMemory>
-    requires { length over.here.now.places.now.locations.items < 2 ^ 32 }
+    requires { seen.HasFew over.now }
     ensures { IfOk result (λ n. n ≡ seen.given (seen.over over.now)) }
 {
     let params = params(over);

@@ -1,6 +1,6 @@
 // Pointer cells by which others hold objects.
 
-ghost use Rattle.std.specs.Prelude.{◌≡◌, ◌<◌, ◌^◌, ◌++◌, [], IfOk, OnOk, length};
+ghost use Rattle.std.specs.Prelude.{◌≡◌, ◌++◌, [], IfOk, OnOk};
 ghost use Rattle.sc_world.specs.Shows as spec;
 ghost use Rattle.run_answers.specs.Seen as seen;
 
@@ -98,7 +98,7 @@ pub fn held(
     first: Option<u32>,
     beside: Beside,
 ) -> Result<Vec<u32>, OutOfMemory>
-    requires { length over.here.now.places.now.locations.items < 2 ^ 32 }
+    requires { seen.HasFew over.now }
     ensures { IfOk result (λ v. v.items ≡ seen.held (seen.over over.now) first beside) }
 {
     let mut objects = Vec::new(alloc);

@@ -1,6 +1,6 @@
 // What became of an object.
 
-ghost use Rattle.std.specs.Prelude.{◌≡◌, ◌+◌, ◌<◌, ◌^◌, IfOk, length};
+ghost use Rattle.std.specs.Prelude.{◌≡◌, ◌+◌, IfOk};
 ghost use Rattle.sc_world.specs.Layout as layouts;
 ghost use Rattle.sc_world.specs.Paths as paths;
 ghost use Rattle.sc_world.specs.Shows as spec;
@@ -27,7 +27,7 @@ fn is_reached(
     beside: Beside,
     object: u32,
 ) -> Result<bool, OutOfMemory>
-    requires { length over.here.now.places.now.locations.items < 2 ^ 32 }
+    requires { seen.HasFew over.now }
     ensures { IfOk result (λ b. b ≡ seen.is_reached (seen.over over.now) first beside object) }
 {
     let held = held(alloc, over, first, beside)?;
@@ -36,9 +36,9 @@ fn is_reached(
 }
 
 // Whether others may know an object.
-#[tactic(auto, using(crate::proofs::Objects::object_steps))]
+#[tactic(auto, using(crate::proofs::Fates::object_steps))]
 fn is_escaped(alloc: Global, over: &Over, object: u32) -> Result<bool, OutOfMemory>
-    requires { length over.here.now.places.now.locations.items < 2 ^ 32 }
+    requires { seen.HasFew over.now }
     ensures { IfOk result (λ b. b ≡ seen.is_escaped (seen.over over.now) object) }
 {
     if has(over, Flag::Escaped, object) {
@@ -81,7 +81,7 @@ fn is_reached_if(
     beside: Beside,
     object: Option<u32>,
 ) -> Result<bool, OutOfMemory>
-    requires { length over.here.now.places.now.locations.items < 2 ^ 32 }
+    requires { seen.HasFew over.now }
     ensures { IfOk result (λ b. b ≡ seen.is_reached_if (seen.over over.now) first beside object) }
 {
     match object {
@@ -99,7 +99,7 @@ fn kind(
     beside: Beside,
     value: Value,
 ) -> Result<State, OutOfMemory>
-    requires { length over.here.now.places.now.locations.items < 2 ^ 32 }
+    requires { seen.HasFew over.now }
     ensures { IfOk result (λ k. k ≡ seen.kind (seen.over over.now) first beside (world.cell value)) }
 {
     if !value.is_true() {
@@ -116,18 +116,18 @@ fn kind(
 }
 
 /// The kind of the pointer that the function gives.
-#[tactic(auto, using(crate::proofs::Objects::object_steps))]
+#[tactic(auto, using(crate::proofs::Fates::object_steps))]
 pub fn kind_of_result(alloc: Global, over: &Over) -> Result<State, OutOfMemory>
-    requires { length over.here.now.places.now.locations.items < 2 ^ 32 }
+    requires { seen.HasFew over.now }
     ensures { IfOk result (λ k. k ≡ seen.kind_of_result (seen.over over.now)) }
 {
     kind(alloc, over, None, Beside::Nothing, result_value(over))
 }
 
 // The kind of the pointer in the cell of a location.
-#[tactic(auto, using(crate::proofs::Objects::object_steps))]
+#[tactic(auto, using(crate::proofs::Fates::object_steps))]
 fn kind_of_cell(alloc: Global, over: &Over, at: u32) -> Result<State, OutOfMemory>
-    requires { length over.here.now.places.now.locations.items < 2 ^ 32 }
+    requires { seen.HasFew over.now }
     ensures { IfOk result (λ k. k ≡ seen.kind_of_cell (seen.over over.now) at) }
 {
     kind(
@@ -140,9 +140,9 @@ fn kind_of_cell(alloc: Global, over: &Over, at: u32) -> Result<State, OutOfMemor
 }
 
 /// What became of an object that the caller gave.
-#[tactic(auto, using(crate::proofs::Objects::object_steps))]
+#[tactic(auto, using(crate::proofs::Fates::object_steps))]
 pub fn fate(alloc: Global, over: &Over, at: u32) -> Result<State, OutOfMemory>
-    requires { length over.here.now.places.now.locations.items < 2 ^ 32 }
+    requires { seen.HasFew over.now }
     ensures { IfOk result (λ k. k ≡ seen.fate (seen.over over.now) at) }
 {
     if has(over, Flag::Freed, at) {
@@ -156,9 +156,9 @@ pub fn fate(alloc: Global, over: &Over, at: u32) -> Result<State, OutOfMemory>
 }
 
 /// What became of a pointer that the caller gave a pointer to.
-#[tactic(auto, using(crate::proofs::Objects::object_steps))]
+#[tactic(auto, using(crate::proofs::Fates::object_steps))]
 pub fn out_fate(alloc: Global, over: &Over, at: u32) -> Result<State, OutOfMemory>
-    requires { length over.here.now.places.now.locations.items < 2 ^ 32 }
+    requires { seen.HasFew over.now }
     ensures { IfOk result (λ k. k ≡ seen.out_fate (seen.over over.now) at) }
 {
     if !has(over, Flag::Written, at) || has(over, Flag::Freed, root_at(over, at)) {
@@ -168,9 +168,9 @@ pub fn out_fate(alloc: Global, over: &Over, at: u32) -> Result<State, OutOfMemor
 }
 
 // Whether a location is lost: allocated, and neither freed nor escaped.
-#[tactic(auto, using(crate::proofs::Objects::object_steps))]
+#[tactic(auto, using(crate::proofs::Fates::object_steps))]
 fn is_lost(alloc: Global, over: &Over, at: u32) -> Result<bool, OutOfMemory>
-    requires { length over.here.now.places.now.locations.items < 2 ^ 32 }
+    requires { seen.HasFew over.now }
     ensures { IfOk result (λ b. b ≡ seen.is_lost (seen.over over.now) at) }
 {
     if !has(over, Flag::Allocated, at) || has(over, Flag::Freed, at) {
@@ -215,7 +215,7 @@ fn is_from(over: &Over, pos: Pos, at: u32) -> bool
 // Whether a location is an object of a call at a place, and lost.
 #[tactic(auto, unfolding(crate::specs::Seen::is_lost_from))]
 fn is_lost_from(alloc: Global, over: &Over, pos: Pos, at: u32) -> Result<bool, OutOfMemory>
-    requires { length over.here.now.places.now.locations.items < 2 ^ 32 }
+    requires { seen.HasFew over.now }
     ensures { IfOk result (λ b. b ≡ seen.is_lost_from (seen.over over.now) pos at) }
 {
     if !is_from(over, pos, at) {
@@ -225,9 +225,9 @@ fn is_lost_from(alloc: Global, over: &Over, pos: Pos, at: u32) -> Result<bool, O
 }
 
 /// Whether an object of a call at a place is lost.
-#[tactic(auto, using(crate::proofs::Objects::loss_steps))]
+#[tactic(auto, using(crate::proofs::Fates::loss_steps))]
 pub fn loses(alloc: Global, over: &Over, pos: Pos) -> Result<bool, OutOfMemory>
-    requires { length over.here.now.places.now.locations.items < 2 ^ 32 }
+    requires { seen.HasFew over.now }
     ensures { IfOk result (λ b. b ≡ seen.loses (seen.over over.now) pos) }
 {
     for k in 0..count(over) {

@@ -24,9 +24,10 @@ pub struct Over<'p, 'm, 'f> {
 }
 
 /// How many locations there are.
-#[tactic(auto, unfolding(crate::specs::Seen::over, run_world::specs::Seen::env))]
+#[tactic(auto, unfolding(crate::specs::Seen::over, run_world::specs::Seen::env, layout_base::specs::Seen::layout_of))]
 pub fn count(over: &Over) -> usize
-    ensures { result ≡ length (seen.over over.now).layout.locations }
+    ensures count { result ≡ length (seen.over over.now).layout.locations }
+    ensures items { result ≡ length over.now.here.places.now.locations.items }
 {
     over.here.places.count()
 }

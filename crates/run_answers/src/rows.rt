@@ -1,6 +1,6 @@
 // The rows of a run.
 
-ghost use Rattle.std.specs.Prelude.{◌≡◌, ◌<◌, ◌^◌, IfOk, length};
+ghost use Rattle.std.specs.Prelude.{◌≡◌, IfOk};
 ghost use Rattle.sum_rows.specs.declared.row.State.TheVariants as names;
 ghost use Rattle.sum_rows.specs.declared.row.Gives.TheVariants as gifts;
 ghost use Rattle.sc_world.specs.Known as known;
@@ -110,7 +110,7 @@ fn gives_of(t: &CType, value: Value) -> Gives
 
 // The result of the run.
 #[tactic(auto, unfolding(crate::specs::Seen::over, run_world::specs::Seen::env, layout_base::specs::Seen::ground_of, sc_gather::specs::Seen::source_of, sc_world::specs::Programs::source_by))]
-fn result(over: &Over) -> Gives
+fn gives(over: &Over) -> Gives
     ensures { result ≡ spec.result (seen.over over.now) }
 {
     match over.here.ground.here.function() {
@@ -131,9 +131,9 @@ fn gives_pointer(over: &Over) -> bool
 }
 
 // The kind of the result, where that is a pointer.
-#[tactic(auto, using(crate::proofs::Objects::object_steps))]
+#[tactic(auto, using(crate::proofs::Fates::object_steps))]
 fn result_kind(alloc: Global, over: &Over) -> Result<State, OutOfMemory>
-    requires { length over.here.now.places.now.locations.items < 2 ^ 32 }
+    requires { seen.HasFew over.now }
     ensures { IfOk result (λ k. k ≡ seen.result_kind (seen.over over.now)) }
 {
     if gives_pointer(over) {
@@ -145,7 +145,7 @@ fn result_kind(alloc: Global, over: &Over) -> Result<State, OutOfMemory>
 
 /// Whether the run has that row of its end.
 pub fn has_exit_row(alloc: Global, over: &Over, row: Row) -> Result<bool, OutOfMemory>
-    requires { length over.here.now.places.now.locations.items < 2 ^ 32 }
+    requires { seen.HasFew over.now }
     ensures { IfOk result (λ b. b ≡ seen.has_exit_row (seen.over over.now) row) }
 {
     if !exits(over) {
@@ -153,12 +153,12 @@ pub fn has_exit_row(alloc: Global, over: &Over, row: Row) -> Result<bool, OutOfM
     }
     let given = given(over)?;
     let kind = result_kind(alloc, over)?;
-    Ok(is_row(row, given, State::Nil, result(over), kind))
+    Ok(is_row(row, given, State::Nil, gives(over), kind))
 }
 
 /// Whether the run has that row of a location.
 pub fn has_lock_row(over: &Over, at: u32, row: Row) -> Result<bool, OutOfMemory>
-    requires { length over.here.now.places.now.locations.items < 2 ^ 32 }
+    requires { seen.HasFew over.now }
     ensures { IfOk result (λ b. b ≡ seen.has_lock_row (seen.over over.now) at row) }
 {
     if !is_met(over, at) {
@@ -167,14 +167,14 @@ pub fn has_lock_row(over: &Over, at: u32, row: Row) -> Result<bool, OutOfMemory>
     let given = given(over)?;
     let before = state_before(over, at);
     Ok(
-        (exits(over) && is_change(row, given, before, result(over), state_now(over, at)))
+        (exits(over) && is_change(row, given, before, gives(over), state_now(over, at)))
             || (errs_at(over, at) && is_error(row, given, before)),
     )
 }
 
 /// Whether the run comes to its end, and what a parameter points to is freed or escaped then.
 pub fn has_changed(alloc: Global, over: &Over, n: u32) -> Result<bool, OutOfMemory>
-    requires { length over.here.now.places.now.locations.items < 2 ^ 32 }
+    requires { seen.HasFew over.now }
     ensures { IfOk result (λ b. b ≡ seen.has_changed (seen.over over.now) n) }
 {
     if !exits(over) {
@@ -186,7 +186,7 @@ pub fn has_changed(alloc: Global, over: &Over, n: u32) -> Result<bool, OutOfMemo
 
 /// Whether the run comes to its end with that row of what a parameter points to.
 pub fn has_param_row(alloc: Global, over: &Over, n: u32, row: Row) -> Result<bool, OutOfMemory>
-    requires { length over.here.now.places.now.locations.items < 2 ^ 32 }
+    requires { seen.HasFew over.now }
     ensures { IfOk result (λ b. b ≡ seen.has_param_row (seen.over over.now) n row) }
 {
     if !exits(over) || !is_given(over, n) {
@@ -194,12 +194,12 @@ pub fn has_param_row(alloc: Global, over: &Over, n: u32, row: Row) -> Result<boo
     }
     let given = given(over)?;
     let fate = fate(alloc, over, param_object(over, n))?;
-    Ok(is_row(row, given, State::Nil, result(over), fate))
+    Ok(is_row(row, given, State::Nil, gives(over), fate))
 }
 
 /// Whether the run comes to its end with that row of the pointer that a parameter points to.
 pub fn has_out_row(alloc: Global, over: &Over, n: u32, row: Row) -> Result<bool, OutOfMemory>
-    requires { length over.here.now.places.now.locations.items < 2 ^ 32 }
+    requires { seen.HasFew over.now }
     ensures { IfOk result (λ b. b ≡ seen.has_out_row (seen.over over.now) n row) }
 {
     if !exits(over) || !is_given(over, n) {
@@ -207,5 +207,5 @@ pub fn has_out_row(alloc: Global, over: &Over, n: u32, row: Row) -> Result<bool,
     }
     let given = given(over)?;
     let fate = out_fate(alloc, over, param_object(over, n))?;
-    Ok(is_row(row, given, State::Nil, result(over), fate))
+    Ok(is_row(row, given, State::Nil, gives(over), fate))
 }

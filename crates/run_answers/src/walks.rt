@@ -1,6 +1,6 @@
 // Walks over pointer cells from object to object; from one that is freed a walk goes nowhere.
 
-ghost use Rattle.std.specs.Prelude.{◌≡◌, ◌<◌, ◌^◌, true, IfOk, length};
+ghost use Rattle.std.specs.Prelude.{◌≡◌, true, IfOk};
 ghost use Rattle.std.specs.List.{list_any};
 ghost use Rattle.sc_world.specs.Shows as spec;
 ghost use Rattle.run_answers.specs.Seen as seen;
@@ -39,7 +39,7 @@ fn cell_leads(over: &Over, from: u32, to: u32, at: u32) -> bool
 // Whether an object leads to another one.
 #[tactic(auto, using(crate::proofs::Walked::lead_steps))]
 fn leads(over: &Over, from: u32, to: u32) -> bool
-    requires { length over.here.now.places.now.locations.items < 2 ^ 32 }
+    requires { seen.HasFew over.now }
     ensures { result ≡ seen.leads (seen.over over.now) from to }
 {
     if has(over, Flag::Freed, from) {
@@ -55,7 +55,7 @@ fn leads(over: &Over, from: u32, to: u32) -> bool
 
 // Whether one of these objects leads to that one.
 fn some_leads(over: &Over, objects: &[u32], to: u32) -> bool
-    requires { length over.here.now.places.now.locations.items < 2 ^ 32 }
+    requires { seen.HasFew over.now }
     ensures { result ≡ list_any (λ m. seen.leads (seen.over over.now) m to) objects.now }
 {
     for from in objects {
@@ -69,7 +69,7 @@ fn some_leads(over: &Over, objects: &[u32], to: u32) -> bool
 // Whether an object is among these, or one of these leads to it.
 #[tactic(auto, unfolding(crate::specs::Seen::comes_next))]
 fn comes_next(over: &Over, objects: &[u32], n: u32) -> bool
-    requires { length over.here.now.places.now.locations.items < 2 ^ 32 }
+    requires { seen.HasFew over.now }
     ensures { result ≡ seen.comes_next (seen.over over.now) objects.now n }
 {
     is_among(objects, n) || some_leads(over, objects, n)
@@ -78,7 +78,7 @@ fn comes_next(over: &Over, objects: &[u32], n: u32) -> bool
 // These objects, and those to which one of them leads.
 #[tactic(auto, using(crate::proofs::Walked::next_steps))]
 fn one_further(alloc: Global, over: &Over, objects: &[u32]) -> Result<Vec<u32>, OutOfMemory>
-    requires { length over.here.now.places.now.locations.items < 2 ^ 32 }
+    requires { seen.HasFew over.now }
     ensures { IfOk result (λ v. v.items ≡ seen.further (seen.over over.now) objects.now) }
 {
     let mut next = Vec::new(alloc);
@@ -110,7 +110,7 @@ fn is_same(a: &[u32], b: &[u32]) -> bool
 /// The objects to which walks lead from these, which are among them.
 #[tactic(auto, using(crate::proofs::Walked::walk_steps))]
 pub fn reached(alloc: Global, over: &Over, from: Vec<u32>) -> Result<Vec<u32>, OutOfMemory>
-    requires { length over.here.now.places.now.locations.items < 2 ^ 32 }
+    requires { seen.HasFew over.now }
     ensures { IfOk result (λ v. v.items ≡ seen.reached (seen.over over.now) from.entry.items) }
 {
     let mut objects = from;

@@ -1,6 +1,6 @@
 // What a run answers.
 
-ghost use Rattle.std.specs.Prelude.{◌≡◌, ◌<◌, ◌^◌, IfOk, length};
+ghost use Rattle.std.specs.Prelude.{◌≡◌, IfOk};
 ghost use Rattle.sc_world.specs.Shows as spec;
 ghost use Rattle.location_texts.specs.Seen as texts;
 ghost use Rattle.run_questions.specs.Seen.{query};
@@ -42,7 +42,7 @@ fn ends_at_text(alloc: Global, texts: &Texts, over: &Over, text: &[u8]) -> Resul
 
 // Whether the run comes to its end, and an object of a call at the place is lost.
 fn leaks(alloc: Global, over: &Over, pos: Pos) -> Result<bool, OutOfMemory>
-    requires { length over.here.now.places.now.locations.items < 2 ^ 32 }
+    requires { seen.HasFew over.now }
     ensures { IfOk result (λ b. b ≡ seen.leaks (seen.over over.now) pos) }
 {
     if !exits(over) {
