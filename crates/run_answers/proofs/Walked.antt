@@ -1,27 +1,16 @@
 -- Walks, one step after another.
 use Rattle.std.proofs.Common.{◌≡◌, ℕ, zero, suc, ◌+◌, ◌-◌, ◌<◌, ◌≤◌, Bool, List, ap, sym, refl, ◌∙◌, arith, length, take, get_or}
 use Rattle.std.proofs.lemmas.List.{take_more_same, take_all}
-use Rattle.std.specs.Prelude.{not, ◌&&◌}
-use Rattle.std.specs.List.{list_any}
 use Rattle.core.specs.List.{filter}
-use Rattle.run_store.specs.declared.Flag.TheVariants as flag
-use Rattle.sc_world.specs.Shows.{Over, has}
+use Rattle.sc_world.specs.Shows.{Over}
 use Rattle.run_answers.specs.Rest.{rest}
-use Rattle.run_answers.specs.Seen.{leads, leads_at, comes_next, further, walked, reached}
-use Rattle.run_answers.proofs.Rests.{any_all, any_first, any_none, filter_all, filter_in, filter_out, filter_none}
-
--- whether an object leads to another one, location after location
-pub leads_is : (o : Over) (from to : ℕ)
-    → leads o from to ≡ (not (has o flag.Freed from) && list_any (leads_at o from to) (rest 0 (length o.layout.locations)))
-unfolding leads leads_at
-leads_is o from to = ap (λ b. not (has o flag.Freed from) && b) (any_all (leads_at o from to) (length o.layout.locations))
-
-pub ruleset lead_steps = (leads_is, any_first, any_none)
+use Rattle.run_answers.specs.Seen.{some_leads, comes_next, further, walked, reached}
+use Rattle.run_answers.proofs.Rests.{filter_all, filter_in, filter_out, filter_none}
 
 -- the objects that come next, from the first number on
 pub further_is : (o : Over) (ns : List ℕ)
     → further o ns ≡ filter (comes_next o ns) (rest 0 (length o.layout.locations))
-unfolding further comes_next leads
+unfolding further comes_next some_leads
 further_is o ns = filter_all (comes_next o ns) (length o.layout.locations)
 
 pub ruleset next_steps = (further_is, filter_in, filter_out, filter_none)

@@ -4,6 +4,7 @@ use Rattle.std.specs.Prelude.{ℕ, ◌+◌, ◌-◌, ◌^◌, ◌<◌, nat_eq, B
 use Rattle.std.specs.List.{list_any, list_all}
 use Rattle.sc_base.specs.declared.pos.Pos.{Pos}
 use Rattle.run_store.specs.Concrete.{Cell}
+use Rattle.run_store.specs.declared.Flag.TheVariants as flag
 use Rattle.sum_rows.specs.declared.row.Row.{Row}
 use Rattle.sum_rows.specs.declared.row.State.{State}
 use Rattle.sum_rows.specs.declared.row.State.TheVariants as state
@@ -12,6 +13,7 @@ use Rattle.sc_world.specs.declared.run.Origin.{Origin}
 use Rattle.sc_world.specs.declared.run.Origin.TheVariants as origin
 use Rattle.sc_world.specs.Tree.{Ty, is_integer, is_pointer}
 use Rattle.sc_world.specs.Layout.{location}
+use Rattle.sc_world.specs.Layout as layouts
 use Rattle.sc_world.specs.Known as known
 use Rattle.sc_world.specs.Paths as paths
 use Rattle.sc_world.specs.World as worlds
@@ -109,14 +111,19 @@ held o first b = shows.with_object first (shows.objects_held o (counts o b) (sho
 
 -- Walks.
 
-unfoldable pub leads_at : shows.Over → (from to at : ℕ) → Bool
-leads_at o from to at = shows.cell_leads o from to at
+-- whether one of some objects, which is not freed, leads to another one by the pointer cell at a location
+unfoldable pub leads_at : shows.Over → List ℕ → (to at : ℕ) → Bool
+leads_at o ns to at =
+    layouts.is_pointer_cell (location o.layout at)
+    && (shows.is_it to (shows.object_of o (shows.cell_now o at))
+    && (not (shows.has o flag.Freed (shows.root_at o at)) && shows.is_among ns (shows.root_at o at)))
 
-unfoldable pub leads : shows.Over → (from to : ℕ) → Bool
-leads o from to = shows.leads o from to
+-- whether one of some objects leads to another one
+unfoldable pub some_leads : shows.Over → List ℕ → (to : ℕ) → Bool
+some_leads o ns to = list_any (λ m. shows.leads o m to) ns
 
 unfoldable pub comes_next : shows.Over → List ℕ → ℕ → Bool
-comes_next o ns n = shows.is_among ns n || list_any (λ m. leads o m n) ns
+comes_next o ns n = shows.is_among ns n || some_leads o ns n
 
 unfoldable pub further : shows.Over → List ℕ → List ℕ
 further o ns = shows.one_further o ns

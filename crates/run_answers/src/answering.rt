@@ -2,7 +2,7 @@
 
 ghost use Rattle.std.specs.Prelude.{◌≡◌, IfOk};
 ghost use Rattle.sc_world.specs.Shows as spec;
-ghost use Rattle.location_texts.specs.Seen as texts;
+ghost use Rattle.location_texts.specs.Seen as spelled;
 ghost use Rattle.run_questions.specs.Seen.{query};
 ghost use Rattle.run_answers.specs.Seen as seen;
 
@@ -29,7 +29,7 @@ fn ends_at(over: &Over, at: u32) -> bool
 
 // Whether it ends in such an error at a location of that text.
 fn ends_at_text(alloc: Global, texts: &Texts, over: &Over, text: &[u8]) -> Result<bool, OutOfMemory>
-    ensures { IfOk result (λ b. b ≡ spec.text_is (texts.texts texts.now) text.now (spec.ends_inner (seen.over over.now).ended)) }
+    ensures { IfOk result (λ b. b ≡ spec.text_is (spelled.texts texts.now) text.now (spec.ends_inner (seen.over over.now).ended)) }
 {
     match ends_inner(over) {
         None => Ok(false),
@@ -54,7 +54,7 @@ fn leaks(alloc: Global, over: &Over, pos: Pos) -> Result<bool, OutOfMemory>
 /// Whether a run that is over answers yes. No memory has room for 2^32 locations.
 #[tactic(auto, unfolding(crate::specs::Seen::given, crate::specs::Seen::is_given, crate::specs::Seen::param_object, crate::specs::Seen::state_before, crate::specs::Seen::state_now, crate::specs::Seen::is_met, crate::specs::Seen::result_kind, crate::specs::Seen::fate, crate::specs::Seen::out_fate, crate::specs::Seen::loses))]
 pub fn says(alloc: Global, texts: &Texts, over: &Over, asked: Query) -> Result<bool, OutOfMemory>
-    ensures { IfOk result (λ b. b ≡ spec.says (texts.texts texts.now) (seen.over over.now) (query asked.entry)) }
+    ensures { IfOk result (λ b. b ≡ spec.says (spelled.texts texts.now) (seen.over over.now) (query asked.entry)) }
 {
     if over.here.places.locations.len() > u32::MAX as usize {
         return Err(OutOfMemory);

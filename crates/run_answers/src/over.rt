@@ -74,11 +74,11 @@ pub fn value_now(over: &Over, at: u32) -> Value
 }
 
 /// The number of the state of a location; 15 stands for any.
-#[tactic(auto, unfolding(crate::specs::Seen::over, crate::specs::Seen::state_now, run_world::specs::Seen::env))]
+#[tactic(auto, unfolding(crate::specs::Seen::over, crate::specs::Seen::state_now, run_world::specs::Seen::env, layout_base::specs::Seen::layout_of))]
 pub fn state_now(over: &Over, at: u32) -> u64
     ensures { result ≡ seen.state_now (seen.over over.now) at }
 {
-    let state = over.world.load(over.here.places.count() + at as usize);
+    let state = over.world.load(over.here.places.locations.len() + at as usize);
     state.number()
 }
 

@@ -1,7 +1,7 @@
 // Walks over pointer cells from object to object; from one that is freed a walk goes nowhere.
 
-ghost use Rattle.std.specs.Prelude.{◌≡◌, true, IfOk};
-ghost use Rattle.std.specs.List.{list_any};
+ghost use Rattle.std.specs.Prelude.{◌≡◌, ◌&&◌, not, true, IfOk};
+ghost use Rattle.run_store.specs.declared.Flag.TheVariants as flags;
 ghost use Rattle.sc_world.specs.Shows as spec;
 ghost use Rattle.run_answers.specs.Seen as seen;
 
@@ -27,39 +27,31 @@ fn is_it(n: u32, object: Option<u32>) -> bool
     }
 }
 
-// Whether the location is a pointer cell of an object, and leads to another one.
-#[tactic(auto, unfolding(crate::specs::Seen::leads_at))]
-fn cell_leads(over: &Over, from: u32, to: u32, at: u32) -> bool
-    ensures { result ≡ seen.leads_at (seen.over over.now) from to at }
+// Whether an object is among these, and not freed.
+fn may_lead(over: &Over, objects: &[u32], object: u32) -> bool
+    ensures { result ≡ (not (spec.has (seen.over over.now) flags.Freed object) && spec.is_among objects.now object) }
 {
-    is_pointer_cell(over, at)
-        && (root_at(over, at) == from && is_it(to, object_of(over, value_now(over, at))))
+    !has(over, Flag::Freed, object) && is_among(objects, object)
 }
 
-// Whether an object leads to another one.
-#[tactic(auto, using(crate::proofs::Walked::lead_steps))]
-fn leads(over: &Over, from: u32, to: u32) -> bool
-    requires { seen.HasFew over.now }
-    ensures { result ≡ seen.leads (seen.over over.now) from to }
+// Whether one of these objects leads to that one by the pointer cell at a location.
+#[tactic(auto, unfolding(crate::specs::Seen::leads_at))]
+fn leads_at(over: &Over, objects: &[u32], to: u32, at: u32) -> bool
+    ensures { result ≡ seen.leads_at (seen.over over.now) objects.now to at }
 {
-    if has(over, Flag::Freed, from) {
-        return false;
-    }
-    for k in 0..count(over) {
-        if cell_leads(over, from, to, k as u32) {
-            return true;
-        }
-    }
-    false
+    is_pointer_cell(over, at)
+        && (is_it(to, object_of(over, value_now(over, at)))
+            && may_lead(over, objects, root_at(over, at)))
 }
 
 // Whether one of these objects leads to that one.
+#[tactic(auto, using(crate::proofs::Leading::lead_steps))]
 fn some_leads(over: &Over, objects: &[u32], to: u32) -> bool
     requires { seen.HasFew over.now }
-    ensures { result ≡ list_any (λ m. seen.leads (seen.over over.now) m to) objects.now }
+    ensures { result ≡ seen.some_leads (seen.over over.now) objects.now to }
 {
-    for from in objects {
-        if leads(over, *from, to) {
+    for k in 0..count(over) {
+        if leads_at(over, objects, to, k as u32) {
             return true;
         }
     }
@@ -111,7 +103,7 @@ fn is_same(a: &[u32], b: &[u32]) -> bool
 #[tactic(auto, using(crate::proofs::Walked::walk_steps))]
 pub fn reached(alloc: Global, over: &Over, from: Vec<u32>) -> Result<Vec<u32>, OutOfMemory>
     requires { seen.HasFew over.now }
-    ensures { IfOk result (λ v. v.items ≡ seen.reached (seen.over over.now) from.entry.items) }
+    ensures { IfOk result (λ v. v.items ≡ seen.reached (seen.over over.now) from.items) }
 {
     let mut objects = from;
     for _ in 0..count(over) {

@@ -128,7 +128,7 @@ impl<'p, 'm, 'f> Machine<'p, 'm, 'f> {
         given: Ground<'p, 'm, 'f>,
         places: &'f Places<'p>,
     ) -> Result<Machine<'p, 'm, 'f>, OutOfMemory>
-        ensures given { IfOk result (λ m. m.given ≡ given) }
+        ensures given { IfOk result (λ m. m.given ≡ given.entry) }
         ensures places { IfOk result (λ m. m.places.now ≡ places.now) }
     {
         if places.locations.len() > u32::MAX as usize {
