@@ -78,7 +78,9 @@ pub fn value_now(over: &Over, at: u32) -> Value
 pub fn state_now(over: &Over, at: u32) -> u64
     ensures { result ≡ seen.state_now (seen.over over.now) at }
 {
-    let state = over.world.load(over.here.places.locations.len() + at as usize);
+    let state = over
+        .world
+        .load(over.here.places.locations.len() + at as usize);
     state.number()
 }
 

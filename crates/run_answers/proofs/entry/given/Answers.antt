@@ -9,7 +9,7 @@ use Rattle.run_answers.proofs.entry.given.Goals as goal
 pub returns : goal.returns
 returns c =
     let none : drop c.loop-param.param-index c.params-params.result.now ≡ [] =
-        drop_all c.loop-param.param-index c.params-params.result.now c.loop-param-test.false in
+    drop_all c.loop-param.param-index c.params-params.result.now c.loop-param-test.false in
     sym (bits_none (over c.args.over.now) c.loop-param.bits.number c.loop-param.bits.left c.loop-param.k)
     ∙ (ap (λ (ps : List Param). bits_from (over c.args.over.now) c.loop-param.bits.number c.loop-param.bits.left
     c.loop-param.k (types_of ps)) (sym none)
