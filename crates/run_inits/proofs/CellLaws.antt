@@ -194,8 +194,6 @@ pub ruleset walk_steps = (cells_all, cells_end, loaded_all, cleared_all)
 
 pub ruleset load_steps = (loaded_in, loaded_out)
 
-pub ruleset clear_steps = (cleared_in, cleared_out)
-
 pub ruleset pair_steps = (paired_in, paired_out, paired_past)
 
 pub ruleset pairs_steps = (paired_all, cells_all, cells_end)

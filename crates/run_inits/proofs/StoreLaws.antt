@@ -1,6 +1,6 @@
 -- The stores of braces make what the initialiser does.
-use Rattle.std.proofs.Common.{◌≡◌, ℕ, List, [], ◌∷◌, ◌++◌, map, refl, sym, ap, ◌∙◌, append_assoc, Option, Bool, true}
-use Rattle.std.proofs.Common.{false}
+use Rattle.std.proofs.Common.{◌≡◌, ℕ, zero, suc, ◌+◌, ◌<◌, List, [], ◌∷◌, ◌++◌, map, refl, sym, ap, ◌∙◌, append_assoc}
+use Rattle.std.proofs.Common.{Option, Bool, true, false, length, drop, slice_index_or, add-one, arith}
 use Rattle.std.proofs.lemmas.List.{append-nil}
 use Rattle.std.specs.Prelude.{Ok, Err, Result, Some, None}
 use Rattle.run_store.specs.Concrete.{Cell}
@@ -27,7 +27,7 @@ abbrev goes : {A : Type 0} → Result A Ended × World → Bool
 goes (Ok a, w) = true
 goes (Err e, w) = false
 
-pub joined_next : {A : Type 0} (front new : List A) (after : World) (r : Result (List A) Ended × World)
+joined_next : {A : Type 0} (front new : List A) (after : World) (r : Result (List A) Ended × World)
     (f : Run (List A))
     → joined front r ≡ (Ok new, after)
     → joined front (goes_on r (λ p. λ w. goes_on (f w) (λ ps. done (p ++ ps)))) ≡ joined new (f after)
@@ -37,7 +37,7 @@ joined_next front new after (Ok p, w) f h =
     then_more front p (f w) ∙ (ap (λ xs. joined xs (f w)) is ∙ ap (λ u. joined new (f u)) at)
 joined_next front new after (Err e, w) f h = let no : false ≡ true = ap goes h in absurd (cc)
 
-pub joined_ends : {A : Type 0} (front : List A) (e : Ended) (after : World) (r : Result (List A) Ended × World)
+joined_ends : {A : Type 0} (front : List A) (e : Ended) (after : World) (r : Result (List A) Ended × World)
     (f : Run (List A))
     → joined front r ≡ (Err e, after)
     → joined front (goes_on r (λ p. λ w. goes_on (f w) (λ ps. done (p ++ ps)))) ≡ (Err e, after)
@@ -50,6 +50,36 @@ joined_none (Err e, w) = refl
 
 pub joined_end : {A : Type 0} (front : List A) (w : World) → joined front (Ok [], w) ≡ (Ok front, w)
 joined_end front w = ap (λ xs. (Ok xs, w)) (append-nil front)
+
+-- what a list is seen as from one on: that one, and the others
+mapped_from : {A B : Type 0} (f : A → B) (xs : List A) (i : ℕ) (x : A) → i < length xs → x ≡ slice_index_or xs i x
+    → map f (drop i xs) ≡ f x ∷ map f (drop (suc i) xs)
+mapped_from f [] i x low is = absurd (omega arith)
+mapped_from f (a ∷ xs) zero x low is = ap (λ y. f y ∷ map f xs) (sym is)
+mapped_from f (a ∷ xs) (suc i) x low is = let low' : i < length xs = omega arith in mapped_from f xs i x low' is
+
+pub next_mapped : {A B : Type 0} (f : A → B) (xs : List A) (i : ℕ) (x : A) → i < length xs → x ≡ slice_index_or xs i x
+    → map f (drop i xs) ≡ f x ∷ map f (drop (i + 1) xs)
+next_mapped f xs i x low is = mapped_from f xs i x low is ∙ ap (λ n. f x ∷ map f (drop n xs)) (sym (add-one i))
+
+-- the next value is evaluated: what is gathered goes on behind what it sets
+pub gathered_on : (env : Env) (at : ℕ) (x : Given) (all rest : List Given) (front new : List Due) (w after : World)
+    (total : Result (List Due) Ended × World)
+    → all ≡ x ∷ rest → joined front (given_stores env at x w) ≡ (Ok new, after)
+    → joined front (all_stores env at all w) ≡ total → joined new (all_stores env at rest after) ≡ total
+gathered_on env at x all rest front new w after total next one so_far =
+    sym (joined_next front new after (given_stores env at x w) (λ w. all_stores env at rest w) one)
+    ∙ (sym (ap (λ xs. joined front (all_stores env at xs w)) next) ∙ so_far)
+
+-- the next value ends the run, and so do all of them
+pub gathered_ends : (env : Env) (at : ℕ) (x : Given) (all rest : List Given) (front : List Due) (e : Ended)
+    (w after : World) (total : Result (List Due) Ended × World)
+    → all ≡ x ∷ rest → joined front (given_stores env at x w) ≡ (Err e, after)
+    → joined front (all_stores env at all w) ≡ total → total ≡ (Err e, after)
+gathered_ends env at x all rest front e w after total next one so_far =
+    sym so_far
+    ∙ (ap (λ xs. joined front (all_stores env at xs w)) next
+    ∙ joined_ends front e after (given_stores env at x w) (λ w. all_stores env at rest w) one)
 
 -- one value: what it sets stands behind what was gathered before
 pub given_done : (env : Env) (at : ℕ) (x : Given) (front new : List Due) (c : List Cell) (w after : World)
@@ -160,6 +190,4 @@ braces_done env at xs ds w gathered cleared after all clears stored =
 
 pub ruleset given_steps = (given_done, given_ends)
 
-pub ruleset gather_steps = (joined_next, joined_ends, joined_none, joined_end)
-
-pub ruleset braces_steps = (braces_end, braces_done)
+pub ruleset gather_steps = (joined_none, joined_end)

@@ -88,7 +88,6 @@ fn gather_all<C: Calls>(
 }
 
 /// Sets an object to values in braces.
-#[tactic(auto, using(crate::proofs::StoreLaws::braces_steps))]
 pub fn braces<C: Calls>(
     here: &Here,
     world: &mut World,

@@ -139,7 +139,7 @@ fn blank_at(here: &Here, k: usize) -> Value
 }
 
 // Location k is passed: where it is a cell of the object, it is set to 0 or null.
-#[tactic(auto, using(crate::proofs::CellLaws::clear_steps), unfolding(run_world::specs::Seen::env))]
+#[tactic(auto, unfolding(run_world::specs::Seen::env))]
 fn clear_cell(here: &Here, world: &mut World, at: u32, k: usize)
     requires low { k < length (seen.env here.now).layout.locations }
     ensures cleared { exec.clear (seen.env here.now) (cells_from (seen.env here.now).layout at (k + 1))
