@@ -1,22 +1,17 @@
 -- The room of a run, what its calls read, and how it ends.
 use Rattle.std.proofs.Common.{◌≡◌, ℕ, ◌+◌, ◌*◌, ◌<◌, ◌≤◌, length, refl, ap, ◌∙◌, subst, arith}
 use Rattle.std.specs.Prelude.{Result, Ok, Err, List, Bool}
-use denote.Ref.{Bor}
 use Rattle.run_store.specs.Concrete.{Cell}
 use Rattle.sc_world.specs.Source.{Source}
 use Rattle.sc_world.specs.Layout.{Layout}
 use Rattle.sc_world.specs.World as spec
 use Rattle.sc_world.specs.World.{Env, goes_on, entry_world}
 use Rattle.sc_world.specs.Exec.{exec, finished, env_of, run}
-use Rattle.layout_base.specs.declared.ground.Ground.{Ground}
-use Rattle.layout_base.specs.declared.layout.Places.{Places}
-use Rattle.layout_base.specs.Seen.{ground_of}
 use Rattle.run_world.specs.declared.pointers.Here.{Here}
 use Rattle.run_world.specs.declared.value.Value.{Value}
 use Rattle.run_world.specs.declared.world.Ended.{Ended}
 use Rattle.run_world.specs.declared.world.World.{World}
 use Rattle.run_world.specs.Seen.{Does, cell, env, world}
-use Rattle.run_acts.specs.Reads.{reads_of}
 use Rattle.run_paths.specs.Seen.{FitsAll}
 use Rattle.run_stmts.specs.Room.{Fits}
 use Rattle.sc_interp.specs.Seen.{gone}
@@ -46,12 +41,9 @@ run_from h w zero e =
 
 pub ruleset run_steps = (fits_first, entered_empty, run_from)
 
--- calls that read the same have the same summaries
-pub fits_still : (g h : Ground) (p q : Bor Places) (c d : List Bool) (most : ℕ)
-    → (λ (t : ℕ). reads_of g p c t) ≡ (λ (t : ℕ). reads_of h q d t)
-    → FitsAll (ground_of g).source most → FitsAll (ground_of h).source most
-fits_still g h p q c d most e fits =
-    subst (λ (s : Source). FitsAll s most) (ap (λ (r : ℕ → Env). (r 0).source) e) fits
+-- calls that read the same have room for the same summaries
+pub fits_still : (r s : ℕ → Env) (most : ℕ) → r ≡ s → FitsAll (r 0).source most → FitsAll (s 0).source most
+fits_still r s most e fits = subst (λ (x : ℕ → Env). FitsAll (x 0).source most) e fits
 
 -- how a run ends, as an outcome
 pub run_gone : (due : Result Cell spec.Ended × spec.World) (r : Result Value Ended) (w : spec.World)
