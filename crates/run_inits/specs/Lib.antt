@@ -1,0 +1,4 @@
+pub mod Reads
+pub mod Room
+pub mod Seen
+pub mod Stores
