@@ -84,7 +84,7 @@ pub fn skipped(program: &Program) -> usize {
     let mut count = 0;
     for f in program.functions.as_slice() {
         if let TBody::Skipped(_) = &f.body {
-            count += 1;
+            count = count.wrapping_add(1);
         }
     }
     count
