@@ -82,7 +82,7 @@ fn program_with(
         files,
         widths,
         machine,
-        structs,
+        structs: structs.into_list(),
         globals,
         functions,
         notes,

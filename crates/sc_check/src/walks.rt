@@ -17,10 +17,11 @@ use sc_program::Bodied;
 use sc_rules::{Builtin, Walk};
 use sc_tree::ctype::Widths;
 use sc_tree::unit::Unit;
-use sc_typed::{Function, StructDef};
+use sc_typed::Function;
 use sc_typing::Tables;
 use scopes::Scopes;
 use std::alloc::Global;
+use struct_table::Structs;
 
 /// The tables of a file of which nothing is known of other files.
 #[tactic(auto, unfolding(sc_typing::specs::Tables::here_of))]
@@ -59,7 +60,7 @@ fn linked_tables<'a>(
 }
 
 // A walk at its beginning, with these structs.
-fn new_walk(alloc: Global, structs: List<StructDef>) -> Walk
+fn new_walk(alloc: Global, structs: Structs) -> Walk
     ensures { result ≡ record spec.no_walk { structs = structs } }
 {
     Walk {
@@ -86,7 +87,7 @@ pub fn first_walk(
     ensures { IfOk result (λ walk. walk
         ≡ (spec.walk_files (alone_here w builtins.now) spec.nothing_made units.now spec.no_walk).1) }
 {
-    let mut walk = new_walk(alloc, List::new(alloc));
+    let mut walk = new_walk(alloc, Structs::new(alloc));
     let mut numbers = GlobalNumbers::new(alloc);
     let mut functions = List::new(alloc);
     let mut notes = List::new(alloc);
@@ -144,7 +145,7 @@ fn linked_walk(
     w: Widths,
     builtins: &[Option<Builtin>],
     linked: FileTables,
-    structs: List<StructDef>,
+    structs: Structs,
     units: &[Unit],
 ) -> Result<(List<Function>, (List<Skip>, Walk)), OutOfMemory>
     requires { AreTables linked }

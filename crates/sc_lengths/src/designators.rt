@@ -17,8 +17,9 @@ use sc_tree::expr::Expr;
 use sc_typed::{FieldDef, StructDef, TExpr};
 use sc_types::{constant_bits, copy_type, number};
 use sc_typing::{Tables, valued_expression};
-use sc_unary::{fields_of, is_called};
+use sc_unary::fields_of;
 use std::alloc::Global;
+use struct_table::is_called;
 
 // The number of the member of that name, among those that take values. One of 2^32 - 1 is refused as too much for
 // memory.

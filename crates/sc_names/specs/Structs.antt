@@ -1,6 +1,6 @@
 -- Structs and unions (C11 6.7.2.1). A struct is met where its tag is new or where it has none. It is complete
 -- behind its body, if nothing in the body is refused. And which types an object has (C11 6.7, 7).
-use Rattle.std.specs.Prelude.{ℕ, ◌+◌, nat_lt, Bool, not, ◌&&◌, ◌||◌, Option, Some, None, is_some, List, [], ◌∷◌, ◌++◌, length, slice_set, if◌then◌else◌}
+use Rattle.std.specs.Prelude.{ℕ, ◌+◌, Bool, not, ◌&&◌, ◌||◌, Option, Some, None, is_some, List, [], ◌∷◌, ◌++◌}
 use Rattle.sc_base.specs.declared.pos.Pos.{Pos}
 use Rattle.sc_base.specs.declared.skip.IllTyped.TheVariants as i
 use Rattle.sc_tree.specs.declared.ctype.CType.{CType}
@@ -9,16 +9,9 @@ use Rattle.sc_typed.specs.declared.program.FieldDef.{FieldDef}
 use Rattle.sc_typed.specs.declared.program.StructDef.{StructDef}
 use Rattle.sc_typed.specs.Types.{is_function, is_void}
 use Rattle.sc_typed.specs.Extents.{size, struct_extent, struct_at, no_struct}
+use Rattle.struct_table.specs.Structs.{put_at, replaced}
 use Rattle.sc_rules.specs.Faults.{ill_typed_at}
 use Rattle.sc_rules.specs.Walks.{Check, ◌>>=◌, done, holds_or}
-
--- the table with another struct in place of the one with that number, if there is one
-abbrev pub replaced : List StructDef → ℕ → StructDef → List StructDef
-replaced structs n s = if nat_lt n (length structs) then slice_set structs n s else structs
-
--- the table with a struct at that number, or behind the last
-abbrev pub put_at : List StructDef → ℕ → StructDef → List StructDef
-put_at structs n s = if nat_lt n (length structs) then slice_set structs n s else structs ++ s ∷ []
 
 abbrev pub new_struct : (union : Bool) → Check ℕ
 new_struct union w =

@@ -6,42 +6,13 @@ ghost use Rattle.sc_typed.specs.Extents.{struct_at};
 ghost use Rattle.sc_rules.specs.Gives.{Gives};
 ghost use Rattle.sc_names.specs.Structs as spec;
 
-use sc_base::{IllTyped, List, OutOfMemory, Pos};
+use sc_base::{IllTyped, OutOfMemory, Pos};
 use sc_rules::{Walk, holds_or, ill_typed_at};
 use sc_tree::ctype::{CType, Widths};
-use sc_typed::{FieldDef, StructDef};
+use sc_typed::StructDef;
 use sc_types::{extent, is_function, is_void, struct_extent};
 use std::alloc::Global;
-use std::mem;
-
-// Puts another struct in place of the one with that number, if there is one.
-fn replace(alloc: Global, structs: &mut List<StructDef>, number: usize, definition: StructDef)
-    ensures { structs.new ≡ spec.replaced structs.old number definition }
-{
-    let mut all = mem::replace(structs, List::new(alloc)).into_vec();
-    if number < all.len() {
-        all[number] = definition;
-    }
-    *structs = List::from_vec(all);
-}
-
-// Puts a struct at that number, or behind the last.
-fn put_at(
-    alloc: Global,
-    structs: &mut List<StructDef>,
-    number: usize,
-    definition: StructDef,
-) -> Result<(), OutOfMemory>
-    ensures ok { OnOk result (structs.new ≡ spec.put_at structs.old number definition) }
-    ensures err { OnErr result (structs.new ≡ structs.old) }
-{
-    if number < structs.len() {
-        replace(alloc, structs, number, definition);
-        Ok(())
-    } else {
-        structs.push(definition)
-    }
-}
+use struct_table::Members;
 
 /// Meets a struct or union, which is incomplete so far, and gives its number. Where memory is refused nothing
 /// changes; the number 2^32 - 1 is refused in the same way.
@@ -53,12 +24,7 @@ pub fn new_struct(alloc: Global, walk: &mut Walk, union: bool) -> Result<u32, Ou
     if number == u32::MAX {
         return Err(OutOfMemory);
     }
-    let definition = StructDef {
-        union,
-        fields: None,
-        extent: None,
-    };
-    put_at(alloc, &mut walk.structs, number as usize, definition)?;
+    walk.structs.put(alloc, number as usize, union)?;
     walk.met = number + 1;
     Ok(number)
 }
@@ -73,55 +39,32 @@ fn union_at(structs: &[StructDef], number: u32) -> bool
     }
 }
 
-// A struct with these members.
-fn completed_struct(
-    w: Widths,
-    structs: &[StructDef],
-    union: bool,
-    fields: List<FieldDef>,
-) -> StructDef
-    ensures { result ≡ spec.completed_struct w structs.now union fields }
-{
-    let extent = struct_extent(w, structs, union, fields.as_slice());
-    StructDef {
-        union,
-        fields: Some(fields),
-        extent,
-    }
-}
-
 /// Completes a struct or union with its members. Where memory is refused nothing changes.
-pub fn complete(
-    alloc: Global,
-    walk: &mut Walk,
-    w: Widths,
-    number: u32,
-    fields: List<FieldDef>,
-) -> Result<(), OutOfMemory>
+pub fn complete(walk: &mut Walk, w: Widths, number: u32, fields: Members) -> Result<(), OutOfMemory>
     ensures ok { Gives (spec.complete w number fields walk.old) result walk.new }
     ensures err { OnErr result (walk.new ≡ walk.old) }
 {
     let union = union_at(walk.structs.as_slice(), number);
-    let definition = completed_struct(w, walk.structs.as_slice(), union, fields);
+    let extent = struct_extent(w, walk.structs.as_slice(), union, fields.as_slice());
     walk.completed.push(number)?;
-    replace(alloc, &mut walk.structs, number as usize, definition);
+    walk.structs
+        .complete(number as usize, union, fields, extent);
     Ok(())
 }
 
 /// Completes a struct or union, if nothing in its body is refused. Where memory is refused nothing changes.
 pub fn complete_if(
-    alloc: Global,
     walk: &mut Walk,
     w: Widths,
     number: u32,
-    fields: Option<List<FieldDef>>,
+    fields: Option<Members>,
 ) -> Result<(), OutOfMemory>
     ensures ok { Gives (spec.complete_if w number fields walk.old) result walk.new }
     ensures err { OnErr result (walk.new ≡ walk.old) }
 {
     match fields {
         None => Ok(()),
-        Some(fields) => complete(alloc, walk, w, number, fields),
+        Some(fields) => complete(walk, w, number, fields),
     }
 }
 

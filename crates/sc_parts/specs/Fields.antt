@@ -1,6 +1,5 @@
 -- Members and enumerators (C11 6.7.2.1, 6.7.2.2).
 use Rattle.std.specs.Prelude.{ℕ, ◌+◌, ◌%◌, ◌^◌, Bool, true, false, not, Option, Some, None, List, [], ◌∷◌, ◌++◌, ℤ}
-use Rattle.std.specs.List.{list_any}
 use Rattle.sc_base.specs.declared.pos.Pos.{Pos}
 use Rattle.sc_base.specs.declared.pos.NameId.{NameId}
 use Rattle.sc_base.specs.declared.skip.IllTyped.TheVariants as i
@@ -18,7 +17,7 @@ use Rattle.sc_rules.specs.Faults.{ill_typed_at}
 use Rattle.sc_rules.specs.Walks.{Check, ◌>>=◌, done, ill_typed, holds_or}
 use Rattle.sc_rules.specs.Conversions.{type_of, place_of}
 use Rattle.sc_operators.specs.Binary.{int}
-use Rattle.sc_unary.specs.Members.{is_called}
+use Rattle.struct_table.specs.Members.{is_among}
 use Rattle.sc_names.specs.Names.{new_here, declare_if}
 use Rattle.sc_names.specs.Structs.{object_at}
 use Rattle.sc_parts.specs.Declarators.{in_range, ranged}
@@ -34,9 +33,6 @@ width_of w e = width_number (constant w e) e
 abbrev pub with_field : Option NameId → Option CType → Option (Option ℕ) → Option (List FieldDef) → Option (List FieldDef)
 with_field name (Some t) (Some bits) (Some fs) = Some (fs ++ record { name = name; ctype = t; bits = bits } ∷ [])
 with_field name _ _ _ = None
-
-abbrev pub is_among : NameId → List FieldDef → Bool
-is_among name fs = list_any (λ f. is_called name f.name) fs
 
 abbrev pub names_field : NameId → Option (List FieldDef) → Bool
 names_field name None = false

@@ -7,13 +7,13 @@ ghost use Rattle.sc_rules.specs.Walks.{given};
 ghost use Rattle.sc_parts.specs.Fields as spec;
 
 use crate::declarators::{constant_of, ranged};
-use sc_base::{IllTyped, List, NameId, OutOfMemory, Pos};
+use sc_base::{IllTyped, NameId, OutOfMemory, Pos};
 use sc_names::{declare_if, new_here, object_at};
 use sc_rules::{Entity, TagKind, Walk, holds_or, ill_typed, ill_typed_at};
 use sc_tree::ctype::{CType, IntKind, Widths};
 use sc_typed::{FieldDef, TExpr};
 use sc_types::{constant_bits, converted};
-use sc_unary::is_called;
+use struct_table::Members;
 
 // The width of a bit field, by the value that is written.
 fn width_of(walk: &mut Walk, w: Widths, e: &TExpr) -> Option<Option<u32>>
@@ -40,8 +40,8 @@ pub fn with_field(
     name: Option<NameId>,
     t: Option<CType>,
     bits: Option<Option<u32>>,
-    fields: Option<List<FieldDef>>,
-) -> Result<Option<List<FieldDef>>, OutOfMemory>
+    fields: Option<Members>,
+) -> Result<Option<Members>, OutOfMemory>
     ensures { IfOk result (λ x. x ≡ spec.with_field name t bits fields) }
 {
     let Some(ctype) = t else {
@@ -50,37 +50,24 @@ pub fn with_field(
     let Some(bits) = bits else {
         return Ok(None);
     };
-    let Some(mut fields) = fields else {
+    let Some(fields) = fields else {
         return Ok(None);
     };
-    fields.push(FieldDef { name, ctype, bits })?;
-    Ok(Some(fields))
-}
-
-// Whether one of these members has a name.
-fn is_among(name: NameId, fields: &[FieldDef]) -> bool
-    ensures { result ≡ spec.is_among name fields.now }
-{
-    for f in fields {
-        if is_called(name, f.name) {
-            return true;
-        }
-    }
-    false
+    Ok(Some(fields.with(FieldDef { name, ctype, bits })?))
 }
 
 // Whether one of the members so far has a name.
-fn names_field(name: NameId, fields: &Option<List<FieldDef>>) -> bool
+fn names_field(name: NameId, fields: &Option<Members>) -> bool
     ensures { result ≡ spec.names_field name fields.now }
 {
     match fields {
         None => false,
-        Some(fields) => is_among(name, fields.as_slice()),
+        Some(fields) => fields.names(name),
     }
 }
 
 /// Whether no member has a name yet. Else there is a fault at that place.
-pub fn new_member(walk: &mut Walk, name: NameId, at: Pos, fields: &Option<List<FieldDef>>) -> bool
+pub fn new_member(walk: &mut Walk, name: NameId, at: Pos, fields: &Option<Members>) -> bool
     ensures { spec.new_member name at fields.now walk.old ≡ (result, walk.new) }
 {
     let new = !names_field(name, fields);

@@ -3,8 +3,9 @@
 
 use sc_base::{List, NameId, Pos, Skip};
 use sc_tree::ctype::CType;
-use sc_typed::{Global, Param, StructDef};
+use sc_typed::{Global, Param};
 use scopes::Scopes;
+use struct_table::Structs;
 
 /// What an ordinary name means (C11 6.2.3).
 #[derive(Drop)]
@@ -96,7 +97,7 @@ pub struct Walk {
     pub names: Scopes<Entity>,
     pub tags: Scopes<Tag>,
     /// Structs and unions, in the order of their first mention.
-    pub structs: List<StructDef>,
+    pub structs: Structs,
     /// How many of them were met so far. Those behind are as an earlier walk over all files left them.
     pub met: u32,
     /// Those that the declaration at hand has completed.

@@ -345,18 +345,20 @@ module _ (here : Here) where
   abbrev pub member_step : Member-F Naming Declaring Typing Naming Naming Counting Heading Adding AddingOne Naming → Adding
   member_step m = member_of m.specs m.parts
 
-  abbrev pub body_of : Option NameId → Tag → Option (List Adding) → Check (Unit {0})
-  body_of name t None = done tt
+  -- whether nothing in the body is refused
+  abbrev pub body_of : Option NameId → Tag → Option (List Adding) → Check Bool
+  body_of name t None = done true
   body_of name t (Some ms) = do
     _ ← begin_body name t
     fs ← members ms (Some [])
-    complete_if here.widths t.number fs
+    _ ← complete_if here.widths t.number fs
+    done (is_there fs)
 
   abbrev pub aggregate_of : Pos → (union : Bool) → Option NameId → Option (List Adding) → Naming
   aggregate_of at union name body alone = do
     t ← tag_of at name (aggregate_kind union) (is_there body) alone
-    _ ← body_of name t body
-    done (Some (aggregate_type union t.number))
+    whole ← body_of name t body
+    done (only_if whole (Some (aggregate_type union t.number)))
 
   abbrev pub aggregate_step : Aggregate-F Naming Declaring Typing Naming Naming Counting Heading Adding AddingOne Naming → Naming
   aggregate_step a = aggregate_of a.pos a.union a.tag a.body

@@ -10,9 +10,9 @@ use sc_names::{Scope, close_scope, open_scope};
 use sc_parts::{function_with, types_of, with_field};
 use sc_rules::Walk;
 use sc_tree::ctype::CType;
-use sc_typed::FieldDef;
 use sc_types::copy_type;
 use std::alloc::Global;
+use struct_table::Members;
 
 /// The parameters of the function that a declarator declares: those that stand directly round its name.
 #[derive(Drop)]
@@ -89,8 +89,8 @@ pub fn owned(bare: bool, own: Own, shape: Shape) -> Shape
 pub fn with_member(
     member: NewMember,
     bits: Option<Option<u32>>,
-    fields: Option<List<FieldDef>>,
-) -> Result<Option<List<FieldDef>>, OutOfMemory>
+    fields: Option<Members>,
+) -> Result<Option<Members>, OutOfMemory>
     ensures { IfOk result (λ x. x ≡ spec.with_member member bits fields) }
 {
     let NewMember { name, ctype, new } = member;

@@ -29,10 +29,11 @@ use sc_tree::expr::{
     Aggregate, Base, Declarator, EnumSpec, Enumerator, Expr, Head, Member, Part, Place, Specs,
 };
 use sc_tree::op::{AssignOp, BinaryOp, Step, UnaryOp};
-use sc_typed::{FieldDef, TExpr};
+use sc_typed::TExpr;
 use sc_types::copy_type;
 use sc_unary::int_constant;
 use std::alloc::Global;
+use struct_table::Members;
 
 /// Types an expression, as it stands; `None` where there is a fault in it, which the walk notes.
 #[cycle(typing)]
@@ -641,13 +642,16 @@ fn aggregate(
         }
         Some(body) => {
             let tag = tag_of(alloc, walk, a.pos, a.tag, kind, true, alone)?;
-            aggregate_body(alloc, walk, here, a.tag, tag, body)?;
-            Ok(Some(aggregate_type(a.union, tag.number)))
+            if aggregate_body(alloc, walk, here, a.tag, tag, body)? {
+                Ok(Some(aggregate_type(a.union, tag.number)))
+            } else {
+                Ok(None)
+            }
         }
     }
 }
 
-// The body of a struct or union.
+// The body of a struct or union: whether nothing in it is refused.
 #[cycle(typing)]
 fn aggregate_body(
     alloc: Global,
@@ -656,13 +660,15 @@ fn aggregate_body(
     name: Option<NameId>,
     tag: Tag,
     body: &List<Member>,
-) -> Result<(), OutOfMemory>
+) -> Result<bool, OutOfMemory>
     ensures { Gives (spec.body_of (tables.here_of here.now) name tag (Some
         (map (spec.adding (tables.here_of here.now)) body.now)) walk.old) result walk.new }
 {
     begin_body(walk, name, tag)?;
     let fields = members(alloc, walk, here, body)?;
-    complete_if(alloc, walk, here.widths(), tag.number, fields)
+    let whole = fields.is_some();
+    complete_if(walk, here.widths(), tag.number, fields)?;
+    Ok(whole)
 }
 
 // Members, one line after the other.
@@ -672,11 +678,11 @@ fn members(
     walk: &mut Walk,
     here: &Tables,
     body: &List<Member>,
-) -> Result<Option<List<FieldDef>>, OutOfMemory>
+) -> Result<Option<Members>, OutOfMemory>
     ensures { Gives (spec.members
         (map (spec.adding (tables.here_of here.now)) body.now) (Some []) walk.old) result walk.new }
 {
-    let mut fields = Some(List::new(alloc));
+    let mut fields = Some(Members::new(alloc));
     for m in body.as_slice() {
         fields = member(alloc, walk, here, m, fields)?;
     }
@@ -690,8 +696,8 @@ fn member(
     walk: &mut Walk,
     here: &Tables,
     m: &Member,
-    fields: Option<List<FieldDef>>,
-) -> Result<Option<List<FieldDef>>, OutOfMemory>
+    fields: Option<Members>,
+) -> Result<Option<Members>, OutOfMemory>
     ensures { Gives (spec.adding (tables.here_of here.now) m.now fields walk.old) result walk.new }
 {
     let t = specifiers(alloc, walk, here, &m.specs, false)?;
@@ -709,8 +715,8 @@ fn parts(
     here: &Tables,
     line: &List<Part>,
     t: Option<CType>,
-    before: Option<List<FieldDef>>,
-) -> Result<Option<List<FieldDef>>, OutOfMemory>
+    before: Option<Members>,
+) -> Result<Option<Members>, OutOfMemory>
     ensures { Gives (spec.parts
         (map (spec.adding_one (tables.here_of here.now)) line.now) t before walk.old) result walk.new }
 {
@@ -730,8 +736,8 @@ fn part(
     here: &Tables,
     p: &Part,
     t: Option<CType>,
-    fields: Option<List<FieldDef>>,
-) -> Result<Option<List<FieldDef>>, OutOfMemory>
+    fields: Option<Members>,
+) -> Result<Option<Members>, OutOfMemory>
     ensures { Gives (spec.adding_one (tables.here_of here.now) p.now t fields walk.old) result walk.new }
 {
     match &p.declarator {
@@ -768,7 +774,7 @@ fn new_member_of(
     at: Pos,
     d: &Declarator,
     t: Option<CType>,
-    fields: &Option<List<FieldDef>>,
+    fields: &Option<Members>,
 ) -> Result<NewMember, OutOfMemory>
     ensures { Gives (spec.member_named (tables.here_of here.now) name at
         (spec.declaring (tables.here_of here.now) d.now) t fields.now walk.old) result walk.new }

@@ -1,5 +1,5 @@
 -- Members of structs and unions (C11 6.5.2.3, 6.7.2.1).
-use Rattle.std.specs.Prelude.{slice_index_or, ℕ, zero, suc, ◌+◌, nat_eq, Bool, true, false, not, ◌||◌, Option, Some, None, List, [], ◌∷◌, if◌then◌else◌}
+use Rattle.std.specs.Prelude.{slice_index_or, ℕ, zero, suc, ◌+◌, Bool, true, false, Option, Some, None, List, [], ◌∷◌, if◌then◌else◌}
 use Rattle.sc_base.specs.declared.pos.NameId.{NameId}
 use Rattle.sc_base.specs.declared.skip.Unsupported.TheVariants as u
 use Rattle.sc_base.specs.declared.skip.IllTyped.TheVariants as i
@@ -13,18 +13,12 @@ use Rattle.sc_typed.specs.declared.expr.TExpr.{TExpr}
 use Rattle.sc_typed.specs.declared.expr.What.TheVariants as what
 use Rattle.sc_typed.specs.Extents.{struct_at}
 use Rattle.sc_typed.specs.Types.{target, is_aggregate}
+pub use Rattle.struct_table.specs.Members.{is_there, is_called, is_unnamed}
+use Rattle.struct_table.specs.Structs.{members_of}
 use Rattle.sc_unary.specs.declared.members.Meant.{Meant}
 use Rattle.sc_unary.specs.declared.members.Meant.TheVariants as means
 use Rattle.sc_rules.specs.Walks.{Check, ◌>>=◌, done, unsupported, ill_typed}
 use Rattle.sc_rules.specs.Conversions.{node, type_of}
-
-abbrev pub is_there : {A : Type 0} → Option A → Bool
-is_there None = false
-is_there (Some a) = true
-
-abbrev pub is_called : NameId → Option NameId → Bool
-is_called name None = false
-is_called name (Some m) = nat_eq name.at m.at
 
 abbrev pub meant_by : (union : Bool) → ℕ → FieldDef → Meant
 meant_by true k f = means.OfUnion
@@ -47,10 +41,6 @@ abbrev pub or_next : Meant → Meant → Meant
 or_next means.Missing m = m
 or_next m _ = m
 
--- an unnamed member is a struct or union without a name that is no bit field
-abbrev pub is_unnamed : FieldDef → Bool
-is_unnamed f = not (is_there f.name || is_there f.bits)
-
 -- the members of a struct or union type, and whether it is a union
 pub record Body : Type 0 where
   pub union : Bool
@@ -59,12 +49,8 @@ pub record Body : Type 0 where
 abbrev pub no_body : Body
 no_body = record { union = false; fields = [] }
 
-abbrev pub fields_of : Option (List FieldDef) → List FieldDef
-fields_of None = []
-fields_of (Some fs) = fs
-
 abbrev pub body_at : List StructDef → ℕ → Body
-body_at structs n = record { union = (struct_at structs n).union; fields = fields_of (struct_at structs n).fields }
+body_at structs n = record { union = (struct_at structs n).union; fields = members_of (struct_at structs n) }
 
 abbrev pub body_layer : List StructDef → CType-F CType Signature → Body
 body_layer structs (CType-F.Struct n) = body_at structs n

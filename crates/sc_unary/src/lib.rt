@@ -8,7 +8,7 @@
 mod members;
 mod operators;
 
-pub use members::{Meant, field, fields_of, find_member, is_called};
+pub use members::{Meant, field, fields_of, find_member};
 pub use operators::{
     cast, index, int_constant, size_of_expression, size_of_type, size_type, unary,
 };

@@ -1,6 +1,6 @@
 // Members of structs and unions (C11 6.5.2.3, 6.7.2.1).
 
-ghost use Rattle.std.specs.Prelude.{◌≡◌, IfOk};
+ghost use Rattle.std.specs.Prelude.{◌≡◌, ◌-◌, ◌<◌, slice_index_or, IfOk};
 ghost use Rattle.sc_rules.specs.Gives.{Gives};
 ghost use Rattle.sc_unary.specs.Members as spec;
 
@@ -11,6 +11,7 @@ use sc_tree::expr::Place;
 use sc_typed::{FieldDef, StructDef, TExpr, What};
 use sc_types::{copy_type, is_aggregate, target};
 use std::alloc::Global;
+use struct_table::Structs;
 
 /// What a member's name means in a struct or union.
 #[derive(Clone, Copy)]
@@ -26,16 +27,6 @@ pub enum Meant {
     Unnamed,
 }
 
-/// Whether a member has a name, and that one.
-pub fn is_called(name: NameId, member: Option<NameId>) -> bool
-    ensures { result ≡ spec.is_called name member }
-{
-    match member {
-        None => false,
-        Some(other) => name.at == other.at,
-    }
-}
-
 // What the name of the member with that number means.
 fn meant_by(union: bool, number: usize, field: &FieldDef) -> Meant
     ensures { result ≡ spec.meant_by union number field.now }
@@ -47,18 +38,6 @@ fn meant_by(union: bool, number: usize, field: &FieldDef) -> Meant
     } else {
         Meant::Plain(number)
     }
-}
-
-// What a name means among the members themselves.
-fn among(union: bool, name: NameId, fields: &[FieldDef]) -> Meant
-    ensures { result ≡ spec.among union name 0 fields.now }
-{
-    for (k, field) in fields.iter().enumerate() {
-        if is_called(name, field.name) {
-            return meant_by(union, k, field);
-        }
-    }
-    Meant::Missing
 }
 
 // What a name means in an unnamed member, read from outside.
@@ -77,13 +56,6 @@ fn through_unnamed(union: bool, inner: Meant) -> Meant
             }
         }
     }
-}
-
-// Whether a member is an unnamed struct or union.
-fn is_unnamed(field: &FieldDef) -> bool
-    ensures { result ≡ spec.is_unnamed field.now }
-{
-    !(field.name.is_some() || field.bits.is_some())
 }
 
 // The members that the table has for a struct or union; none while it is incomplete.
@@ -119,59 +91,77 @@ pub fn fields_of<'a>(structs: &'a [StructDef], t: &CType) -> &'a [FieldDef]
     }
 }
 
-// Whether a type is a union.
-fn is_union(structs: &[StructDef], t: &CType) -> bool
-    ensures { result ≡ (spec.body_of structs.now t.now).union }
+// What a name means among the members themselves of the struct or union with that number.
+#[tactic(auto, using(crate::proofs::Numbers::among_none, crate::proofs::Numbers::among_some))]
+fn among(structs: &Structs, name: NameId, number: u32) -> Meant
+    ensures { result ≡ spec.among (spec.body_at structs.now number).union name 0 (spec.body_at structs.now number).fields }
 {
-    match t {
-        CType::Struct(number) | CType::Union(number) => union_at(structs, *number),
-        _ => false,
+    let Some(k) = structs.find(number, name) else {
+        return Meant::Missing;
+    };
+    match fields_at(structs.as_slice(), number).get(k) {
+        None => Meant::Missing,
+        Some(field) => meant_by(union_at(structs.as_slice(), number), k, field),
     }
 }
 
-// What a name means among the unnamed members, in which bodies stand no deeper than that.
+// What a name means among the unnamed members of the struct or union with that number, in which bodies stand no deeper
+// than that.
 #[cycle(member)]
-fn among_unnamed(
-    deep: u32,
-    structs: &[StructDef],
-    name: NameId,
-    union: bool,
-    fields: &[FieldDef],
-) -> Meant
-    ensures { result ≡ spec.among_unnamed (spec.member deep structs.now name) union fields.now }
+fn among_unnamed(deep: u32, structs: &Structs, name: NameId, number: u32) -> Meant
+    ensures { result ≡ spec.among_unnamed (spec.member deep structs.now name) (spec.body_at structs.now number).union
+        (spec.body_at structs.now number).fields }
 {
-    for field in fields {
-        if is_unnamed(field) {
-            let inner = through_unnamed(union, member(deep, structs, name, &field.ctype));
-            match inner {
-                Meant::Missing => {}
-                Meant::Plain(_) | Meant::OfUnion | Meant::Bits | Meant::Unnamed => return inner,
-            }
+    let union = union_at(structs.as_slice(), number);
+    let fields = fields_at(structs.as_slice(), number);
+    for k in structs.unnamed(number) {
+        let inner = match fields.get(*k) {
+            None => member(deep, structs, name, &CType::Void),
+            Some(field) => member(deep, structs, name, &field.ctype),
+        };
+        let inner = through_unnamed(union, inner);
+        match inner {
+            Meant::Missing => {}
+            Meant::Plain(_) | Meant::OfUnion | Meant::Bits | Meant::Unnamed => return inner,
         }
     }
     Meant::Missing
 }
 
+// What a name means in the struct or union with that number, in which bodies stand no deeper than that.
+#[cycle(member)]
+fn member_at(deep: u32, structs: &Structs, name: NameId, number: u32) -> Meant
+    requires { 0 < deep }
+    ensures { result ≡ spec.or_next
+        (spec.among (spec.body_at structs.now number).union name 0 (spec.body_at structs.now number).fields)
+        (spec.among_unnamed (spec.member (deep - 1) structs.now name) (spec.body_at structs.now number).union
+        (spec.body_at structs.now number).fields) }
+{
+    let found = among(structs, name, number);
+    match found {
+        Meant::Missing => among_unnamed(deep - 1, structs, name, number),
+        Meant::Plain(_) | Meant::OfUnion | Meant::Bits | Meant::Unnamed => found,
+    }
+}
+
 // What a name means in a type, in which bodies stand no deeper than that.
 #[cycle(member)]
 #[tactic(auto, using(crate::proofs::Deeper::member_deeper), unfolding(crate::specs::Members::member))]
-fn member(deep: u32, structs: &[StructDef], name: NameId, t: &CType) -> Meant
+fn member(deep: u32, structs: &Structs, name: NameId, t: &CType) -> Meant
     ensures { result ≡ spec.member deep structs.now name t.now }
 {
     if deep == 0 {
         return Meant::Missing;
     }
-    let union = is_union(structs, t);
-    let fields = fields_of(structs, t);
-    let found = among(union, name, fields);
-    match found {
-        Meant::Missing => among_unnamed(deep - 1, structs, name, union, fields),
-        Meant::Plain(_) | Meant::OfUnion | Meant::Bits | Meant::Unnamed => found,
+    match t {
+        CType::Struct(number) | CType::Union(number) => member_at(deep, structs, name, *number),
+        _ => Meant::Missing,
     }
 }
 
-/// What the name of a member means in a struct or union type; `Missing` in any other.
-pub fn find_member(structs: &[StructDef], name: NameId, t: &CType) -> Meant
+/// What the name of a member means in a struct or union type; `Missing` in any other. Members are found by their names
+/// through an index; where none of its own has the name, the unnamed members are looked through in their order.
+pub fn find_member(structs: &Structs, name: NameId, t: &CType) -> Meant
     ensures { result ≡ spec.find_member structs.now name t.now }
 {
     member(128, structs, name, t)
@@ -260,7 +250,7 @@ fn field_in(
     ensures { Gives (spec.field_in name arrow t.now p e walk.old) result walk.new }
 {
     if is_aggregate(t) {
-        let found = find_member(walk.structs.as_slice(), name, t);
+        let found = find_member(&walk.structs, name, t);
         access(alloc, walk, found, arrow, t, p, e)
     } else {
         Ok(ill_typed(walk, IllTyped::Operand, p.token))

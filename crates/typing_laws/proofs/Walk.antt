@@ -17,7 +17,7 @@ use Rattle.sc_rules.specs.Walks.{Check, ◌>>=◌, done, no_scope, open_scope, c
 use Rattle.sc_operators.specs.Binary.{int}
 use Rattle.sc_unary.specs.Members.{is_there}
 use Rattle.sc_parts.specs.Declarators.{array_of, adjusted}
-use Rattle.sc_parts.specs.Fields.{aggregate_kind, aggregate_type, with_field}
+use Rattle.sc_parts.specs.Fields.{aggregate_kind, aggregate_type, only_if, with_field}
 use Rattle.sc_parts.specs.Operands.{comma_of}
 use Rattle.sc_declare.specs.declared.functions.Parameter.{Parameter}
 use Rattle.sc_rules.specs.declared.walk.TagKind.TheVariants as tag
@@ -238,10 +238,10 @@ module _ (here : Here) where
 
   body_kept : (name : Option NameId) (t : Tag) (ms : Option (List Adding)) → IfThere (Each OfAdding) ms → KeepsGlobals (spec.body_of here name t ms)
   body_kept name t None ks = keeps (λ w. refl)
-  body_kept name t (Some ms) ks = by_then _ _ (begin_kept name t) (λ u. by_then _ _ (members_kept ms ks (Some [])) (λ fs. complete_kept here.widths t.number fs))
+  body_kept name t (Some ms) ks = by_then _ _ (begin_kept name t) (λ u. by_then _ _ (members_kept ms ks (Some [])) (λ fs. by_done _ (λ u. is_there fs) (complete_kept here.widths t.number fs)))
 
   pub aggregate_kept : (at : Pos) (union : Bool) (name : Option NameId) (ms : Option (List Adding)) → IfThere (Each OfAdding) ms → (alone : Bool) → KeepsGlobals (spec.aggregate_of here at union name ms alone)
-  aggregate_kept at union name ms ks alone = by_then _ _ (tag_kept at name (aggregate_kind union) (is_there ms) alone) (λ t. by_done _ (λ u. Some (aggregate_type union t.number)) (body_kept name t ms ks))
+  aggregate_kept at union name ms ks alone = by_then _ _ (tag_kept at name (aggregate_kind union) (is_there ms) alone) (λ t. by_done _ (λ b. only_if b (Some (aggregate_type union t.number))) (body_kept name t ms ks))
 
   number_kept : (next : ℕ) (at : Pos) (e : Option Typing) → IfThere OfTyping e → KeepsGlobals (spec.enumerator_number here next at e)
   number_kept next at None k = keeps (λ w. refl)
