@@ -1,6 +1,6 @@
 -- Operators between two operands (C11 6.5.5 to 6.5.14), by the manner in which they treat them: what each makes
 -- of operands that have their types, or which fault it finds.
-use Rattle.std.specs.Prelude.{Bool, true, false, not, ◌&&◌, ◌||◌, Option, Some, None, if◌then◌else◌}
+use Rattle.std.specs.Prelude.{Bool, not, ◌&&◌, ◌||◌, Option, Some, None, if◌then◌else◌}
 use Rattle.sc_base.specs.declared.skip.Unsupported.TheVariants as u
 use Rattle.sc_base.specs.declared.skip.IllTyped.TheVariants as i
 use Rattle.sc_tree.specs.declared.op.BinaryOp.{BinaryOp}
