@@ -1,10 +1,9 @@
 -- Operators between two operands (C11 6.5.5 to 6.5.14), by the manner in which they treat them: what each makes
 -- of operands that have their types, or which fault it finds.
-use Rattle.std.specs.Prelude.{Bool, true, false, not, ◌&&◌, ◌||◌, Option, Some, None, if◌then◌else◌}
+use Rattle.std.specs.Prelude.{Bool, not, ◌&&◌, ◌||◌, Option, Some, None, if◌then◌else◌}
 use Rattle.sc_base.specs.declared.skip.Unsupported.TheVariants as u
 use Rattle.sc_base.specs.declared.skip.IllTyped.TheVariants as i
 use Rattle.sc_tree.specs.declared.op.BinaryOp.{BinaryOp}
-use Rattle.sc_tree.specs.declared.op.BinaryOp.TheVariants as op
 use Rattle.sc_tree.specs.declared.ctype.CType.{CType}
 use Rattle.sc_tree.specs.declared.ctype.CType.TheVariants as ty
 use Rattle.sc_tree.specs.declared.ctype.IntKind.TheVariants as kind
@@ -13,10 +12,11 @@ use Rattle.sc_tree.specs.declared.expr.Place.{Place}
 use Rattle.sc_typed.specs.declared.expr.TExpr.{TExpr}
 use Rattle.sc_typed.specs.declared.expr.What.{What}
 use Rattle.sc_typed.specs.declared.expr.What.TheVariants as what
-use Rattle.sc_typed.specs.Types.{is_integer, is_pointer, is_scalar, promoted_kind}
+use Rattle.sc_typed.specs.Types.{is_pointer, is_scalar, promoted_kind}
 use Rattle.sc_typed.specs.Constants.{is_null_constant}
-use Rattle.sc_operators.specs.declared.binary.Manner.{Manner}
-use Rattle.sc_operators.specs.declared.binary.Manner.TheVariants as by
+use Rattle.sc_manners.specs.declared.manners.Manner.{Manner}
+use Rattle.sc_manners.specs.declared.manners.Manner.TheVariants as by
+use Rattle.sc_manners.specs.Manners.{manner_of, both_integers, some_pointer}
 use Rattle.sc_rules.specs.Walks.{Check, done, unsupported, ill_typed}
 use Rattle.sc_rules.specs.Conversions.{node, type_of, to, promote, common_of}
 
@@ -25,28 +25,6 @@ int = ty.Int kind.Int
 
 abbrev pub made : What → CType → Place → Check (Option TExpr)
 made w t p = done (Some (node w t p))
-
--- the manner in which an operator treats its operands
-abbrev pub manner_of : BinaryOp → Manner
-manner_of op.And = by.Logical
-manner_of op.Or = by.Logical
-manner_of op.Equal = by.Equality
-manner_of op.NotEqual = by.Equality
-manner_of op.Less = by.Ordering
-manner_of op.Greater = by.Ordering
-manner_of op.LessEqual = by.Ordering
-manner_of op.GreaterEqual = by.Ordering
-manner_of op.ShiftLeft = by.Shifting
-manner_of op.ShiftRight = by.Shifting
-manner_of op.Add = by.Additive
-manner_of op.Sub = by.Additive
-manner_of _ = by.Arithmetic
-
-abbrev pub both_integers : TExpr → TExpr → Bool
-both_integers a b = is_integer (type_of a) && is_integer (type_of b)
-
-abbrev pub some_pointer : TExpr → TExpr → Bool
-some_pointer a b = is_pointer (type_of a) || is_pointer (type_of b)
 
 -- both operands in their common kind
 abbrev pub in_common : Widths → BinaryOp → TExpr → TExpr → What

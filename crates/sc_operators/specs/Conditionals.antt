@@ -13,7 +13,7 @@ use Rattle.sc_typed.specs.Types.{is_pointer, is_scalar, is_aggregate, is_void, i
 use Rattle.sc_typed.specs.Constants.{is_null_constant}
 use Rattle.sc_rules.specs.Walks.{Check, ◌>>=◌, done, unsupported, ill_typed}
 use Rattle.sc_rules.specs.Conversions.{node, type_of, place_of, to, common_of}
-use Rattle.sc_operators.specs.Binary.{both_integers, some_pointer}
+use Rattle.sc_manners.specs.Manners.{both_integers, some_pointer}
 
 -- `? :` (C11 6.5.15)
 

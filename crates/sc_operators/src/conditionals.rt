@@ -5,8 +5,8 @@ ghost use Rattle.sc_rules.specs.Gives.{Gives};
 ghost use Rattle.sc_rules.specs.Conversions.{to as in_type};
 ghost use Rattle.sc_operators.specs.Conditionals as spec;
 
-use crate::binary::{both_integers, some_pointer};
 use sc_base::{Boxed, IllTyped, OutOfMemory, Unsupported};
+use sc_manners::{both_integers, some_pointer};
 use sc_rules::{Walk, common_of, ill_typed, node, to, unsupported};
 use sc_tree::ctype::{CType, Widths};
 use sc_tree::expr::Place;

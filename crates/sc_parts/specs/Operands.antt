@@ -8,7 +8,7 @@ use Rattle.sc_typed.specs.declared.expr.TExpr.{TExpr}
 use Rattle.sc_typed.specs.Types.{is_aggregate, is_array}
 use Rattle.sc_rules.specs.Walks.{Check, ◌>>=◌, done}
 use Rattle.sc_rules.specs.Conversions.{type_of, value}
-use Rattle.sc_operators.specs.Assignments.{assignment}
+use Rattle.sc_assignments.specs.Assignments.{assignment}
 use Rattle.sc_operators.specs.Conditionals.{comma}
 use Rattle.sc_unary.specs.Operators.{size_of_expression, size_of_type}
 use Rattle.sc_names.specs.Structs.{size_now}

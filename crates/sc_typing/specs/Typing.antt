@@ -30,7 +30,7 @@ use Rattle.sc_rules.specs.declared.walk.Builtin.{Builtin}
 use Rattle.sc_rules.specs.Walks.{Check, ◌>>=◌, done, given, both, unsupported, name_means, Scope, no_scope, open_scope, close_scope}
 use Rattle.sc_rules.specs.Conversions.{value}
 use Rattle.sc_operators.specs.Binary.{int, binary}
-use Rattle.sc_operators.specs.Assignments.{pre_increment, post_increment}
+use Rattle.sc_assignments.specs.Assignments.{pre_increment, post_increment}
 use Rattle.sc_operators.specs.Conditionals.{conditional}
 use Rattle.sc_unary.specs.Operators.{int_constant, unary, cast, index}
 use Rattle.sc_unary.specs.Members.{field, is_there}

@@ -24,11 +24,11 @@ use Rattle.sc_rules.specs.declared.walk.Fault.{Fault}
 use Rattle.sc_rules.specs.Faults.{ill_typed_at, unsupported_at}
 use Rattle.sc_rules.specs.Walks.{Check, ◌>>=◌, done, holds_or}
 use Rattle.sc_rules.specs.Conversions.{node, type_of, to, promote, common_of, opaque_kind, opaque_fault, decayed_type, convert_if, decayed, converted}
-use Rattle.sc_operators.specs.declared.binary.Manner.{Manner}
-use Rattle.sc_operators.specs.declared.binary.Manner.TheVariants as by
-use Rattle.sc_operators.specs.declared.assignments.Working.{Working}
-use Rattle.sc_operators.specs.Binary.{manner_of, both_integers, some_pointer}
-use Rattle.sc_operators.specs.Assignments.{stepped, may_step, steps_unless, operand_if, step_operand, incremented, pre_increment, post_increment, assigned_operator, working_in, working_by, is_additive, compound, working_if, working_for, assigned, assign_value, assignment_of, opaque_assigned, assignment_unless, assignment}
+use Rattle.sc_manners.specs.declared.manners.Manner.{Manner}
+use Rattle.sc_manners.specs.declared.manners.Manner.TheVariants as by
+use Rattle.sc_assignments.specs.declared.assignments.Working.{Working}
+use Rattle.sc_manners.specs.Manners.{manner_of, both_integers, some_pointer}
+use Rattle.sc_assignments.specs.Assignments.{stepped, may_step, steps_unless, operand_if, step_operand, incremented, pre_increment, post_increment, assigned_operator, working_in, working_by, is_additive, compound, working_if, working_for, assigned, assign_value, assignment_of, opaque_assigned, assignment_unless, assignment}
 use Rattle.sc_world.specs.Tree as tree
 use Rattle.sc_world.specs.Tree.{Ty, Int, Exp, Assign, PreInc, PostInc}
 use Rattle.sc_world.specs.Source.{Source}

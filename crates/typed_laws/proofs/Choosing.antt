@@ -16,7 +16,7 @@ use Rattle.sc_typed.specs.Constants.{is_lvalue, is_null_constant}
 use Rattle.sc_rules.specs.Faults.{ill_typed_at, unsupported_at}
 use Rattle.sc_rules.specs.Walks.{Check, ◌>>=◌, done}
 use Rattle.sc_rules.specs.Conversions.{node, type_of, place_of, to, common_of}
-use Rattle.sc_operators.specs.Binary.{both_integers, some_pointer}
+use Rattle.sc_manners.specs.Manners.{both_integers, some_pointer}
 use Rattle.sc_operators.specs.Conditionals.{pointer_arms, follows_pointer, mixed_arms, arms_type, chosen, conditional_to, no_aggregate, conditional_of, conditional, comma}
 use Rattle.sc_world.specs.Tree as tree
 use Rattle.sc_world.specs.Tree.{Ty, Int, Exp, Cond, Comma}

@@ -20,7 +20,8 @@ use Rattle.sc_typed.specs.Constants.{is_null_constant}
 use Rattle.sc_rules.specs.Faults.{ill_typed_at, unsupported_at}
 use Rattle.sc_rules.specs.Walks.{Check, done}
 use Rattle.sc_rules.specs.Conversions.{node, type_of, to, promote, common_of}
-use Rattle.sc_operators.specs.Binary.{int, both_integers, some_pointer, in_common, on_common, compared, additive, ordering, is_comparable, left_follows, pointers_compared, pointer_equality, equality, shifting, logical, binary}
+use Rattle.sc_manners.specs.Manners.{both_integers, some_pointer}
+use Rattle.sc_operators.specs.Binary.{int, in_common, on_common, compared, additive, ordering, is_comparable, left_follows, pointers_compared, pointer_equality, equality, shifting, logical, binary}
 use Rattle.sc_world.specs.Tree as tree
 use Rattle.sc_world.specs.Tree.{Ty, Int, Ptr, Exp, Binary}
 use Rattle.sc_world.specs.Source.{Source}

@@ -19,7 +19,7 @@ use Rattle.sc_rules.specs.Walks.{Check, ◌>>=◌, done, given, both, name_means
 use Rattle.sc_rules.specs.Conversions.{type_of, place_of, value, value_unless, decayed, decayed_type, convert_if, opaque_kind}
 use Rattle.sc_tree.specs.declared.ctype.OpaqueKind.{OpaqueKind}
 use Rattle.sc_operators.specs.Binary.{int, binary}
-use Rattle.sc_operators.specs.Assignments.{pre_increment, post_increment, assignment}
+use Rattle.sc_assignments.specs.Assignments.{pre_increment, post_increment, assignment}
 use Rattle.sc_operators.specs.Conditionals.{comma, conditional}
 use Rattle.sc_unary.specs.Operators.{unary, cast, index}
 use Rattle.sc_unary.specs.Members.{field, is_there}

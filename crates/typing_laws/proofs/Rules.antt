@@ -24,10 +24,11 @@ use Rattle.sc_rules.specs.Faults.{ill_typed_at}
 use Rattle.sc_rules.specs.declared.walk.Walk.{Walk}
 use Rattle.sc_rules.specs.Walks.{holds_or, unsupported}
 use Rattle.sc_rules.specs.Conversions.{type_of, decayed, opaque_kind, opaque_fault, value_unless, value, converts, converted_or, converted_unless, converted}
-use Rattle.sc_operators.specs.declared.binary.Manner.{Manner}
-use Rattle.sc_operators.specs.declared.binary.Manner.TheVariants as by
-use Rattle.sc_operators.specs.Binary.{manner_of, both_integers, some_pointer, is_comparable, on_common, compared, pointer_equality, binary_by, binary}
-use Rattle.sc_operators.specs.Assignments.{working_if, stepped, is_additive, may_step, steps_unless, operand_if, step_operand, incremented, pre_increment, post_increment, assigned_operator, compound, working_for, assigned, assign_value, assignment_of, opaque_assigned, assignment_unless, assignment}
+use Rattle.sc_manners.specs.declared.manners.Manner.{Manner}
+use Rattle.sc_manners.specs.declared.manners.Manner.TheVariants as by
+use Rattle.sc_manners.specs.Manners.{manner_of, both_integers, some_pointer}
+use Rattle.sc_operators.specs.Binary.{is_comparable, on_common, compared, pointer_equality, binary_by, binary}
+use Rattle.sc_assignments.specs.Assignments.{working_if, stepped, is_additive, may_step, steps_unless, operand_if, step_operand, incremented, pre_increment, post_increment, assigned_operator, compound, working_for, assigned, assign_value, assignment_of, opaque_assigned, assignment_unless, assignment}
 use Rattle.sc_operators.specs.Conditionals.{arms_type, conditional_to, no_aggregate, conditional_of, conditional}
 use Rattle.sc_unary.specs.declared.members.Meant.{Meant}
 use Rattle.sc_unary.specs.declared.members.Meant.TheVariants as means

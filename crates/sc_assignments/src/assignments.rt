@@ -2,10 +2,10 @@
 
 ghost use Rattle.std.specs.Prelude.{◌≡◌, IfOk};
 ghost use Rattle.sc_rules.specs.Gives.{Gives};
-ghost use Rattle.sc_operators.specs.Assignments as spec;
+ghost use Rattle.sc_assignments.specs.Assignments as spec;
 
-use crate::binary::{Manner, both_integers, manner_of, some_pointer};
 use sc_base::{Boxed, IllTyped, OutOfMemory, Unsupported};
+use sc_manners::{Manner, both_integers, manner_of, some_pointer};
 use sc_rules::{
     Walk, common_of, converted, decayed, holds_or, ill_typed, ill_typed_at, node, opaque_fault,
     opaque_kind, promote, to_kind, unsupported, unsupported_at,

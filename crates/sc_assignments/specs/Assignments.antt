@@ -18,13 +18,13 @@ use Rattle.sc_typed.specs.declared.expr.What.{What}
 use Rattle.sc_typed.specs.declared.expr.What.TheVariants as what
 use Rattle.sc_typed.specs.Types.{is_integer, is_pointer, promoted_kind}
 use Rattle.sc_typed.specs.Constants.{is_lvalue}
-use Rattle.sc_operators.specs.declared.binary.Manner.{Manner}
-use Rattle.sc_operators.specs.declared.binary.Manner.TheVariants as by
-use Rattle.sc_operators.specs.declared.assignments.Working.{Working}
+use Rattle.sc_manners.specs.declared.manners.Manner.{Manner}
+use Rattle.sc_manners.specs.declared.manners.Manner.TheVariants as by
+use Rattle.sc_manners.specs.Manners.{manner_of, both_integers, some_pointer}
+use Rattle.sc_assignments.specs.declared.assignments.Working.{Working}
 use Rattle.sc_rules.specs.Faults.{ill_typed_at, unsupported_at}
 use Rattle.sc_rules.specs.Walks.{Check, ◌>>=◌, done, unsupported, ill_typed, holds_or}
 use Rattle.sc_rules.specs.Conversions.{node, type_of, to, promote, common_of, opaque_kind, opaque_fault, decayed, converted}
-use Rattle.sc_operators.specs.Binary.{manner_of, both_integers, some_pointer}
 
 -- `++` and `--` (C11 6.5.2.4, 6.5.3.1) of what stands as it is
 
