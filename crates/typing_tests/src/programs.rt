@@ -113,6 +113,32 @@ fn a_global_is_one_over_files(rt: HostRuntime) -> Result<(), Fail> {
 }
 
 #[test]
+fn each_file_has_its_structs(rt: HostRuntime) -> Result<(), Fail> {
+    let found = both(
+        rt.alloc(),
+        "struct s{int a;};int f(struct s*p){return p->a;}",
+        "struct s{int b;};int g(struct s*p){return p->b;}",
+    )??;
+    assert_eq!(rt; found.structs.len(), 2);
+    assert_eq!(rt; skip(&found), None);
+    let found = both(
+        rt.alloc(),
+        "struct s{int a;};int f(struct s*p){return p->a;}",
+        "struct s{int b;};int g(struct s*p){return p->a;}",
+    )??;
+    let (kind, pos) = (
+        IllTyped::Field,
+        Pos {
+            file: 1,
+            line: 1,
+            col: 46,
+        },
+    );
+    assert_eq!(rt; skip(&found), Some(Skip::IllTyped { kind, pos }));
+    Ok(())
+}
+
+#[test]
 fn the_names_of_a_file_end_with_it(rt: HostRuntime) -> Result<(), Fail> {
     let found = both(
         rt.alloc(),

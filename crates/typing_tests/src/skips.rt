@@ -168,7 +168,7 @@ fn what_is_not_taken_is_skipped(rt: HostRuntime) -> Result<(), Fail> {
 }
 
 /// What C does not allow, in the same form.
-const NOT_ALLOWED: [(&str, IllTyped, u32); 71] = [
+const NOT_ALLOWED: [(&str, IllTyped, u32); 73] = [
     ("void f(void){x;}", IllTyped::Name, 14),
     ("void f(void){g();g;}", IllTyped::Name, 18),
     ("void*f(void){return malloc;}", IllTyped::Name, 21),
@@ -315,7 +315,17 @@ const NOT_ALLOWED: [(&str, IllTyped, u32); 71] = [
         IllTyped::Constant,
         29,
     ),
+    (
+        "void f(int x){sizeof(struct{int a:x;});}",
+        IllTyped::Constant,
+        35,
+    ),
     ("void f(int x){sizeof(enum{A=x});}", IllTyped::Constant, 27),
+    (
+        "void f(unsigned x){switch(x){case -1:;case 4294967295:;}}",
+        IllTyped::Constant,
+        39,
+    ),
     (
         "struct s;void f(void){struct s x;}",
         IllTyped::Incomplete,

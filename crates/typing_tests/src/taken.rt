@@ -4,7 +4,7 @@ use crate::found::{checked, note, skipped};
 use sc_tree::ctype::Widths;
 use std::test::*;
 
-const WHOLE: [&str; 28] = [
+const WHOLE: [&str; 29] = [
     "double(*p)(double);typedef double F(float);",
     "extern struct s x;extern void y;",
     "union s{int a;};void f(void){struct s*p;p=0;}",
@@ -32,6 +32,7 @@ const WHOLE: [&str; 28] = [
     "void f(void){for(int i=0;i<3;++i)break;while(1)continue;}",
     "int f(int x){switch(x){case 1:switch(x){case 1:default:;}default:return 0;}}",
     "extern int a[];extern int a[3];int f();int f(int);static int g(void);static int g();",
+    "void f(char c){switch(c){case 1:case 257:;}}",
     "void f(void){extern int x;extern int x;int g(void);int g();}",
 ];
 
