@@ -6,6 +6,7 @@ use sc_rules::{Fault, Walk};
 use sc_tree::stmt::Stmt;
 use scopes::Scopes;
 use std::alloc::Global;
+use struct_table::Structs;
 
 const OUT: NameId = NameId { at: 7 };
 
@@ -34,7 +35,7 @@ fn no_walk(alloc: Global) -> Walk {
     Walk {
         names: Scopes::new(alloc),
         tags: Scopes::new(alloc),
-        structs: List::new(alloc),
+        structs: Structs::new(alloc),
         met: 0,
         completed: List::new(alloc),
         globals: List::new(alloc),

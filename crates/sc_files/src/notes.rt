@@ -9,9 +9,9 @@ use crate::scope::{forget, keep};
 use sc_base::{List, OutOfMemory, Skip};
 use sc_declare::GlobalNumbers;
 use sc_rules::Walk;
-use sc_typed::StructDef;
 use std::alloc::Global;
 use std::mem;
+use struct_table::Structs;
 
 // The first so many items.
 fn truncate<T: Drop>(alloc: Global, items: &mut List<T>, count: usize)
@@ -23,28 +23,24 @@ fn truncate<T: Drop>(alloc: Global, items: &mut List<T>, count: usize)
 }
 
 // Makes the struct with that number incomplete, if there is one.
-fn make_incomplete(structs: &mut Vec<StructDef>, number: usize)
-    ensures { structs.new.items ≡ slice_set structs.old.items number (spec.incomplete (struct_at structs.old.items number)) }
+fn make_incomplete(alloc: Global, structs: &mut Structs, number: usize) -> Result<(), OutOfMemory>
+    ensures { OnOk result (structs.new ≡ slice_set structs.old number (spec.incomplete (struct_at structs.old number))) }
 {
-    if number < structs.len() {
-        let union = structs[number].union;
-        structs[number] = StructDef {
-            union,
-            fields: None,
-            extent: None,
-        };
-    }
+    let union = match structs.as_slice().get(number) {
+        None => return Ok(()),
+        Some(definition) => definition.union,
+    };
+    structs.put(alloc, number, union)
 }
 
 // Makes the structs of those numbers incomplete.
-fn incomplete_at(alloc: Global, structs: &mut List<StructDef>, numbers: &[u32])
-    ensures { structs.new ≡ spec.incomplete_at numbers.now structs.old }
+fn incomplete_at(alloc: Global, structs: &mut Structs, numbers: &[u32]) -> Result<(), OutOfMemory>
+    ensures { OnOk result (structs.new ≡ spec.incomplete_at numbers.now structs.old) }
 {
-    let mut all = mem::replace(structs, List::new(alloc)).into_vec();
     for number in numbers {
-        make_incomplete(&mut all, *number as usize);
+        make_incomplete(alloc, structs, *number as usize)?;
     }
-    *structs = List::from_vec(all);
+    Ok(())
 }
 
 // Takes back what a declaration with a fault declared.
@@ -62,7 +58,7 @@ fn take_back(
     forget(&mut walk.names)?;
     forget(&mut walk.tags)?;
     let completed = mem::replace(&mut walk.completed, List::new(alloc));
-    incomplete_at(alloc, &mut walk.structs, completed.as_slice());
+    incomplete_at(alloc, &mut walk.structs, completed.as_slice())?;
     truncate(alloc, &mut walk.globals, globals);
     truncate(alloc, &mut walk.records, records);
     numbers.truncate(globals);

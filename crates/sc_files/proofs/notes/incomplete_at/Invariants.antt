@@ -4,4 +4,4 @@ use Rattle.sc_files.specs.Notes.{incomplete_at}
 use Rattle.sc_files.proofs.notes.incomplete_at.Given as goal
 
 abbrev pub invariant-loop-number : goal.invariant-loop-number
-invariant-loop-number l = incomplete_at (drop l.number-index l.numbers) l.all.items ≡ incomplete_at l.numbers l.initial.all.items
+invariant-loop-number l = incomplete_at (drop l.number-index l.numbers) l.structs ≡ incomplete_at l.numbers l.initial.structs
