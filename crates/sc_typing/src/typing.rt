@@ -701,9 +701,25 @@ fn member(
     ensures { Gives (spec.adding (tables.here_of here.now) m.now fields walk.old) result walk.new }
 {
     let t = specifiers(alloc, walk, here, &m.specs, false)?;
-    match m.parts.as_slice() {
-        [] => with_field(None, t, Some(None), fields),
-        [_, ..] => parts(alloc, walk, here, &m.parts, t, fields),
+    members_of_line(alloc, walk, here, &m.parts, t, fields)
+}
+
+// The members of a line: an unnamed one where it has no declarators.
+#[cycle(typing)]
+fn members_of_line(
+    alloc: Global,
+    walk: &mut Walk,
+    here: &Tables,
+    line: &List<Part>,
+    t: Option<CType>,
+    before: Option<Members>,
+) -> Result<Option<Members>, OutOfMemory>
+    ensures { Gives (spec.line
+        (map (spec.adding_one (tables.here_of here.now)) line.now) t before walk.old) result walk.new }
+{
+    match line.as_slice() {
+        [] => with_field(None, t, Some(None), before),
+        [_, ..] => parts(alloc, walk, here, line, t, before),
     }
 }
 
