@@ -1,6 +1,6 @@
 // Runs of a function of a small file, and their text.
 
-ghost use Rattle.std.specs.Prelude.{◌≡◌, IfOk};
+ghost use Rattle.std.specs.Prelude.{IfOk};
 ghost use Rattle.fsm_spec.specs.Table.{IsWhole};
 ghost use Rattle.layout_base.specs.Seen as laid;
 ghost use Rattle.run_laws.specs.Proper.{IsClosed};
@@ -74,7 +74,8 @@ pub fn machine(alloc: Global) -> Result<MachineSpec, fsm_spec::OutOfMemory>
 
 /// What is read of the program, with two turns of each loop.
 pub fn context<'p, 'm>(given: Given<'p>, machine: &'m MachineSpec) -> Context<'p, 'm>
-    ensures { result.machine.now ≡ machine.now }
+    requires { IsWhole machine.now }
+    ensures { IsWhole result.machine.now }
 {
     Context {
         program: given.program,
@@ -141,7 +142,7 @@ fn digit(byte: u8) -> u8 {
 }
 
 /// The bits that hexadecimal digits spell, of each digit the high bit first.
-pub fn bits(alloc: Global, spelled: &str) -> Result<Vec<bool>, OutOfMemory> {
+pub fn bits_of(alloc: Global, spelled: &str) -> Result<Vec<bool>, OutOfMemory> {
     let mut bits = Vec::new(alloc);
     for byte in spelled.as_bytes() {
         let number = digit(*byte);
@@ -154,7 +155,7 @@ pub fn bits(alloc: Global, spelled: &str) -> Result<Vec<bool>, OutOfMemory> {
 }
 
 /// So many of the bits.
-pub fn choice(bits: &[bool], length: usize) -> &[bool] {
+pub fn up_to(bits: &[bool], length: usize) -> &[bool] {
     if length <= bits.len() {
         &bits[..length]
     } else {
@@ -212,24 +213,24 @@ fn written(
     trace: &[Event],
     outcome: Outcome,
 ) -> Result<Vec<u8>, OutOfMemory> {
-    let location = location(alloc, texts(given, places), error_at(outcome))?;
+    let text = location(alloc, texts(given, places), error_at(outcome))?;
     replay(
         alloc,
         given.program,
         trace,
         ending(outcome),
-        location.as_slice(),
+        text.as_slice(),
     )
 }
 
 /// The text of the run on the choice that these digits spell.
 pub fn replayed(alloc: Global, given: Given, spelled: &str) -> Result<Vec<u8>, Fail> {
-    let machine = machine(alloc)?;
-    let here = context(given, &machine);
-    let places = laid_out(alloc, given)?;
+    let table = machine(alloc)?;
+    let here = context(given, &table);
+    let laid = laid_out(alloc, given)?;
     let found = nothing(alloc);
-    let mut runs = reserved(alloc, &here, &found, &places)?;
-    let bits = bits(alloc, spelled)?;
-    let outcome = runs.run(choice(bits.as_slice(), places.choice_len()));
-    Ok(written(alloc, given, &places, runs.trace(), outcome)?)
+    let mut runs = reserved(alloc, &here, &found, &laid)?;
+    let bits = bits_of(alloc, spelled)?;
+    let outcome = runs.run(up_to(bits.as_slice(), laid.choice_len()));
+    Ok(written(alloc, given, &laid, runs.trace(), outcome)?)
 }

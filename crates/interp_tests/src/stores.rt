@@ -1,7 +1,7 @@
 //! What is left behind a run, run after run, and questions to a run that is over.
 
 use crate::runs::{
-    bits, checked, choice, context, first, laid_out, machine, nothing, reserved, texts,
+    bits_of, checked, context, first, laid_out, machine, nothing, reserved, texts, up_to,
 };
 use run_answers::says;
 use run_questions::Query;
@@ -21,7 +21,7 @@ const LOCKED: State = State::At(1);
 const TAKER: &str =
     "typedef struct{int v;}spinlock_t;\nvoid f(_Bool c,spinlock_t*l){spin_lock(l);if(c)spin_lock(l);}";
 
-/// A choice, how its run ends, the state of the lock then, whether the lock was touched, and how many events there were.
+/// A choice, how its run ends, the state of the lock then, whether it was touched, and how many events there were.
 const LEFT: [(&str, Outcome, u64, bool, usize); 6] = [
     ("c", Outcome::Error(2), 1, true, 4),
     ("4", Outcome::Exit(Value::Nothing), 1, true, 3),
@@ -38,12 +38,12 @@ fn each_run_begins_anew(rt: HostRuntime) -> Result<(), Fail> {
     let program = checked(alloc, TAKER)?;
     let table = machine(alloc)?;
     let here = context(first(&program), &table);
-    let places = laid_out(alloc, first(&program))?;
+    let laid = laid_out(alloc, first(&program))?;
     let found = nothing(alloc);
-    let mut runs = reserved(alloc, &here, &found, &places)?;
+    let mut runs = reserved(alloc, &here, &found, &laid)?;
     for (spelled, outcome, state, touched, events) in LEFT {
-        let bits = bits(alloc, spelled)?;
-        let ended = runs.run(choice(bits.as_slice(), places.choice_len()));
+        let bits = bits_of(alloc, spelled)?;
+        let ended = runs.run(up_to(bits.as_slice(), laid.choice_len()));
         assert_eq!(rt; ended, outcome, "{spelled}");
         assert_eq!(rt; runs.state(2), state, "{spelled}");
         assert_eq!(rt; runs.has_mark(2, Flag::Touched), touched, "{spelled}");
@@ -128,11 +128,11 @@ fn gives(alloc: Global, text: &str, spelled: &str) -> Result<Outcome, Fail> {
     let program = checked(alloc, text)?;
     let table = machine(alloc)?;
     let here = context(first(&program), &table);
-    let places = laid_out(alloc, first(&program))?;
+    let laid = laid_out(alloc, first(&program))?;
     let found = nothing(alloc);
-    let mut runs = reserved(alloc, &here, &found, &places)?;
-    let bits = bits(alloc, spelled)?;
-    Ok(runs.run(choice(bits.as_slice(), places.choice_len())))
+    let mut runs = reserved(alloc, &here, &found, &laid)?;
+    let bits = bits_of(alloc, spelled)?;
+    Ok(runs.run(up_to(bits.as_slice(), laid.choice_len())))
 }
 
 #[test]
@@ -161,13 +161,13 @@ fn asked(alloc: Global, text: &str, spelled: &str, query: Query) -> Result<bool,
     let given = first(&program);
     let table = machine(alloc)?;
     let here = context(given, &table);
-    let places = laid_out(alloc, given)?;
+    let laid = laid_out(alloc, given)?;
     let found = nothing(alloc);
-    let mut runs = reserved(alloc, &here, &found, &places)?;
-    let bits = bits(alloc, spelled)?;
-    let choice = choice(bits.as_slice(), places.choice_len());
+    let mut runs = reserved(alloc, &here, &found, &laid)?;
+    let bits = bits_of(alloc, spelled)?;
+    let choice = up_to(bits.as_slice(), laid.choice_len());
     let outcome = runs.run(choice);
-    match texts(given, &places) {
+    match texts(given, &laid) {
         None => Ok(false),
         Some(texts) => Ok(says(alloc, &texts, &runs.over(choice, outcome), query)?),
     }

@@ -63,7 +63,7 @@ pub struct Machine<'p, 'm, 'f> {
     buffer: Buffer<'p>,
     alloc: Global,
     ghost few: { length places.now.locations.items < 2 ^ 32 },
-    ghost long: { KeepsCells (laid.ground_of given).source (laid.layout_of places.now) } by { keeps_cells_prop (laid.ground_of given).source (laid.layout_of places.now) },
+    ghost long: { KeepsCells (laid.ground_of given).source (laid.layout_of places.now) } by { keeps_cells_prop _ _ },
     ghost slots: { 2 * length (laid.layout_of places.now).locations ≤ vec_capacity world.slots },
     ghost trace: { run_room (laid.ground_of given).source (laid.layout_of places.now) ≤ vec_capacity world.trace },
     ghost arguments: { run_room (laid.ground_of given).source (laid.layout_of places.now)
