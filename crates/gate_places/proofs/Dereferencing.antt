@@ -1,5 +1,5 @@
 -- A pointer is followed: its checks, one after the other, are what a run does.
-use Rattle.std.proofs.Common.{◌≡◌, ℕ, zero, suc, Bool, true, false, not, List, Result, Ok, Err, if◌then◌else◌, refl, sym, ap, subst}
+use Rattle.std.proofs.Common.{◌≡◌, ℕ, zero, suc, Bool, true, false, not, List, Result, Ok, Err, refl, sym, ap, subst}
 use Rattle.bit_net.specs.declared.nodes.Node.{Node}
 use Rattle.bit_net.specs.Runs.{Runs, Grown}
 use Rattle.gl_sets.specs.declared.pairs.Pair.{Pair}
@@ -11,7 +11,7 @@ use Rattle.sc_world.specs.declared.run.Reason.TheVariants as reason
 use Rattle.sc_world.specs.Tree.{Ty}
 use Rattle.sc_world.specs.Source.{Source}
 use Rattle.sc_world.specs.Layout.{Layout, location, is_stub, has_type}
-use Rattle.sc_world.specs.World.{World, Ended, Aside, Env, Run, ◌>>=◌, goes_on, done, ends, unless, dereference}
+use Rattle.sc_world.specs.World.{World, Ended, Run, ◌>>=◌, goes_on, done, unless, dereference}
 use Rattle.gate_runs.specs.declared.ends.Ends.{Ends}
 use Rattle.gate_runs.specs.Stands.{Does, Any, aside_where}
 use Rattle.gate_runs.proofs.Bind.{bind, does_done}
@@ -46,22 +46,21 @@ checked p t target = checks check.Null p t target >>= λ _. behind_reach p t tar
 -- The steps of a run, for what the tests give.
 
 typed_same : (b : Bool) (at : ℕ) (w : World)
-    → goes_on (unless b reason.Type w) (λ _. done at) ≡ goes_on ((if not b then ends (Aside reason.Type) else done tt) w) (λ _. done at)
+    → goes_on (unless b reason.Type w) (λ _. done at) ≡ goes_on (aside_where (λ u. not b) reason.Type w) (λ _. done at)
 typed_same true at w = refl
 typed_same false at w = refl
 
 freed_same : (b : Bool) (typed : ℕ → Bool) (at : ℕ) (w : World)
     → goes_on (goes_on (unless (not b) reason.Freed w) (λ _. done at)) (λ a. unless (typed a) reason.Type >>= λ _. done a)
-    ≡ goes_on ((if b then ends (Aside reason.Freed) else done tt) w)
-    (λ _. (λ u. (if not (typed at) then ends (Aside reason.Type) else done tt) u) >>= λ _. done at)
+    ≡ goes_on (aside_where (λ u. b) reason.Freed w) (λ _. aside_where (λ u. not (typed at)) reason.Type >>= λ _. done at)
 freed_same true typed at w = refl
 freed_same false typed at w = typed_same (typed at) at w
 
 stub_same : (b : Bool) (freed : World → Bool) (typed : ℕ → Bool) (at : ℕ) (w : World)
     → goes_on (goes_on (unless (not b) reason.Reach w) (λ _. (λ u. unless (not (freed u)) reason.Freed u) >>= λ _. done at))
     (λ a. unless (typed a) reason.Type >>= λ _. done a)
-    ≡ goes_on ((if b then ends (Aside reason.Reach) else done tt) w)
-    (λ _. (λ u. (if freed u then ends (Aside reason.Freed) else done tt) u) >>= λ _. (λ u. (if not (typed at) then ends (Aside reason.Type) else done tt) u) >>= λ _. done at)
+    ≡ goes_on (aside_where (λ u. b) reason.Reach w)
+    (λ _. aside_where freed reason.Freed >>= λ _. aside_where (λ u. not (typed at)) reason.Type >>= λ _. done at)
 stub_same true freed typed at w = refl
 stub_same false freed typed at w = freed_same (freed w) typed at w
 

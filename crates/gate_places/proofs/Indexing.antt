@@ -32,11 +32,11 @@ pub leads_on : (v : ℕ → Bool) (g0 g1 : Ends) (pointer : List Pair) (at : ℕ
 leads_on v g0 g1 pointer at narrow leads =
     record { target = leads.target; points = leads.points; there = λ on. leads.there (narrow on) }
 
-pub does_index : (s : Source) (p : Layout) (n1 n2 n3 n4 : List Node) (l : List Location) (want : Want) (t : Ty) (pointer : List Pair) (index : Words) (zero : ℕ)
+pub does_index : (s : Source) (p : Layout) (n1 n2 n3 n4 : List Node) (l : List Location) (want : Want) (t : Ty) (pointer : List Pair) (index : Words) (none : ℕ)
     (g0 g1 g2 : Ends) (r : Val) → Grown n1 n2 → Grown n2 n3 → Grown n3 n4 → DoesFollow n1 p t l pointer g0 g1
-    → Gives n2 zero (λ choice v. nat_eq (number v index.bits.items) 0) → GoesOnWhere n3 zero reason.Index g1 g2 → DoesFind s p n4 l want t pointer r
+    → Gives n2 none (λ choice v. nat_eq (number v index.bits.items) 0) → GoesOnWhere n3 none reason.Index g1 g2 → DoesFind s p n4 l want t pointer r
     → DoesIndex s p n4 l want t pointer index g0 g2 r
-does_index s p n1 n2 n3 n4 l want t pointer index zero g0 g1 g2 r grown12 grown23 grown34 follows is goes found =
+does_index s p n1 n2 n3 n4 l want t pointer index none g0 g1 g2 r grown12 grown23 grown34 follows is goes found =
     record {
       below = found.below;
       kind = found.kind;

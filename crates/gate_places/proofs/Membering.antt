@@ -96,7 +96,7 @@ member_stands : (p : Layout) (u t : Ty) (n : NameId) (at : ℕ) → MemberFits p
     → StandsAt p t (or_zero (part p at (step.Field n)))
 member_stands p u t n at fits stands =
     let h = fits at stands in
-    inl (subst (λ o. has_type (location p (or_zero o)) t ≡ true) (sym h.1.0) h.1.1)
+    inl (subst (λ o. has_type (location p (or_zero o)) t ≡ true) (sym h.1) h.2)
 
 module _ (s : Source) (p : Layout) (ns : List Node) (l : List Location) (g : Ends) (want : Want) (t : Ty) (n : NameId) (made : List Pair) (r : Val)
     (found : DoesFind s p ns l want t made r) where

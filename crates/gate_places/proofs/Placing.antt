@@ -73,16 +73,16 @@ pointer_width s t e =
 
 pub integer_width : (s : Source) (t : Ty) (n : ℕ) → is_scalar t ≡ true → is_pointer t ≡ false → n ≡ int_bits s.widths t
     → width_kind n ≡ kind_of_type s (Some t)
-integer_width s Bool' n i no e = ap width_kind e
-integer_width s (Int k) n i no e =
+integer_width s Bool' n i other e = ap width_kind e
+integer_width s (Int k) n i other e =
     ap width_kind e ∙ width_some (int_bits s.widths (Int k)) (omega (arith, bytes_some s.widths k)) (omega (arith, bytes_few s.widths k))
-integer_width s (Ptr t) n i no e = absurd (cc)
-integer_width s Void n i no e = absurd (cc)
-integer_width s (Array t l) n i no e = absurd (cc)
-integer_width s (Struct l) n i no e = absurd (cc)
-integer_width s (Union l) n i no e = absurd (cc)
-integer_width s (Func r b ts v) n i no e = absurd (cc)
-integer_width s (Opaque o) n i no e = absurd (cc)
+integer_width s (Ptr t) n i other e = absurd (cc)
+integer_width s Void n i other e = absurd (cc)
+integer_width s (Array t l) n i other e = absurd (cc)
+integer_width s (Struct l) n i other e = absurd (cc)
+integer_width s (Union l) n i other e = absurd (cc)
+integer_width s (Func r b ts v) n i other e = absurd (cc)
+integer_width s (Opaque o) n i other e = absurd (cc)
 
 -- What is read.
 
