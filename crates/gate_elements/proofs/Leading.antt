@@ -49,17 +49,17 @@ found_in test k (l ∷ ls) to e = side (test l) refl e
         → (i : ℕ) × (to ≡ k + i) × (i < length (l ∷ ls)) × (test (slice_index_or (l ∷ ls) i nowhere) ≡ true)
     side true is e =
         let same : k ≡ to = cc in
-        (0, (omega (arith, same), (omega arith, is)))
+        (0, omega (arith, same), omega arith, is)
     side false is e =
         let h = found_in test (k + 1) ls to e in
-        (suc h.0, (omega (arith, h.1.0), (omega (arith, h.1.1.0), h.1.1.1)))
+        (suc h.0, omega (arith, h.1), omega (arith, h.2), h.3)
 
 part_there : (p : Layout) (up n at : ℕ) → part p up (step.Elem n) ≡ Some at
     → (at < length p.locations) × (is_part_of up (step.Elem n) (location p at).origin ≡ true)
 part_there p up n at e =
     let h = found_in (λ l. is_part_of up (step.Elem n) l.origin) 0 p.locations at e in
-    let same : h.0 ≡ at = omega (arith, h.1.0) in
-    subst (λ i. (i < length p.locations) × (is_part_of up (step.Elem n) (location p i).origin ≡ true)) same h.1.1
+    let same : h.0 ≡ at = omega (arith, h.1) in
+    subst (λ i. (i < length p.locations) × (is_part_of up (step.Elem n) (location p i).origin ≡ true)) same (h.2, h.3)
 
 -- what an element's origin says
 agrees : Option Entry → (up n : ℕ) → Bool
