@@ -32,7 +32,8 @@ def cases(level, seed, mut):
     r = random.Random('compare %s %s' % (level, seed))
     machine = None
     if level.startswith('wild'):
-        files = wild.files(seed, {'wild': 0.05, 'wild0': 0.01, 'wild2': 0.15, 'wild3': 0.01}[level], 8, 0.08 if level == 'wild3' else 0)
+        faults = {'wild': 0.05, 'wild0': 0.01, 'wild2': 0.15, 'wild3': 0.01}[level]
+        files = wild.files(seed, faults, 8, 0.08 if level == 'wild3' else 0)
     else:
         c = gen.case(seed, level, 14, True)
         files = c.files
@@ -42,7 +43,11 @@ def cases(level, seed, mut):
     if level.startswith('wild') and r.random() < 0.1:
         machine = MACHINE
     if mut:
-        files = [(n, wild.mutate(t, r, max(1, len(t) // 150) if level.startswith('wild') else r.choice([1, 2, 3, mut]))) for n, t in files]
+        made = []
+        for n, t in files:
+            count = max(1, len(t) // 150) if level.startswith('wild') else r.choice([1, 2, 3, mut])
+            made.append((n, wild.mutate(t, r, count)))
+        files = made
     return files, model, machine
 
 
@@ -69,7 +74,8 @@ def run(program, folder, files, model, machine, how='tree'):
         m = 'machine.txt'
         with open(os.path.join(folder, m), 'w') as f:
             f.write(machine)
-    p = subprocess.run([program, '64' if model == 'lp64' else '32', m, how] + [n for n, _ in files], cwd=folder, capture_output=True, timeout=120)
+    words = [program, '64' if model == 'lp64' else '32', m, how] + [n for n, _ in files]
+    p = subprocess.run(words, cwd=folder, capture_output=True, timeout=120)
     out = p.stdout.decode('latin-1')
     # a call has its bracket as its token, and the other program its first token; it does not say what an extern names
     out = re.sub(r'\(call (\S+) \S+ (\d+:\d+:\d+)', r'(call \1 \2 \2', out)
@@ -100,7 +106,8 @@ def known(want, got):
     """Whether they differ only by a wide string for an array, which the other program calls `init`."""
     if len(want) != len(got):
         return False
-    return all(a == b or a.startswith('  skipped unsupported init') and b.startswith('  skipped unsupported odd') for a, b in zip(want, got))
+    init, odd = '  skipped unsupported init', '  skipped unsupported odd'
+    return all(a == b or a.startswith(init) and b.startswith(odd) for a, b in zip(want, got))
 
 
 def kind(words):
@@ -187,9 +194,10 @@ def main():
                 widths[model] += 1
             elif x.startswith('  {'):
                 trees += 1
-    print('%s %d..%d mutate %d: same %d (of them a wide string %d) differ %d other program fails %d refused %d several files %d machines %d; '
-          'bytes %d functions %d (%s) with trees %d' % (a.level, a.first, a.last, a.mutate, same, wide, differ, failed, refused, several,
-                                                        machines, size, functions, dict(widths), trees))
+    print('%s %d..%d mutate %d: same %d (of them a wide string %d) differ %d other program fails %d refused %d '
+          'several files %d machines %d; bytes %d functions %d (%s) with trees %d' % (
+              a.level, a.first, a.last, a.mutate, same, wide, differ, failed, refused, several, machines, size,
+              functions, dict(widths), trees))
     print('SKIPS', dict(sorted(skips.items())))
     print('NOTES', dict(sorted(notes.items())))
 
