@@ -66,7 +66,7 @@ fn a_machine_comes_first(rt: HostRuntime) -> Result<(), Fail> {
     ];
     let mut all = files(rt.alloc(), &texts)?;
     let read = read_input(rt.alloc(), &mut all, Some("irq"), &[]);
-    assert!(rt; matches!(read, Ok(input) if input.machine.is_some() && input.used == 48));
+    assert!(rt; matches!(read, Ok(input) if input.machine.is_some() && input.used == 49));
     let mut all = files(rt.alloc(), &texts)?;
     let refused = read_input(rt.alloc(), &mut all, Some("bad"), &["a.c"]);
     assert!(rt; matches!(refused, Err(Refusal::Machine(2))));
