@@ -1,10 +1,10 @@
 -- All lists of choices from one on, in their order.
-use Rattle.std.proofs.Common.{◌≡◌, ◌∙◌, ℕ, zero, suc, ◌+◌, ◌^◌, ◌<◌, Bool, true, false, cond, List, [], ◌∷◌, ◌++◌, length, Option, Some, None, refl, sym, subst, ap, arith, append_assoc}
+use Rattle.std.proofs.Common.{◌≡◌, ◌∙◌, ℕ, zero, suc, ◌+◌, ◌^◌, ◌<◌, Bool, true, false, List, [], ◌∷◌, ◌++◌, length, Option, Some, None, refl, sym, subst, ap, arith, append_assoc}
 use Rattle.std.specs.Prelude.{replicate, if◌then◌else◌}
 use Rattle.std.proofs.lemmas.List.{append-nil}
 use Rattle.std.proofs.Math.ListN.{length-replicate}
 use Rattle.sc_world.specs.Choices.{or_else, first_from, first_choice}
-use Rattle.choice_search.specs.Behind.{behind, behind_of, turned, first_at_or_behind, left}
+use Rattle.choice_search.specs.Behind.{behind, behind_of, first_at_or_behind, left}
 
 -- from the first one on these are all
 pub all_from_blank : (n : ℕ) (front : List Bool) (test : List Bool → Bool)
@@ -61,7 +61,6 @@ goes_on front (true ∷ bs) test fails =
     ∙ turn_true (behind bs)
   where
     turn_true : (o : Option (List Bool)) → from_behind (front ++ true ∷ []) o test ≡ from_behind front (behind_of true (length bs) o) test
-    unfolding first_at_or_behind
     turn_true None = refl
     turn_true (Some cs) = refl
 goes_on front (false ∷ bs) test fails =
@@ -72,7 +71,6 @@ goes_on front (false ∷ bs) test fails =
     turn_false : (o : Option (List Bool)) → behind bs ≡ o
         → or_else (from_behind (front ++ false ∷ []) o test) (first_from (length bs) (front ++ true ∷ []) test)
         ≡ from_behind front (behind_of false (length bs) o) test
-    unfolding first_at_or_behind
     turn_false None e = sym (all_from_blank (length bs) (front ++ true ∷ []) test)
     turn_false (Some cs) e =
         ap (λ k. or_else (first_at_or_behind (front ++ false ∷ []) cs test) (first_from k (front ++ true ∷ []) test)) (sym (behind_length bs cs e))
@@ -94,7 +92,6 @@ none_left [] e = refl
 none_left (b ∷ bs) e = go b (behind bs) refl e
   where
     go : (c : Bool) (o : Option (List Bool)) → behind bs ≡ o → behind_of c (length bs) o ≡ None → left (c ∷ bs) ≡ 0
-    unfolding left
     go c (Some ds) o s = absurd (let wrong : Some (c ∷ ds) ≡ None = s in cc)
     go true None o s = none_left bs o
     go false None o s = absurd (let wrong : Some (true ∷ replicate (length bs) false) ≡ None = s in cc)
@@ -108,7 +105,6 @@ fewer_left (b ∷ bs) cs e = go b (behind bs) refl e
     some_is x y s = cc
 
     go : (c : Bool) (o : Option (List Bool)) → behind bs ≡ o → behind_of c (length bs) o ≡ Some cs → left cs < left (c ∷ bs)
-    unfolding left
     go true (Some ds) o s = subst (λ x. left x < left bs) (sym (some_is (true ∷ ds) cs s)) (fewer_left bs ds o)
     go false (Some ds) o s =
         let less = fewer_left bs ds o in

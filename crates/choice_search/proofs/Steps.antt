@@ -1,10 +1,10 @@
 -- From a list of choices to the one behind it, bit by bit from its end.
-use Rattle.std.proofs.Common.{◌≡◌, ◌∙◌, ℕ, zero, suc, ◌+◌, ◌-◌, ◌<◌, ◌≤◌, Bool, true, false, List, [], ◌∷◌, ◌++◌, length, set, take, drop, get_or, Option, Some, None, refl, sym, subst, ap, arith, append_assoc}
+use Rattle.std.proofs.Common.{◌≡◌, ◌∙◌, ℕ, zero, suc, ◌+◌, ◌-◌, ◌<◌, ◌≤◌, Bool, true, false, List, [], ◌∷◌, ◌++◌, length, set, take, get_or, Some, None, refl, sym, ap, arith, append_assoc}
 use Rattle.std.specs.Prelude.{replicate}
 use Rattle.std.proofs.lemmas.List.{append-nil, length-append, length-take-le, get_or_append_left}
 use Rattle.std.proofs.Math.Seq.{split_at, set-append_seam}
 use Rattle.std.proofs.Math.ListN.{drop_of_length-le, length-replicate}
-use Rattle.choice_search.specs.Behind.{behind, behind_of, turned}
+use Rattle.choice_search.specs.Behind.{behind, behind_of}
 
 -- What was done from the end down to a place: all bits behind it were set, and are not any more.
 pub record Turning (old now : List Bool) (at : ℕ) : Type 0 where
@@ -56,7 +56,9 @@ ends front at here low =
 around : (front others tail : List Bool) (bit : Bool) → front ≡ others ++ (bit ∷ []) → front ++ tail ≡ others ++ (bit ∷ tail)
 around front others tail bit split = ap (λ f. f ++ tail) split ∙ append_assoc others (bit ∷ []) tail
 
-bit_read : (old now : List Bool) (at : ℕ) (d : Bool) (low : 0 < at) (t : Turning old now at) → get_or now (at - 1) d ≡ (ends t.front at t.here low).bit
+bit_read : (old now : List Bool) (at : ℕ) (d : Bool) (low : 0 < at) (t : Turning old now at)
+    → get_or now (at - 1) d ≡ (ends t.front at t.here low).bit
+unfolding ends
 bit_read old now at d low t =
     let e = ends t.front at t.here low in
     let within : at - 1 < length t.front = let h = t.here in omega (arith, h, low) in

@@ -60,7 +60,10 @@ fn the_first_refusal(rt: HostRuntime) -> Result<(), Fail> {
 #[test]
 fn a_machine_comes_first(rt: HostRuntime) -> Result<(), Fail> {
     let texts = [
-        ("irq", "machine irq\nstates off on\nop on void off>on on>!\n"),
+        (
+            "irq",
+            "machine irq\nstates off on\nop on void off>on on>!\n",
+        ),
         ("bad", "machine irq\nop on void off>on on>!\n"),
         ("a.c", "int x=@;"),
     ];

@@ -32,7 +32,16 @@ fn options_in_any_order(rt: HostRuntime) -> Result<(), Fail> {
     let words = owned(
         rt.alloc(),
         &[
-            "saturn_check", "--jobs", "64", "a.c", "--model=lp64", "--machine", "irq", "--reach", "4", "--depth=8",
+            "saturn_check",
+            "--jobs",
+            "64",
+            "a.c",
+            "--model=lp64",
+            "--machine",
+            "irq",
+            "--reach",
+            "4",
+            "--depth=8",
         ],
     )?;
     let asked = check_words(rt.alloc(), words.as_slice()).expect(&rt, "good words");
@@ -60,10 +69,20 @@ fn bad_words(rt: HostRuntime) -> Result<(), Fail> {
     ];
     for words in bad {
         let words = owned(rt.alloc(), words)?;
-        assert!(rt; matches!(check_words(rt.alloc(), words.as_slice()), Err(NoWords::Bad(_))));
+        assert!(rt;
+            matches!(
+                check_words(rt.alloc(), words.as_slice()),
+                Err(NoWords::Bad(_))
+            )
+        );
     }
     let help = owned(rt.alloc(), &["saturn_check", "--help"])?;
-    assert!(rt; matches!(check_words(rt.alloc(), help.as_slice()), Err(NoWords::Help(_))));
+    assert!(rt;
+        matches!(
+            check_words(rt.alloc(), help.as_slice()),
+            Err(NoWords::Help(_))
+        )
+    );
     Ok(())
 }
 
@@ -91,7 +110,12 @@ fn a_bench(rt: HostRuntime) -> Result<(), Fail> {
     assert_eq!(rt; asked.jobs, 1);
     for many in ["0", "4097", "-1", "x"] {
         let words = owned(rt.alloc(), &["saturn_bench", many, "0"])?;
-        assert!(rt; matches!(bench_words(rt.alloc(), words.as_slice()), Err(NoWords::Bad(_))));
+        assert!(rt;
+            matches!(
+                bench_words(rt.alloc(), words.as_slice()),
+                Err(NoWords::Bad(_))
+            )
+        );
     }
     Ok(())
 }

@@ -1,7 +1,7 @@
 -- The commands of the three programs, as far as `clap` reads them: which arguments there are, which values they take,
 -- and which of them have to be there. The texts of help are no part of it.
 
-use Rattle.std.specs.Prelude.{◌≡◌, ℕ, ℤ, pos, List, [], ◌∷◌, map, Some, codes, true}
+use Rattle.std.specs.Prelude.{◌≡◌, ℤ, pos, List, [], ◌∷◌, map, Some, codes, true}
 use Rattle.std.specs.Borrow.{Bor}
 use Rattle.clap.specs.Lexer.{usize_max}
 use Rattle.clap.specs.Words.{App, Rule, Text, new_rule}

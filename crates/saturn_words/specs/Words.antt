@@ -1,7 +1,7 @@
 -- What the words of a command line ask for. Which values the words give, and which faults they have, is what `clap`
 -- defines for the command of the program.
 
-use Rattle.std.specs.Prelude.{◌≡◌, ◌≢◌, ⊤, ℕ, List, [], Option, Some, None, codes, map, unwrap_or, option_map}
+use Rattle.std.specs.Prelude.{◌≡◌, ◌≢◌, ⊤, ℕ, List, [], Option, Some, None, codes, map, option_map}
 use Rattle.std.specs.Prelude.{if◌then◌else◌, ◌≤◌}
 use Rattle.std.specs.Option.{option_map_or}
 use Rattle.std.specs.Str.{bytes_eq}

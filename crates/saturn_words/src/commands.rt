@@ -44,12 +44,7 @@ fn number_option<'a>(alloc: Global, name: &'a str, low: i64, high: i64, help: &'
         .help(help)
 }
 
-fn word_option<'a>(
-    alloc: Global,
-    name: &'a str,
-    choices: &'a [&'a str],
-    help: &'a str,
-) -> Arg<'a>
+fn word_option<'a>(alloc: Global, name: &'a str, choices: &'a [&'a str], help: &'a str) -> Arg<'a>
     ensures rule { rule_of result ≡ word_option name.entry.now choices.entry }
     ensures local { result.global ≡ false }
 {
@@ -139,11 +134,7 @@ pub fn run_command<'a>(alloc: Global, models: &'a [&'a str]) -> Result<Command<'
     ensures { IfOk result (λ made. app_of made ≡ run_command models.entry) }
 {
     with_options(alloc, "saturn_run", models)?
-        .arg(needed_option(
-            alloc,
-            "function",
-            "the name of the function that is run",
-        ))?
+        .arg(needed_option(alloc, "function", "the name of the function that is run"))?
         .arg(needed_option(
             alloc,
             "choice",

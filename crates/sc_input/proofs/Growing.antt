@@ -1,6 +1,6 @@
 -- What holds while file after file is read: names keep their places, there are never too many, and a refusal of one
 -- call is one of all calls together.
-use Rattle.std.proofs.Common.{◌≡◌, ◌⊎◌, ◌∙◌, ℕ, ◌+◌, ◌^◌, ◌≤◌, ◌<◌, Bool, true, false, List, [], ◌∷◌, ◌++◌, length, get_or, Some, refl, sym, subst, ap, inl, inr, arith, append_assoc, rules}
+use Rattle.std.proofs.Common.{◌≡◌, ◌∙◌, ℕ, ◌+◌, ◌≤◌, ◌<◌, Bool, true, false, List, [], ◌∷◌, ◌++◌, length, Some, refl, sym, subst, ap, inl, inr, arith, append_assoc}
 use Rattle.std.specs.Prelude.{slice_get}
 use Rattle.std.proofs.lemmas.List.{append-nil, length-append, get_or_append_left}
 use Rattle.std.proofs.lemmas.Option.{slice_get_within, slice_get-get_or, get_or_from_slice_get}
@@ -11,7 +11,7 @@ use Rattle.sc_lexer.specs.Answer.{Grow}
 use Rattle.sc_input.specs.declared.input.Input.{Input}
 use Rattle.sc_input.specs.declared.refusal.Refusal.{Refusal}
 use Rattle.sc_input.specs.declared.refusal.Refusal.TheVariants as refusal
-use Rattle.sc_input.specs.Input.{Outside, IsUnread, IsTooLarge, RefuseBytes, RefuseFile, HasNoTree, Stops, Give}
+use Rattle.sc_input.specs.Input.{Outside, IsTooLarge, RefuseBytes, RefuseFile, HasNoTree, Stops, Give}
 
 -- ---- names
 

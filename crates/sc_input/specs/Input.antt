@@ -8,7 +8,6 @@ use Rattle.fsm_spec.specs.Reading.{spelled, Machine, Breaks}
 use Rattle.sc_base.specs.Causes.{Rose}
 use Rattle.sc_base.specs.Held.{is_named, IsRead}
 use Rattle.sc_base.specs.declared.pos.NameId.{NameId}
-use Rattle.sc_base.specs.declared.pos.Pos.{Pos}
 use Rattle.sc_lexer.specs.Answer.{Grow}
 use Rattle.sc_tree.specs.declared.token.Token.{Token}
 use Rattle.sc_tree.specs.declared.unit.Unit.{Unit as FileUnit}

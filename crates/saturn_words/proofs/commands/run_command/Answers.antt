@@ -1,5 +1,4 @@
 use Rattle.std.proofs.Common.{[], ◌∷◌, codes}
-use Rattle.std.specs.Prelude.{pos}
 use Rattle.saturn_words.specs.Commands.{run_command, files_argument, needed_option, options}
 use Rattle.saturn_words.proofs.Adding.{adds, adds_last}
 use Rattle.saturn_words.proofs.commands.run_command.Goals as goal
