@@ -39,15 +39,16 @@ from_behind front (Some cs) test = first_at_or_behind front cs test
 pub behind_length : (bs cs : List Bool) → behind bs ≡ Some cs → length cs ≡ length bs
 unfolding behind
 behind_length [] cs e = absurd (let wrong : None ≡ Some cs = e in cc)
-behind_length (b ∷ bs) cs e = go b (behind bs) refl e
+behind_length (b ∷ bs) cs e = go b (behind bs) refl e (λ ds d. behind_length bs ds d)
   where
     some_is : (x y : List Bool) → Some x ≡ Some y → y ≡ x
     some_is x y s = cc
 
-    go : (c : Bool) (o : Option (List Bool)) → behind bs ≡ o → behind_of c (length bs) o ≡ Some cs → length cs ≡ length (c ∷ bs)
-    go c (Some ds) o s = ap length (some_is (c ∷ ds) cs s) ∙ ap suc (behind_length bs ds o)
-    go true None o s = absurd (let wrong : None ≡ Some cs = s in cc)
-    go false None o s = ap length (some_is (true ∷ replicate (length bs) false) cs s) ∙ ap suc (length-replicate (length bs) false)
+    go : (c : Bool) (o : Option (List Bool)) → behind bs ≡ o → behind_of c (length bs) o ≡ Some cs
+        → ((ds : List Bool) → behind bs ≡ Some ds → length ds ≡ length bs) → length cs ≡ length (c ∷ bs)
+    go c (Some ds) o s rest = ap length (some_is (c ∷ ds) cs s) ∙ ap suc (rest ds o)
+    go true None o s rest = absurd (let wrong : None ≡ Some cs = s in cc)
+    go false None o s rest = ap length (some_is (true ∷ replicate (length bs) false) cs s) ∙ ap suc (length-replicate (length bs) false)
 
 -- one that does not pass is passed over
 pub goes_on : (front bs : List Bool) (test : List Bool → Bool) → test (front ++ bs) ≡ false
@@ -89,29 +90,31 @@ left_blank (suc n) =
 none_left : (bs : List Bool) → behind bs ≡ None → left bs ≡ 0
 unfolding behind left
 none_left [] e = refl
-none_left (b ∷ bs) e = go b (behind bs) refl e
+none_left (b ∷ bs) e = go b (behind bs) refl e (λ d. none_left bs d)
   where
-    go : (c : Bool) (o : Option (List Bool)) → behind bs ≡ o → behind_of c (length bs) o ≡ None → left (c ∷ bs) ≡ 0
-    go c (Some ds) o s = absurd (let wrong : Some (c ∷ ds) ≡ None = s in cc)
-    go true None o s = none_left bs o
-    go false None o s = absurd (let wrong : Some (true ∷ replicate (length bs) false) ≡ None = s in cc)
+    go : (c : Bool) (o : Option (List Bool)) → behind bs ≡ o → behind_of c (length bs) o ≡ None
+        → (behind bs ≡ None → left bs ≡ 0) → left (c ∷ bs) ≡ 0
+    go c (Some ds) o s rest = absurd (let wrong : Some (c ∷ ds) ≡ None = s in cc)
+    go true None o s rest = rest o
+    go false None o s rest = absurd (let wrong : Some (true ∷ replicate (length bs) false) ≡ None = s in cc)
 
 pub fewer_left : (bs cs : List Bool) → behind bs ≡ Some cs → left cs < left bs
 unfolding behind left
 fewer_left [] cs e = absurd (let wrong : None ≡ Some cs = e in cc)
-fewer_left (b ∷ bs) cs e = go b (behind bs) refl e
+fewer_left (b ∷ bs) cs e = go b (behind bs) refl e (λ ds d. fewer_left bs ds d)
   where
     some_is : (x y : List Bool) → Some x ≡ Some y → y ≡ x
     some_is x y s = cc
 
-    go : (c : Bool) (o : Option (List Bool)) → behind bs ≡ o → behind_of c (length bs) o ≡ Some cs → left cs < left (c ∷ bs)
-    go true (Some ds) o s = subst (λ x. left x < left bs) (sym (some_is (true ∷ ds) cs s)) (fewer_left bs ds o)
-    go false (Some ds) o s =
-        let less = fewer_left bs ds o in
+    go : (c : Bool) (o : Option (List Bool)) → behind bs ≡ o → behind_of c (length bs) o ≡ Some cs
+        → ((ds : List Bool) → behind bs ≡ Some ds → left ds < left bs) → left cs < left (c ∷ bs)
+    go true (Some ds) o s rest = subst (λ x. left x < left bs) (sym (some_is (true ∷ ds) cs s)) (rest ds o)
+    go false (Some ds) o s rest =
+        let less = rest ds o in
         let long : 2 ^ length ds ≡ 2 ^ length bs = ap (λ k. 2 ^ k) (behind_length bs ds o) in
         subst (λ x. left x < left bs + 2 ^ length bs) (sym (some_is (false ∷ ds) cs s)) (omega (arith, less, long))
-    go true None o s = absurd (let wrong : None ≡ Some cs = s in cc)
-    go false None o s =
+    go true None o s rest = absurd (let wrong : None ≡ Some cs = s in cc)
+    go false None o s rest =
         let blank = left_blank (length bs) in
         let none = none_left bs o in
         subst (λ x. left x < left bs + 2 ^ length bs) (sym (some_is (true ∷ replicate (length bs) false) cs s)) (omega (arith, blank, none))
