@@ -1,8 +1,10 @@
 -- What holds while file after file is read: names keep their places, there are never too many, and a refusal of one
 -- call is one of all calls together.
-use Rattle.std.proofs.Common.{◌≡◌, ◌∙◌, ℕ, ◌+◌, ◌≤◌, ◌<◌, Bool, true, false, List, [], ◌∷◌, ◌++◌, length, Some, refl, sym, subst, ap, inl, inr, arith, append_assoc}
+use Rattle.std.proofs.Common.{◌≡◌, ◌∙◌, ℕ, suc, ◌+◌, ◌≤◌, ◌<◌, Bool, true, false, List, [], ◌∷◌, ◌++◌, length, map, take, drop, get_or, Option, Some, refl, sym, subst, ap, inl, inr, arith, append_assoc}
+use Rattle.std.specs.Borrow.{Bor}
 use Rattle.std.specs.Prelude.{slice_get}
-use Rattle.std.proofs.lemmas.List.{append-nil, length-append, get_or_append_left}
+use Rattle.std.proofs.Math.Seq.{split_at, take-suc}
+use Rattle.std.proofs.lemmas.List.{append-nil, map-append, length-append, get_or_append_left}
 use Rattle.std.proofs.lemmas.Option.{slice_get_within, slice_get-get_or, get_or_from_slice_get}
 use Rattle.sc_base.specs.Causes.{Rose}
 use Rattle.sc_base.specs.Held.{is_named}
@@ -11,7 +13,7 @@ use Rattle.sc_lexer.specs.Answer.{Grow}
 use Rattle.sc_input.specs.declared.input.Input.{Input}
 use Rattle.sc_input.specs.declared.refusal.Refusal.{Refusal}
 use Rattle.sc_input.specs.declared.refusal.Refusal.TheVariants as refusal
-use Rattle.sc_input.specs.Input.{Outside, IsTooLarge, RefuseBytes, RefuseFile, HasNoTree, Stops, Give}
+use Rattle.sc_input.specs.Input.{Outside, Adds, IsTooLarge, RefuseBytes, RefuseFile, HasNoTree, Stops, Give, more}
 
 -- ---- names
 
@@ -89,4 +91,34 @@ stops_wider step all start names why held firm early late stops = record {
   split = stops.split;
   read = subst (λ h. Give h start stops.front stops.before) (sym held) stops.read;
   refused = file_wider step all stops.before stops.name why held firm early late stops.refused;
+}
+
+-- ---- one more file
+
+-- Read behind the first so many files, one more file is read behind one more.
+pub one_more : (held : Option (List (List ℕ × List ℕ))) (start before after : Input) (names : List (Bor (List ℕ))) (i : ℕ) (d : Bor (List ℕ))
+    → i < length names → Give held start (map (λ name. name.now) (take i names)) before
+    → Adds held (get_or names i d).now before after
+    → Give held start (map (λ name. name.now) (take (i + 1) names)) after
+one_more held start before after names i d within read added =
+    let next : i + 1 ≡ suc i = omega arith in
+    let shown : map (λ name. name.now) (take (i + 1) names) ≡ map (λ name. name.now) (take i names) ++ ((get_or names i d).now ∷ []) =
+    ap (λ n. map (λ name. name.now) (take n names)) next
+    ∙ (ap (map (λ name. name.now)) (take-suc names i d within)
+    ∙ map-append (λ (name : Bor (List ℕ)). name.now) (take i names) (get_or names i d ∷ [])) in
+    rw shown (more (get_or names i d).now read added)
+
+-- The file behind the first so many is refused: so are all of them.
+pub refused_at : (outside : Outside) (start before : Input) (names : List (Bor (List ℕ))) (i : ℕ) (d : Bor (List ℕ)) (why : Refusal)
+    → i < length names → Give outside.held start (map (λ name. name.now) (take i names)) before
+    → RefuseFile outside before (get_or names i d).now why → Stops outside start (map (λ name. name.now) names) why
+refused_at outside start before names i d why within read refused = record {
+  front = map (λ name. name.now) (take i names);
+  name = (get_or names i d).now;
+  behind = map (λ name. name.now) (drop (suc i) names);
+  before = before;
+  split = ap (map (λ name. name.now)) (split_at names i d within)
+      ∙ map-append (λ (name : Bor (List ℕ)). name.now) (take i names) (get_or names i d ∷ drop (suc i) names);
+  read = read;
+  refused = refused;
 }
