@@ -1,5 +1,6 @@
 -- All lists of choices from one on, in their order.
-use Rattle.std.proofs.Common.{◌≡◌, ◌∙◌, ℕ, zero, suc, ◌+◌, ◌^◌, ◌<◌, Bool, true, false, List, [], ◌∷◌, ◌++◌, length, Option, Some, None, refl, sym, subst, ap, arith, append_assoc}
+use Rattle.std.proofs.Common.{◌≡◌, ◌∙◌, ℕ, zero, suc, ◌+◌, ◌^◌, ◌<◌, Bool, true, false, List}
+use Rattle.std.proofs.Common.{[], ◌∷◌, ◌++◌, length, Option, Some, None, refl, sym, subst, ap, arith, append_assoc}
 use Rattle.std.specs.Prelude.{replicate, if◌then◌else◌}
 use Rattle.std.proofs.lemmas.List.{append-nil}
 use Rattle.std.proofs.Math.ListN.{length-replicate}
@@ -12,8 +13,10 @@ pub all_from_blank : (n : ℕ) (front : List Bool) (test : List Bool → Bool)
 unfolding first_at_or_behind first_from
 all_from_blank zero front test = refl
 all_from_blank (suc n) front test =
-    ap (λ first. or_else first (first_from (length (replicate n false)) (front ++ true ∷ []) test)) (all_from_blank n (front ++ false ∷ []) test)
-    ∙ ap (λ k. or_else (first_from n (front ++ false ∷ []) test) (first_from k (front ++ true ∷ []) test)) (length-replicate n false)
+    ap (λ first. or_else first (first_from (length (replicate n false)) (front ++ true ∷ []) test))
+    (all_from_blank n (front ++ false ∷ []) test)
+    ∙ ap (λ k. or_else (first_from n (front ++ false ∷ []) test) (first_from k (front ++ true ∷ []) test))
+    (length-replicate n false)
 
 -- one that passes is the first from itself on
 pub found_here : (front bs : List Bool) (test : List Bool → Bool) → test (front ++ bs) ≡ true
@@ -48,7 +51,8 @@ behind_length (b ∷ bs) cs e = go b (behind bs) refl e (λ ds d. behind_length 
         → ((ds : List Bool) → behind bs ≡ Some ds → length ds ≡ length bs) → length cs ≡ length (c ∷ bs)
     go c (Some ds) o s rest = ap length (some_is (c ∷ ds) cs s) ∙ ap suc (rest ds o)
     go true None o s rest = absurd (let wrong : None ≡ Some cs = s in cc)
-    go false None o s rest = ap length (some_is (true ∷ replicate (length bs) false) cs s) ∙ ap suc (length-replicate (length bs) false)
+    go false None o s rest =
+        ap length (some_is (true ∷ replicate (length bs) false) cs s) ∙ ap suc (length-replicate (length bs) false)
 
 -- one that does not pass is passed over
 pub goes_on : (front bs : List Bool) (test : List Bool → Bool) → test (front ++ bs) ≡ false
@@ -61,7 +65,8 @@ goes_on front (true ∷ bs) test fails =
     goes_on (front ++ true ∷ []) bs test (ap test (append_assoc front (true ∷ []) bs) ∙ fails)
     ∙ turn_true (behind bs)
   where
-    turn_true : (o : Option (List Bool)) → from_behind (front ++ true ∷ []) o test ≡ from_behind front (behind_of true (length bs) o) test
+    turn_true : (o : Option (List Bool))
+        → from_behind (front ++ true ∷ []) o test ≡ from_behind front (behind_of true (length bs) o) test
     turn_true None = refl
     turn_true (Some cs) = refl
 goes_on front (false ∷ bs) test fails =
@@ -74,7 +79,8 @@ goes_on front (false ∷ bs) test fails =
         ≡ from_behind front (behind_of false (length bs) o) test
     turn_false None e = sym (all_from_blank (length bs) (front ++ true ∷ []) test)
     turn_false (Some cs) e =
-        ap (λ k. or_else (first_at_or_behind (front ++ false ∷ []) cs test) (first_from k (front ++ true ∷ []) test)) (sym (behind_length bs cs e))
+        ap (λ k. or_else (first_at_or_behind (front ++ false ∷ []) cs test) (first_from k (front ++ true ∷ []) test))
+        (sym (behind_length bs cs e))
 
 -- ---- an end of the steps
 
@@ -117,7 +123,8 @@ fewer_left (b ∷ bs) cs e = go b (behind bs) refl e (λ ds d. fewer_left bs ds 
     go false None o s rest =
         let blank = left_blank (length bs) in
         let none = none_left bs o in
-        subst (λ x. left x < left bs + 2 ^ length bs) (sym (some_is (true ∷ replicate (length bs) false) cs s)) (omega (arith, blank, none))
+        subst (λ x. left x < left bs + 2 ^ length bs) (sym (some_is (true ∷ replicate (length bs) false) cs s))
+        (omega (arith, blank, none))
 
 -- ---- as the law has it
 

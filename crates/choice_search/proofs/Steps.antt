@@ -1,5 +1,6 @@
 -- From a list of choices to the one behind it, bit by bit from its end.
-use Rattle.std.proofs.Common.{◌≡◌, ◌∙◌, ℕ, zero, suc, ◌+◌, ◌-◌, ◌<◌, ◌≤◌, Bool, true, false, List, [], ◌∷◌, ◌++◌, length, set, take, get_or, Some, None, refl, sym, ap, arith, append_assoc}
+use Rattle.std.proofs.Common.{◌≡◌, ◌∙◌, ℕ, zero, suc, ◌+◌, ◌-◌, ◌<◌, ◌≤◌, Bool, true, false, List}
+use Rattle.std.proofs.Common.{[], ◌∷◌, ◌++◌, length, set, take, get_or, Some, None, refl, sym, ap, arith, append_assoc}
 use Rattle.std.specs.Prelude.{replicate}
 use Rattle.std.proofs.lemmas.List.{append-nil, length-append, length-take-le, get_or_append_left}
 use Rattle.std.proofs.Math.Seq.{split_at, set-append_seam}
@@ -53,7 +54,8 @@ ends front at here low =
     }
 
 -- the list as it is, around that bit
-around : (front others tail : List Bool) (bit : Bool) → front ≡ others ++ (bit ∷ []) → front ++ tail ≡ others ++ (bit ∷ tail)
+around : (front others tail : List Bool) (bit : Bool) → front ≡ others ++ (bit ∷ [])
+    → front ++ tail ≡ others ++ (bit ∷ tail)
 around front others tail bit split = ap (λ f. f ++ tail) split ∙ append_assoc others (bit ∷ []) tail
 
 bit_read : (old now : List Bool) (at : ℕ) (d : Bool) (low : 0 < at) (t : Turning old now at)
@@ -62,7 +64,8 @@ unfolding ends
 bit_read old now at d low t =
     let e = ends t.front at t.here low in
     let within : at - 1 < length t.front = let h = t.here in omega (arith, h, low) in
-    ap (λ bits. get_or bits (at - 1) d) t.is ∙ get_or_append_left t.front (replicate (length t.back) false) d (at - 1) within
+    ap (λ bits. get_or bits (at - 1) d) t.is
+    ∙ get_or_append_left t.front (replicate (length t.back) false) d (at - 1) within
     ∙ reads_bit t.front (at - 1) d within
   where
     reads_bit : (front : List Bool) (k : ℕ) (d : Bool) → k < length front → get_or front k d ≡ get_or front k false
@@ -116,7 +119,8 @@ turn_found old now at d low t read =
     ap behind was ∙ behind_append e.others (false ∷ t.back) (true ∷ replicate (length t.back) false) back
     ∙ ap Some (sym (set_bit old now at true low t))
 
-pub turn_length : (old now : List Bool) (at : ℕ) (bit : Bool) → 0 < at → Turning old now at → length (set now (at - 1) bit) ≡ length old
+pub turn_length : (old now : List Bool) (at : ℕ) (bit : Bool) → 0 < at → Turning old now at
+    → length (set now (at - 1) bit) ≡ length old
 turn_length old now at bit low t =
     let e = ends t.front at t.here low in
     ap length (set_bit old now at bit low t)

@@ -1,6 +1,7 @@
 -- The list of choices behind another one, in their order: false before true, the first bit counting most.
 
-use Rattle.std.specs.Prelude.{ℕ, ◌+◌, ◌^◌, Bool, true, false, Option, Some, None, List, [], ◌∷◌, ◌++◌, length, replicate, if◌then◌else◌}
+use Rattle.std.specs.Prelude.{ℕ, ◌+◌, ◌^◌, Bool, true, false, Option, Some}
+use Rattle.std.specs.Prelude.{None, List, [], ◌∷◌, ◌++◌, length, replicate, if◌then◌else◌}
 use Rattle.sc_world.specs.Choices.{or_else, first_from}
 
 -- all bits behind a bit are set, so it turns; or one of them turns

@@ -12,7 +12,8 @@ use Rattle.saturn_words.specs.Words.{number_or}
 abbrev number_at : ℕ → Option Text → ℕ
 number_at default o = option_map_or (λ text. digits_value 10 (without_leading_plus text)) o default
 
-pub read_some : {E : Type 0} (G : Text → Result ℕ E → Type 0) (default : ℕ) (name : Text) (f : Found) (r : Result (Option ℕ) E) (v : ℕ)
+pub read_some : {E : Type 0} (G : Text → Result ℕ E → Type 0) (default : ℕ) (name : Text) (f : Found)
+    (r : Result (Option ℕ) E) (v : ℕ)
     → ((t : Text) (x : Result ℕ E) → G t x → ParsesUnsigned 32 10 t x)
     → (one_text f name ≡ None → r ≡ Ok None)
     → ((t : Text) → one_text f name ≡ Some t → TriesOne G t r)
@@ -29,7 +30,8 @@ read_some {E} G default name f r v only none value is =
         let parsed = only t (Ok v) given in
         parsed.1 ∙ ap (number_at default) (sym e)
 
-pub read_none : {E : Type 0} (G : Text → Result ℕ E → Type 0) (default : ℕ) (name : Text) (f : Found) (r : Result (Option ℕ) E)
+pub read_none : {E : Type 0} (G : Text → Result ℕ E → Type 0) (default : ℕ) (name : Text) (f : Found)
+    (r : Result (Option ℕ) E)
     → ((t : Text) → one_text f name ≡ Some t → TriesOne G t r)
     → r ≡ Ok None → default ≡ number_or default name (rows_of f)
 read_none {E} G default name f r value is = go (one_text f name) refl ∙ ap (number_at default) (one_text-rows f name)

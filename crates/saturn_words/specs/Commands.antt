@@ -21,11 +21,13 @@ needed_option name = record (new_rule name) { long = Some name; action = Some Se
 
 -- `--name N`, with a number from `low` to `high`
 abbrev pub number_option : Text → ℤ → ℤ → Rule
-number_option name low high = record (new_rule name) { long = Some name; action = Some Set; parser = Some (parser.Signed low high) }
+number_option name low high =
+    record (new_rule name) { long = Some name; action = Some Set; parser = Some (parser.Signed low high) }
 
 -- `--name WORD`, with one of these words
 abbrev pub word_option : Text → Bor (List (Bor Text)) → Rule
-word_option name choices = record (new_rule name) { long = Some name; action = Some Set; parser = Some (parser.Names choices) }
+word_option name choices =
+    record (new_rule name) { long = Some name; action = Some Set; parser = Some (parser.Names choices) }
 
 -- a number from `low` to `high`, which has to be there, by its place among the words
 abbrev pub number_argument : Text → ℤ → ℤ → Rule
@@ -55,7 +57,8 @@ options models more =
 -- `saturn_check [--depth D] [--reach R] [--model M] [--machine FILE] [--jobs J] FILE ..`
 unfoldable pub check_command : Bor (List (Bor Text)) → App
 check_command models =
-    command (codes "saturn_check") (options models (number_option (codes "jobs") (pos 1) (pos 64) ∷ files_argument ∷ []))
+    command (codes "saturn_check")
+    (options models (number_option (codes "jobs") (pos 1) (pos 64) ∷ files_argument ∷ []))
 
 -- `saturn_run [--depth D] [--reach R] [--model M] [--machine FILE] --function NAME --choice HEX FILE ..`
 unfoldable pub run_command : Bor (List (Bor Text)) → App

@@ -96,7 +96,8 @@ fn widths_of(word: Option<&str>) -> Widths
 
 // The files that the words name. None where memory is refused.
 fn files_of<'a>(alloc: Global, matches: &ArgMatches<'a>) -> Option<Vec<&'a str>>
-    ensures { IfSome result (λ files. Some (map (λ name. name.now) files.items) ≡ all_of (codes "FILE") (rows_of (found_of matches.now))) }
+    ensures { IfSome result (λ files. Some (map (λ name. name.now) files.items)
+        ≡ all_of (codes "FILE") (rows_of (found_of matches.now))) }
 {
     match matches.get_strs("FILE")?.to_vec(alloc) {
         Ok(files) => Some(files),

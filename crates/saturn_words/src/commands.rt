@@ -1,4 +1,5 @@
-// The commands of the programs, as `clap` is told of them. `specs/Commands.antt` has the same, without the texts of help.
+// The commands of the programs, as `clap` is told of them. `specs/Commands.antt` has the same, without the texts of
+// help.
 
 ghost use Rattle.std.specs.Prelude.{◌≡◌, [], IfOk, false};
 ghost use Rattle.clap.specs.Words.{app_of, rule_of};

@@ -27,7 +27,8 @@ static MODELS: [&str; 2] = ["ilp32", "lp64"];
 
 // Why a parse found nothing.
 fn no_words(alloc: Global, error: &Error) -> NoWords
-    ensures { (command : App) (words : List (List ℕ)) → HasKind (faults command words) error.now → AskForNothing command words result }
+    ensures { (command : App) (words : List (List ℕ)) → HasKind (faults command words) error.now
+        → AskForNothing command words result }
 {
     if error.kind() == ErrorKind::OutOfMemory {
         return NoWords::Memory;

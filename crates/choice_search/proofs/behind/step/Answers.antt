@@ -6,8 +6,10 @@ loop-at-init c = turning_starts c.args.choice.now
 
 pub loop-at-preserved : goal.loop-at-preserved
 loop-at-preserved c =
-    turn_set c.args.choice.now c.loop-at.choice c.loop-at.at _ c.loop-at-test.true c.loop-at.invariant c.if-choice-at.true
+    turn_set c.args.choice.now c.loop-at.choice c.loop-at.at _ c.loop-at-test.true c.loop-at.invariant
+    c.if-choice-at.true
 
 pub returns-else-choice-at-clause-some : goal.returns-else-choice-at-clause-some
 returns-else-choice-at-clause-some c some =
-    turn_found c.args.choice.now c.loop-at.choice c.loop-at.at _ c.loop-at-test.true c.loop-at.invariant c.if-choice-at.false
+    turn_found c.args.choice.now c.loop-at.choice c.loop-at.at _ c.loop-at-test.true c.loop-at.invariant
+    c.if-choice-at.false

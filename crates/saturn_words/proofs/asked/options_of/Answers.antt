@@ -10,7 +10,8 @@ returns c = record {
   depth_fits = c.in_ok-depth.ensures.fits;
   reach = c.in_ok-reach.ensures.value;
   reach_fits = c.in_ok-reach.ensures.fits;
-  widths = c.widths_of.ensures ∙ ap widths_of (c.get_str.ensures ∙ first_value-rows (found_of c.args.matches.now) (codes "model"));
+  widths = c.widths_of.ensures
+      ∙ ap widths_of (c.get_str.ensures ∙ first_value-rows (found_of c.args.matches.now) (codes "model"));
   machine = c.get_str-2.ensures ∙ first_value-rows (found_of c.args.matches.now) (codes "machine");
   files = c.in_ok-files.ensures;
 }

@@ -1,5 +1,6 @@
 use Rattle.std.proofs.Common.{◌≡◌, ◌∙◌, ℕ, List, [], ap, refl, sym, subst, map, string_bytes}
-use Rattle.clap.specs.Words.{App, HasKind, app_of, fault_of, found_of, is_simple, is_simple_and_free, matches_of, rows_of}
+use Rattle.clap.specs.Words.{App, HasKind, app_of, fault_of, found_of, is_simple, is_simple_and_free}
+use Rattle.clap.specs.Words.{matches_of, rows_of}
 use Rattle.saturn_words.specs.Commands.{bench_command}
 use Rattle.saturn_words.specs.Words.{faults, rows_of_words}
 use Rattle.saturn_words.proofs.Simple.{bench_is_free, bench_is_plain}

@@ -1,12 +1,14 @@
 use Rattle.std.proofs.Common.{◌≡◌, ◌∙◌, ℕ, List, [], ap, refl, sym, subst, map, string_bytes}
-use Rattle.clap.specs.Words.{App, HasKind, app_of, fault_of, found_of, is_simple, is_simple_and_free, matches_of, rows_of}
+use Rattle.clap.specs.Words.{App, HasKind, app_of, fault_of, found_of, is_simple, is_simple_and_free}
+use Rattle.clap.specs.Words.{matches_of, rows_of}
 use Rattle.saturn_words.specs.Commands.{run_command}
 use Rattle.saturn_words.specs.Words.{faults, rows_of_words}
 use Rattle.saturn_words.proofs.Simple.{run_is_free, run_is_plain}
 use Rattle.saturn_words.proofs.words.run_words.Goals as goal
 
 pub returns-in-Err-clause-nothing : goal.returns-in-Err-clause-nothing
-returns-in-Err-clause-nothing c = (run_command c.as_slice.result, (c.as_slice.result, ap (map (λ word. word.now)) c.as_slice.ensures, refl), tt)
+returns-in-Err-clause-nothing c =
+    (run_command c.as_slice.result, (c.as_slice.result, ap (map (λ word. word.now)) c.as_slice.ensures, refl), tt)
 
 pub returns-in-Some-clause-asked : goal.returns-in-Some-clause-asked
 unfolding faults rows_of_words
@@ -29,7 +31,8 @@ returns-in-Some-clause-asked c =
     )
 
 pub returns-in-Ok-try_get_matches_from-clause-nothing : goal.returns-in-Ok-try_get_matches_from-clause-nothing
-returns-in-Ok-try_get_matches_from-clause-nothing c = (run_command c.as_slice.result, (c.as_slice.result, ap (map (λ word. word.now)) c.as_slice.ensures, refl), tt)
+returns-in-Ok-try_get_matches_from-clause-nothing c =
+    (run_command c.as_slice.result, (c.as_slice.result, ap (map (λ word. word.now)) c.as_slice.ensures, refl), tt)
 
 pub returns-clause-nothing : goal.returns-clause-nothing
 unfolding faults
@@ -40,5 +43,6 @@ returns-clause-nothing c =
       run_command c.as_slice.result,
       (c.as_slice.result, ap (map (λ word. word.now)) c.as_slice.ensures, refl),
       c.no_words.ensures (run_command c.as_slice.result) words
-          (subst P is (c.in-Err-try_get_matches_from.ensures.kinds (ap is_simple_and_free is ∙ run_is_free c.as_slice.result))),
+          (subst P is (c.in-Err-try_get_matches_from.ensures.kinds
+          (ap is_simple_and_free is ∙ run_is_free c.as_slice.result))),
     )
