@@ -2,9 +2,9 @@
 use Rattle.std.proofs.Common.{◌≡◌, ◌∙◌, ℕ, zero, suc, ◌+◌, ◌-◌, ◌<◌, ◌≤◌, Bool, true, false, List}
 use Rattle.std.proofs.Common.{[], ◌∷◌, ◌++◌, length, set, take, get_or, Some, None, refl, sym, ap, arith, append_assoc}
 use Rattle.std.specs.Prelude.{replicate}
-use Rattle.std.proofs.lemmas.List.{append-nil, length-append, length-take-le, get_or_append_left}
+use Rattle.std.proofs.lemmas.List.{append-nil, length-take-le, get_or_append_left}
 use Rattle.std.proofs.Math.Seq.{split_at, set-append_seam}
-use Rattle.std.proofs.Math.ListN.{drop_of_length-le, length-replicate}
+use Rattle.std.proofs.Math.ListN.{drop_of_length-le}
 use Rattle.choice_search.specs.Behind.{behind, behind_of}
 
 -- What was done from the end down to a place: all bits behind it were set, and are not any more.
@@ -26,13 +26,6 @@ turning_starts old = record {
   here = refl;
   last = refl;
 }
-
-pub turning_length : (old now : List Bool) (at : ℕ) → Turning old now at → length now ≡ length old
-turning_length old now at t =
-    let new : length now ≡ length t.front + length (replicate (length t.back) false) =
-    ap length t.is ∙ length-append t.front (replicate (length t.back) false) in
-    let was : length old ≡ length t.front + length t.back = ap length t.was ∙ length-append t.front t.back in
-    new ∙ ap (λ n. length t.front + n) (length-replicate (length t.back) false) ∙ sym was
 
 -- a front with its last bit
 record Ends (front : List Bool) (k : ℕ) : Type 0 where
@@ -118,24 +111,3 @@ turn_found old now at d low t read =
     ap (behind_of false (length t.back)) t.last in
     ap behind was ∙ behind_append e.others (false ∷ t.back) (true ∷ replicate (length t.back) false) back
     ∙ ap Some (sym (set_bit old now at true low t))
-
-pub turn_length : (old now : List Bool) (at : ℕ) (bit : Bool) → 0 < at → Turning old now at
-    → length (set now (at - 1) bit) ≡ length old
-turn_length old now at bit low t =
-    let e = ends t.front at t.here low in
-    ap length (set_bit old now at bit low t)
-    ∙ (length-append e.others (bit ∷ replicate (length t.back) false)
-    ∙ (sym (length-append e.others (e.bit ∷ replicate (length t.back) false))
-    ∙ ap length (sym (t.is ∙ around t.front e.others (replicate (length t.back) false) e.bit e.split))))
-    ∙ turning_length old now at t
-
--- all bits were set
-pub turn_over : (old now : List Bool) (at : ℕ) → at ≤ 0 → Turning old now at → behind old ≡ None
-turn_over old now at none t = ap behind (t.was ∙ over t.front t.back (t.here ∙ zero_of at none)) ∙ t.last
-  where
-    zero_of : (n : ℕ) → n ≤ 0 → n ≡ 0
-    zero_of n e = omega (arith, e)
-
-    over : (front back : List Bool) → length front ≡ 0 → front ++ back ≡ back
-    over [] back e = refl
-    over (b ∷ bs) back e = absurd (omega (arith, e))
