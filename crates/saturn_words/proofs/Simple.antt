@@ -1,0 +1,30 @@
+-- The commands of the definitions are ones of which `clap` tells the matches and the faults.
+use Rattle.std.proofs.Common.{◌≡◌, true, refl, List}
+use Rattle.std.specs.Borrow.{Bor}
+use Rattle.clap.specs.Words.{Text, is_simple, is_simple_and_free}
+use Rattle.clap.proofs.OnLiterals.{clap_on_literals}
+use Rattle.saturn_words.specs.Commands.{check_command, run_command, bench_command}
+
+pub check_is_free : (models : Bor (List (Bor Text))) → is_simple_and_free (check_command models) ≡ true
+unfolding clap_on_literals check_command
+check_is_free models = refl
+
+pub check_is_plain : (models : Bor (List (Bor Text))) → is_simple (check_command models) ≡ true
+unfolding clap_on_literals check_command
+check_is_plain models = refl
+
+pub run_is_free : (models : Bor (List (Bor Text))) → is_simple_and_free (run_command models) ≡ true
+unfolding clap_on_literals run_command
+run_is_free models = refl
+
+pub run_is_plain : (models : Bor (List (Bor Text))) → is_simple (run_command models) ≡ true
+unfolding clap_on_literals run_command
+run_is_plain models = refl
+
+pub bench_is_free : is_simple_and_free bench_command ≡ true
+unfolding clap_on_literals bench_command
+bench_is_free = refl
+
+pub bench_is_plain : is_simple bench_command ≡ true
+unfolding clap_on_literals bench_command
+bench_is_plain = refl
