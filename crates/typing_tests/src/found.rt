@@ -81,7 +81,7 @@ pub fn both(
 
 /// How many functions are skipped.
 pub fn skipped(program: &Program) -> usize {
-    let mut count = 0;
+    let mut count: usize = 0;
     for f in program.functions.as_slice() {
         if let TBody::Skipped(_) = &f.body {
             count = count.wrapping_add(1);
