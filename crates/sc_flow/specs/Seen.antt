@@ -1,5 +1,5 @@
 -- What contracts see of the data of the code: as what the definitions are made of.
-use Rattle.std.specs.Prelude.{ℕ, Bool, true, false, Option, Some, None, List, map, reverse}
+use Rattle.std.specs.Prelude.{ℕ, Bool, true, false, Option, Some, None, List, [], ◌∷◌, ◌++◌, map, reverse}
 use Rattle.sc_typed.specs.declared.expr.TExpr.{TExpr}
 use Rattle.sc_flow.specs.declared.node.Want.{Want}
 use Rattle.sc_flow.specs.declared.node.Want.TheVariants as want
@@ -27,8 +27,8 @@ use Rattle.sc_flow.specs.declared.aims.Sides.{Sides}
 use Rattle.flow_graph.specs.Statements as stmt
 use Rattle.flow_graph.specs.Unrolled as whole
 use Rattle.sc_flow.specs.Over.{over}
-use Rattle.sc_flow.specs.declared.targets.Label.{Label}
 use Rattle.sc_flow.specs.declared.targets.Ways.{Ways}
+use Rattle.scopes.specs.Frames.{Frames}
 use Rattle.sc_flow.specs.declared.blocks.Chosen.{Chosen}
 use Rattle.sc_flow.specs.declared.blocks.Opened.{Opened}
 use Rattle.sc_flow.specs.declared.conditions.Tested.{Tested}
@@ -99,14 +99,20 @@ goal k = record { want = want_of k.want; temp = k.temp; next = k.next }
 abbrev pub sides : Sides → part.Sides
 sides c = record { hit = c.hit; miss = c.miss }
 
-abbrev pub target : Label → stmt.Target
-target l = record { name = l.name; at = l.at }
+-- a label with its node
+abbrev pub target : ℕ × ℕ → stmt.Target
+target l = record { name = record { at = l.0 }; at = l.1 }
+
+-- those of blocks, from the innermost outwards, and then those beyond them
+abbrev pub through : List (List (ℕ × ℕ)) → List (ℕ × ℕ) → List (ℕ × ℕ)
+through [] beyond = beyond
+through (b ∷ bs) beyond = b ++ through bs beyond
 
 -- the nearest label first
-unfoldable pub labels : List Label → List stmt.Target
-labels ls = reverse (map target ls)
+unfoldable pub labels : Frames ℕ → List stmt.Target
+labels f = map target (through f.blocks (f.fresh ++ f.file))
 
-abbrev pub targets : Ways → List Label → stmt.Targets
+abbrev pub targets : Ways → Frames ℕ → stmt.Targets
 targets k ls = record { next = k.next; leave = k.leave; again = k.again; lost = k.lost; labels = labels ls }
 
 abbrev pub chosen : Chosen → stmt.Chosen
@@ -116,7 +122,7 @@ chosen c = record { number = c.number; at = c.at }
 unfoldable pub cases : List Chosen → List stmt.Chosen
 cases cs = reverse (map chosen cs)
 
-abbrev pub opened : Opened → List Label → stmt.Opened
+abbrev pub opened : Opened → Frames ℕ → stmt.Opened
 opened o ls = record { at = o.at; labels = labels ls; cases = cases o.cases.items; default = o.default }
 
 -- the node that takes what an initialiser gives

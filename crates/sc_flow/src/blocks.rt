@@ -1,6 +1,7 @@
 // Blocks and `switch` (C11 6.8.2, 6.8.4.2): where each item that can be sought begins.
 
-ghost use Rattle.std.specs.Prelude.{◌≡◌, ◌≤◌, List, length, take, IfOk, OnOk};
+ghost use Rattle.std.specs.Prelude.{◌≡◌, ◌<◌, ℕ, length, IfOk, OnOk};
+ghost use Rattle.scopes.specs.Frames as frames;
 ghost use Rattle.sc_world.specs.View.{stm, exp};
 ghost use Rattle.flow_graph.specs.Statements as spec;
 ghost use Rattle.sc_flow.specs.Seen as seen;
@@ -10,10 +11,11 @@ use crate::aims::Aim;
 use crate::expressions::expression;
 use crate::growing::Growing;
 use crate::node::{Node, Want};
-use crate::targets::{Label, Ways, name_labels};
+use crate::targets::{Ways, name_labels};
 use sc_base::{OutOfMemory, Pos};
 use sc_gather::Context;
 use sc_typed::{TExpr, TStmt};
+use scopes::Scopes;
 use std::alloc::Global;
 
 /// A `case` of a `switch`, with its node.
@@ -34,7 +36,7 @@ pub struct Opened {
 /// The end of a block.
 #[tactic(auto, unfolding(crate::specs::Seen::cases))]
 pub fn closed(alloc: Global, ways: Ways) -> Opened
-    ensures { (labels : List Label) → seen.opened result labels ≡ spec.closed (seen.targets ways labels) }
+    ensures { (labels : frames.Frames ℕ) → seen.opened result labels ≡ spec.closed (seen.targets ways labels) }
 {
     Opened {
         at: ways.next,
@@ -99,15 +101,16 @@ fn default(here: &Context, s: &TStmt, at: u32, rest: Option<u32>) -> Option<u32>
 /// An item in front of the rest of a block: it begins at that node.
 pub fn open(
     opened: &mut Opened,
-    labels: &mut Vec<Label>,
+    labels: &mut Scopes<u32>,
     here: &Context,
     s: &TStmt,
     at: u32,
 ) -> Result<(), OutOfMemory>
-    ensures opened { OnOk result (seen.opened opened.new labels.new.items
-        ≡ spec.opened (stm (seen.structs_of here.now) s.now) at (seen.opened opened.old labels.old.items)) }
-    ensures front { OnOk result (take (length labels.old.items) labels.new.items ≡ labels.old.items) }
-    ensures longer { OnOk result (length labels.old.items ≤ length labels.new.items) }
+    requires { 0 < length labels.old.blocks }
+    ensures opened { OnOk result (seen.opened opened.new labels.new
+        ≡ spec.opened (stm (seen.structs_of here.now) s.now) at (seen.opened opened.old labels.old)) }
+    ensures round { OnOk result (frames.closed labels.new ≡ frames.closed labels.old) }
+    ensures within { OnOk result (0 < length labels.new.blocks) }
 {
     name_labels(labels, here, s, at)?;
     case(&mut opened.cases, here, s, at)?;

@@ -16,6 +16,7 @@ use crate::targets::Ways;
 use sc_base::{List, OutOfMemory, Pos};
 use sc_gather::Context;
 use sc_typed::TStmt;
+use scopes::Scopes;
 use std::alloc::Global;
 use sum_rows::What;
 
@@ -235,7 +236,7 @@ fn body<'p>(alloc: Global, g: &mut Growing<'p>, here: &Context<'p, '_>) -> Resul
                 again: end,
                 lost: end,
             };
-            let mut labels = Vec::new(alloc);
+            let mut labels = Scopes::new(alloc);
             statement(alloc, g, here, here.depth(), &mut labels, s, 0, ways)
         }
     }

@@ -1,7 +1,8 @@
 // The graph of a statement (C11 6.8), made from its end to its beginning. A loop makes its turns from the last one to the
 // first (C11 6.8.5).
 
-ghost use Rattle.std.specs.Prelude.{◌≡◌, ◌+◌, length, take, IfOk, OnOk};
+ghost use Rattle.std.specs.Prelude.{◌≡◌, ◌+◌, ◌<◌, length, IfOk, OnOk};
+ghost use Rattle.scopes.specs.Frames as frames;
 ghost use Rattle.sc_gather.specs.Seen.{statements_of};
 ghost use Rattle.sc_world.specs.View.{exp, stm, start_of};
 ghost use Rattle.flow_graph.specs.Statements as spec;
@@ -13,11 +14,12 @@ use crate::conditions::{Tested, condition, dropped, dropped_if, lent, loop_condi
 use crate::growing::{Growing, added};
 use crate::initialisers::declarators;
 use crate::node::Node;
-use crate::targets::{Label, Ways, look};
+use crate::targets::{Ways, look, open_block};
 use sc_base::{List, OutOfMemory, Pos};
 use sc_gather::Context;
 use sc_typed::{TExpr, TForStart, TStmt};
 use sc_world::Reason;
+use scopes::Scopes;
 use std::alloc::Global;
 use sum_rows::What;
 
@@ -100,20 +102,19 @@ pub fn statement<'p>(
     g: &mut Growing<'p>,
     here: &Context<'p, '_>,
     depth: u32,
-    labels: &mut Vec<Label>,
+    labels: &mut Scopes<u32>,
     s: &'p TStmt,
     turn: u32,
     ways: Ways,
 ) -> Result<u32, OutOfMemory>
     ensures made { IfOk result (λ at. (at, seen.growing (seen.structs_of here.now) g.new)
-        ≡ spec.unroll_stm depth (stm (seen.structs_of here.now) s.now) turn (seen.targets ways labels.old.items) (seen.growing (seen.structs_of here.now) g.old)) }
-    ensures labels { OnOk result (labels.new.items ≡ labels.old.items) }
+        ≡ spec.unroll_stm depth (stm (seen.structs_of here.now) s.now) turn (seen.targets ways labels.old) (seen.growing (seen.structs_of here.now) g.old)) }
+    ensures labels { OnOk result (labels.new ≡ labels.old) }
 {
     match s {
         TStmt::Block(xs, _, _) => {
-            let before = labels.len();
             let opened = items(alloc, g, here, depth, labels, xs, turn, ways)?;
-            labels.truncate(before);
+            labels.drop_block();
             Ok(opened.at)
         }
         TStmt::Decl(ds, _) => declarators(g, here, ds.as_slice(), turn, ways.next),
@@ -163,7 +164,6 @@ pub fn statement<'p>(
             start(g, here, first, turn, at)
         }
         TStmt::Switch(e, xs, pos, _) => {
-            let before = labels.len();
             let within = Ways {
                 next: ways.next,
                 leave: ways.next,
@@ -171,7 +171,7 @@ pub fn statement<'p>(
                 lost: ways.lost,
             };
             let opened = items(alloc, g, here, depth, labels, xs, turn, within)?;
-            labels.truncate(before);
+            labels.drop_block();
             choose(g, here, e, *pos, turn, &opened, ways.next)
         }
         TStmt::Case(_, _, _) | TStmt::Default(_) => Ok(ways.next),
@@ -193,22 +193,24 @@ pub fn statement<'p>(
     }
 }
 
-// The items of a block or a `switch`, from the last one to the first. Their labels stand behind those that were there.
+// The items of a block or a `switch`, from the last one to the first. Their labels have a block of their own.
 #[cycle(statement)]
 fn items<'p>(
     alloc: Global,
     g: &mut Growing<'p>,
     here: &Context<'p, '_>,
     depth: u32,
-    labels: &mut Vec<Label>,
+    labels: &mut Scopes<u32>,
     xs: &'p List<TStmt>,
     turn: u32,
     ways: Ways,
 ) -> Result<Opened, OutOfMemory>
-    ensures made { IfOk result (λ o. (seen.opened o labels.new.items, seen.growing (seen.structs_of here.now) g.new)
-        ≡ spec.unroll_stms depth (statements_of (seen.structs_of here.now) xs.now) turn (seen.targets ways labels.old.items) (seen.growing (seen.structs_of here.now) g.old)) }
-    ensures front { OnOk result (take (length labels.old.items) labels.new.items ≡ labels.old.items) }
+    ensures made { IfOk result (λ o. (seen.opened o labels.new, seen.growing (seen.structs_of here.now) g.new)
+        ≡ spec.unroll_stms depth (statements_of (seen.structs_of here.now) xs.now) turn (seen.targets ways labels.old) (seen.growing (seen.structs_of here.now) g.old)) }
+    ensures round { OnOk result (frames.closed labels.new ≡ labels.old) }
+    ensures within { OnOk result (0 < length labels.new.blocks) }
 {
+    open_block(labels)?;
     let list = xs.as_slice();
     let mut opened = closed(alloc, ways);
     let mut k = list.len();
@@ -233,7 +235,7 @@ fn turns<'p>(
     g: &mut Growing<'p>,
     here: &Context<'p, '_>,
     depth: u32,
-    labels: &mut Vec<Label>,
+    labels: &mut Scopes<u32>,
     e: Option<&'p TExpr>,
     step: Option<&'p TExpr>,
     s: &'p TStmt,
@@ -243,8 +245,8 @@ fn turns<'p>(
 ) -> Result<u32, OutOfMemory>
     ensures made { IfOk result (λ at. (at, seen.growing (seen.structs_of here.now) g.new)
         ≡ steps.turns depth (seen.expression_if (seen.structs_of here.now) e.entry) (seen.expression_if (seen.structs_of here.now) step.entry)
-        (stm (seen.structs_of here.now) s.now) turn pos (seen.targets ways labels.old.items) (seen.growing (seen.structs_of here.now) g.old)) }
-    ensures labels { OnOk result (labels.new.items ≡ labels.old.items) }
+        (stm (seen.structs_of here.now) s.now) turn pos (seen.targets ways labels.old) (seen.growing (seen.structs_of here.now) g.old)) }
+    ensures labels { OnOk result (labels.new ≡ labels.old) }
 {
     let mut at = last_test(g, here, depth, e, turn, pos, ways.next)?;
     let mut t = depth;
@@ -271,7 +273,7 @@ fn do_turns<'p>(
     g: &mut Growing<'p>,
     here: &Context<'p, '_>,
     depth: u32,
-    labels: &mut Vec<Label>,
+    labels: &mut Scopes<u32>,
     s: &'p TStmt,
     e: &'p TExpr,
     turn: u32,
@@ -280,8 +282,8 @@ fn do_turns<'p>(
 ) -> Result<u32, OutOfMemory>
     ensures made { IfOk result (λ at. (at, seen.growing (seen.structs_of here.now) g.new)
         ≡ steps.do_turns depth (exp (seen.structs_of here.now) e.now) (stm (seen.structs_of here.now) s.now) turn pos
-        (seen.targets ways labels.old.items) (seen.growing (seen.structs_of here.now) g.old)) }
-    ensures labels { OnOk result (labels.new.items ≡ labels.old.items) }
+        (seen.targets ways labels.old) (seen.growing (seen.structs_of here.now) g.old)) }
+    ensures labels { OnOk result (labels.new ≡ labels.old) }
 {
     let mut at = g.put(
         here,

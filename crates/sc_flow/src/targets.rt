@@ -1,6 +1,7 @@
 // Where a statement goes on, and the labels that stand further on.
 
-ghost use Rattle.std.specs.Prelude.{◌≡◌, length, take, OnOk, ◌≤◌};
+ghost use Rattle.std.specs.Prelude.{◌≡◌, ◌<◌, length, OnOk};
+ghost use Rattle.scopes.specs.Frames as frames;
 ghost use Rattle.sc_world.specs.View.{stm};
 ghost use Rattle.flow_graph.specs.Statements as spec;
 ghost use Rattle.sc_flow.specs.Seen as seen;
@@ -8,13 +9,7 @@ ghost use Rattle.sc_flow.specs.Seen as seen;
 use sc_base::{NameId, OutOfMemory};
 use sc_gather::Context;
 use sc_typed::TStmt;
-
-/// A label that stands further on, with its node.
-#[derive(Clone, Copy)]
-pub struct Label {
-    pub name: NameId,
-    pub at: u32,
-}
+use scopes::Scopes;
 
 /// The nodes where a statement goes on: behind it, at a `break`, at a `continue`, and at a label that is nowhere.
 #[derive(Clone, Copy)]
@@ -25,37 +20,45 @@ pub struct Ways {
     pub lost: u32,
 }
 
-// The place of the nearest label of that name. The labels of a function are few.
-#[tactic(auto, unfolding(crate::specs::Seen::labels))]
-pub fn look(labels: &[Label], name: NameId, lost: u32) -> u32
+// The place of the nearest label of that name, by hash.
+#[tactic(auto, using(crate::proofs::Labels::look_some, crate::proofs::Labels::look_none))]
+pub fn look(labels: &Scopes<u32>, name: NameId, lost: u32) -> u32
     ensures { result ≡ spec.look name (seen.labels labels.now) lost }
 {
-    let mut k = labels.len();
-    while k > 0 {
-        k -= 1;
-        if name.at == labels[k].name.at {
-            return labels[k].at;
-        }
+    match labels.get(name) {
+        None => lost,
+        Some(at) => *at,
     }
-    lost
 }
 
-// The labels in front of a statement, which begins at that node.
-#[tactic(auto, unfolding(crate::specs::Seen::labels), using(crate::proofs::Nodes::put_step, crate::proofs::Labels::front_stays))]
+/// Opens a block with no label in it.
+#[tactic(auto, using(crate::proofs::Labels::none_more, crate::proofs::Labels::none_more_round, crate::proofs::Labels::none_more_open))]
+pub fn open_block(labels: &mut Scopes<u32>) -> Result<(), OutOfMemory>
+    ensures labels { OnOk result (seen.labels labels.new ≡ seen.labels labels.old) }
+    ensures round { OnOk result (frames.closed labels.new ≡ labels.old) }
+    ensures within { OnOk result (0 < length labels.new.blocks) }
+{
+    labels.open()
+}
+
+// The labels in front of a statement, which begins at that node. They are those of the innermost block.
+#[tactic(auto, using(crate::proofs::Labels::one_more, crate::proofs::Labels::one_more_round, crate::proofs::Labels::one_more_open))]
 pub fn name_labels(
-    labels: &mut Vec<Label>,
+    labels: &mut Scopes<u32>,
     here: &Context,
     s: &TStmt,
     at: u32,
 ) -> Result<(), OutOfMemory>
-    ensures labels { OnOk result (seen.labels labels.new.items ≡ spec.labels_of (stm (seen.structs_of here.now) s.now) at (seen.labels labels.old.items)) }
-    ensures front { OnOk result (take (length labels.old.items) labels.new.items ≡ labels.old.items) }
-    ensures longer { OnOk result (length labels.old.items ≤ length labels.new.items) }
+    requires { 0 < length labels.old.blocks }
+    ensures labels { OnOk result (seen.labels labels.new
+        ≡ spec.labels_of (stm (seen.structs_of here.now) s.now) at (seen.labels labels.old)) }
+    ensures round { OnOk result (frames.closed labels.new ≡ frames.closed labels.old) }
+    ensures within { OnOk result (0 < length labels.new.blocks) }
 {
     match s {
         TStmt::Label(name, x, _) => {
             name_labels(labels, here, x.get(), at)?;
-            labels.push(Label { name: *name, at })?;
+            labels.declare(*name, at)?;
             Ok(())
         }
         TStmt::Block(_, _, _)

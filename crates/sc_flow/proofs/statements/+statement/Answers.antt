@@ -14,7 +14,7 @@ statement-returns-in-While-clause-made t c =
     ∙ ap (λ y. While c.in-While.pos (exp structs c.in-While.e) (stm structs y)) (sym c.get-in-While.ensures) in
     subst (λ (r : ℕ × Growing). IfOk c.turns.result (λ at. (at, growing structs c.turns.new.g) ≡ r))
     (while_is c.args.depth c.args.turn (stm structs c.args.s.now) c.in-While.pos (exp structs c.in-While.e)
-    (stm structs c.get-in-While.result.now) (targets c.args.ways c.args.labels.now.items) (growing structs c.args.g.now) is)
+    (stm structs c.get-in-While.result.now) (targets c.args.ways c.args.labels.now) (growing structs c.args.g.now) is)
     c.turns.ensures.made
 
 pub statement-returns-in-Do-clause-made : goal.statement-returns-in-Do-clause-made
@@ -24,7 +24,7 @@ statement-returns-in-Do-clause-made t c =
     ∙ ap (λ y. Do c.in-Do.pos (stm structs y) (exp structs c.in-Do.e)) (sym c.get-in-Do.ensures) in
     subst (λ (r : ℕ × Growing). IfOk c.do_turns.result (λ at. (at, growing structs c.do_turns.new.g) ≡ r))
     (do_is c.args.depth c.args.turn (stm structs c.args.s.now) c.in-Do.pos (stm structs c.get-in-Do.result.now)
-    (exp structs c.in-Do.e) (targets c.args.ways c.args.labels.now.items) (growing structs c.args.g.now) is)
+    (exp structs c.in-Do.e) (targets c.args.ways c.args.labels.now) (growing structs c.args.g.now) is)
     c.do_turns.ensures.made
 
 pub statement-returns-in_ok-at-in-For-clause-made : goal.statement-returns-in_ok-at-in-For-clause-made
@@ -40,6 +40,6 @@ statement-returns-in_ok-at-in-For-clause-made t c =
     subst (λ (r : ℕ × Growing). IfOk c.start.result (λ at. (at, growing structs c.start.new.g) ≡ r))
     (for_is c.args.depth c.args.turn (stm structs c.args.s.now) c.in-For.pos (start_of structs c.in-For.first)
     (expression_if structs c.lent-in-For.result) (expression_if structs c.lent-in-For-2.result) (stm structs c.get-in-For.result.now)
-    (targets c.args.ways c.args.labels.now.items) (growing structs c.args.g.now) (growing structs c.turns-in-For.new.g)
+    (targets c.args.ways c.args.labels.now) (growing structs c.args.g.now) (growing structs c.turns-in-For.new.g)
     c.in_ok-at-in-For.at is c.in_ok-at-in-For.ensures.made)
     c.start.ensures

@@ -1,5 +1,6 @@
-use Rattle.std.proofs.Common.{◌≡◌, ◌+◌, ◌-◌, ◌≤◌, length, take, drop}
+use Rattle.std.proofs.Common.{◌≡◌, ◌+◌, ◌-◌, ◌<◌, ◌≤◌, length, drop}
 use Rattle.sc_gather.specs.Seen.{statements_of}
+use Rattle.scopes.specs.Frames.{closed}
 use Rattle.sc_world.specs.View.{exp, stm}
 use Rattle.sum_rows.specs.declared.report.What.TheVariants as what
 use Rattle.flow_graph.specs.Expressions.{unroll}
@@ -10,11 +11,11 @@ use Rattle.sc_flow.proofs.statements.+statement.Given as goal
 abbrev pub invariant-items-loop-k : goal.invariant-items-loop-k
 invariant-items-loop-k l = record {
   made :
-      (opened l.opened l.labels.items, growing (structs_of l.here) l.g)
-      ≡ spec.unroll_stms l.depth (statements_of (structs_of l.here) (drop l.k l.list)) l.turn (targets l.ways l.fn.labels.items)
+      (opened l.opened l.labels, growing (structs_of l.here) l.g)
+      ≡ spec.unroll_stms l.depth (statements_of (structs_of l.here) (drop l.k l.list)) l.turn (targets l.ways l.fn.labels)
       (growing (structs_of l.fn.here) l.fn.g);
-  front : take (length l.fn.labels.items) l.labels.items ≡ l.fn.labels.items;
-  longer : length l.fn.labels.items ≤ length l.labels.items;
+  round : closed l.labels ≡ l.fn.labels;
+  within : 0 < length l.labels.blocks;
   few : l.k ≤ length l.list;
 }
 
@@ -29,8 +30,8 @@ invariant-turns-loop-t l = record {
       (λ t. spec.test_or_true (expression_if (structs_of l.here) l.e) (spec.turn_of l.turn (l.depth + 1) t) l.pos)
       (λ t. spec.with_step (spec.unroll_stm l.depth (stm (structs_of l.here) l.s) (spec.turn_of l.turn l.depth t))
       (spec.dropped_if (expression_if (structs_of l.here) l.step) (spec.turn_of l.turn l.depth t)))
-      (targets l.ways l.fn.labels.items) (growing (structs_of l.fn.here) l.fn.g);
-  labels : l.labels.items ≡ l.fn.labels.items;
+      (targets l.ways l.fn.labels) (growing (structs_of l.fn.here) l.fn.g);
+  labels : l.labels ≡ l.fn.labels;
   few : l.t ≤ l.depth;
 }
 
@@ -44,8 +45,8 @@ invariant-do_turns-loop-t l = record {
       ≡ spec.do_turns (l.depth - l.t) l.t
       (λ t. spec.tested (unroll (exp (structs_of l.here) l.e) (spec.turn_of l.turn l.depth t)) l.pos what.Loop)
       (λ t. spec.unroll_stm l.depth (stm (structs_of l.here) l.s) (spec.turn_of l.turn l.depth t))
-      (targets l.ways l.fn.labels.items) (growing (structs_of l.fn.here) l.fn.g);
-  labels : l.labels.items ≡ l.fn.labels.items;
+      (targets l.ways l.fn.labels) (growing (structs_of l.fn.here) l.fn.g);
+  labels : l.labels ≡ l.fn.labels;
   few : l.t ≤ l.depth;
 }
 
