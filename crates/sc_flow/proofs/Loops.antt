@@ -1,6 +1,7 @@
 -- The turns of a loop, from the last one to the first.
 use Rattle.std.proofs.Common.{◌≡◌, ℕ, zero, suc, ◌+◌, ◌-◌, ◌<◌, ◌≤◌, Option, None, List, refl, sym, ap, ◌∙◌, arith}
 use Rattle.std.specs.Prelude.{Some}
+use Rattle.sc_base.specs.declared.pos.NameId.{NameId}
 use Rattle.sc_base.specs.declared.pos.Pos.{Pos}
 use Rattle.sc_typed.specs.declared.expr.TExpr.{TExpr}
 use Rattle.sc_typed.specs.declared.stmt.TForStart.{TForStart}
@@ -10,7 +11,7 @@ use Rattle.sc_typed.specs.declared.stmt.TStmt.TheVariants as variant
 use Rattle.sum_rows.specs.declared.report.What.TheVariants as what
 use Rattle.sc_world.specs.Source.{Struct}
 use Rattle.sc_world.specs.View.{exp, exp_if, start_of, stm, stm_step}
-use Rattle.sc_world.specs.Tree.{Exp, Start, Stm, While, Do, For}
+use Rattle.sc_world.specs.Tree.{Exp, Start, Stm, While, Do, For, Label}
 use Rattle.flow_graph.specs.Growing.{Build, Growing}
 use Rattle.flow_graph.specs.Expressions.{unroll}
 use Rattle.sc_flow.specs.Steps as steps
@@ -92,6 +93,11 @@ pub stm_for : (structs : List Struct) (f : TForStart) (c n : Option TExpr) (x : 
     → stm structs (variant.For f c n x p) ≡ For p (start_of structs f) (exp_if structs c) (exp_if structs n) (stm structs x)
 stm_for structs f c n x p =
     ap (stm structs) (sym (variant.rolls-For f c n x p)) ∙ fold-roll-TStmt Stm (stm_step structs) (TStmt-F.For f c n x p)
+
+pub stm_label : (structs : List Struct) (n : NameId) (x : TStmt) (p : Pos)
+    → stm structs (variant.Label n x p) ≡ Label n (stm structs x)
+stm_label structs n x p =
+    ap (stm structs) (sym (variant.rolls-Label n x p)) ∙ fold-roll-TStmt Stm (stm_step structs) (TStmt-F.Label n x p)
 
 pub while_is : (depth turn : ℕ) (x : Stm) (p : Pos) (e : Exp) (b : Stm) (k : Targets) (g : Growing) → x ≡ While p e b
     → steps.turns depth (Some e) None b turn p k g ≡ unroll_stm depth x turn k g
