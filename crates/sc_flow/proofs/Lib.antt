@@ -1,3 +1,4 @@
+pub mod Added
 pub mod Easy
 pub mod Labels
 pub mod Loops

@@ -33,6 +33,11 @@ cut_is f xs n =
     ∙ (drop-append_seam front (reverse (map f (take n xs)))
     ∙ sym (map_reverse f (take n xs))))
 
+-- the same, without its end
+pub rest_is : {A B : Type 0} (f : A → B) (xs : List A) (n : ℕ) → reverse (map f (take n xs))
+    ≡ drop (length (reverse (map f xs)) - n) (reverse (map f xs))
+rest_is f xs n = sym (cut_is f xs n ∙ map_reverse f (take n xs))
+
 abbrev first_of : {A : Type 0} → A → List A → A
 first_of d [] = d
 first_of d (x ∷ xs) = x

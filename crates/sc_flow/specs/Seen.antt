@@ -1,5 +1,5 @@
 -- What contracts see of the data of the code: as what the definitions are made of.
-use Rattle.std.specs.Prelude.{ℕ, Bool, true, false, Option, Some, None, List, [], ◌∷◌, ◌++◌, map, reverse}
+use Rattle.std.specs.Prelude.{ℕ, ◌-◌, Bool, true, false, Option, Some, None, List, [], ◌∷◌, ◌++◌, length, drop, map, reverse}
 use Rattle.sc_typed.specs.declared.expr.TExpr.{TExpr}
 use Rattle.sc_flow.specs.declared.node.Want.{Want}
 use Rattle.sc_flow.specs.declared.node.Want.TheVariants as want
@@ -88,6 +88,10 @@ node structs (code.SetAside reason) = graph.SetAside reason
 -- the newest node first
 unfoldable pub growing : List Struct → Growing → grow.Growing
 growing structs g = record { nodes = reverse (map (node structs) g.nodes.items); temps = g.temps; slots = g.slots }
+
+-- a graph without what was made since it had so many nodes and temps
+abbrev pub back : (nodes temps : ℕ) → grow.Growing → grow.Growing
+back n t g = record { nodes = drop (length g.nodes - n) g.nodes; temps = t; slots = g.slots }
 
 abbrev pub aim : Aim → part.Aim
 aim (aims.Into want temp next) = part.Into (want_of want) temp next

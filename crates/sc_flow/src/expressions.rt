@@ -1,7 +1,8 @@
 // The graph of an expression (C11 6.5). What reads the operands is made first, then the right operand, then the left one.
 
-ghost use Rattle.std.specs.Prelude.{◌≡◌, ◌+◌, IfOk};
+ghost use Rattle.std.specs.Prelude.{◌≡◌, ◌+◌, ◌&&◌, IfOk};
 ghost use Rattle.sc_gather.specs.Seen.{arguments_of};
+ghost use Rattle.sc_world.specs.Eval as eval;
 ghost use Rattle.sc_world.specs.View.{type, exp};
 ghost use Rattle.flow_graph.specs.Expressions as spec;
 ghost use Rattle.sc_flow.specs.Seen as seen;
@@ -19,6 +20,24 @@ use sc_gather::Context;
 use sc_tree::op::UnaryOp;
 use sc_typed::{TExpr, What};
 
+/// The node at which an expression begins, and whether one node does for it.
+#[derive(Clone, Copy)]
+struct Made {
+    at: u32,
+    easy: bool,
+}
+
+// Two operands, of which the left one is made last.
+fn both(left: Made, right: Made) -> Made
+    ensures at { result.at ≡ left.at }
+    ensures easy { result.easy ≡ left.easy && right.easy }
+{
+    Made {
+        at: left.at,
+        easy: left.easy && right.easy,
+    }
+}
+
 /// Makes an expression that goes on where `aim` says, in a turn of the loops round it: the node at which it begins.
 #[cycle(expression)]
 #[tactic(auto, using(crate::proofs::Easy::easy_is_kept, crate::proofs::Easy::hard_is))]
@@ -35,11 +54,38 @@ pub fn expression<'p>(
     if is_easy(here, e) {
         keep(g, here, Expression::Source(e), aim)
     } else {
-        hard(g, here, e, turn, aim)
+        let made = hard(g, here, e, turn, aim)?;
+        Ok(made.at)
     }
 }
 
-// An expression with a call, `&&`, `||` or `? :` in it.
+// Makes an operand, and tells whether it is easy. It is made as if it were not, since its own operands tell; where it is,
+// what was made is taken back. So each part of an expression is gone over once.
+#[cycle(expression)]
+#[tactic(auto, using(crate::proofs::Easy::easy_is_kept, crate::proofs::Easy::hard_is, crate::proofs::Added::back_is))]
+fn operand<'p>(
+    g: &mut Growing<'p>,
+    here: &Context<'p, '_>,
+    e: &'p TExpr,
+    turn: u32,
+    aim: Aim,
+) -> Result<Made, OutOfMemory>
+    ensures made { IfOk result (λ m. (m.at, seen.growing (seen.structs_of here.now) g.new)
+        ≡ spec.unroll (exp (seen.structs_of here.now) e.now) turn (seen.aim aim) (seen.growing (seen.structs_of here.now) g.old)) }
+    ensures easy { IfOk result (λ m. m.easy ≡ spec.easy (exp (seen.structs_of here.now) e.now)) }
+{
+    let before = g.reached(here);
+    let made = hard(g, here, e, turn, aim)?;
+    if made.easy {
+        g.take_back(here, before);
+        let at = keep(g, here, Expression::Source(e), aim)?;
+        Ok(Made { at, easy: true })
+    } else {
+        Ok(made)
+    }
+}
+
+// An expression as one with a call, `&&`, `||` or `? :` in it is made, and whether it is easy.
 #[cycle(expression)]
 fn hard<'p>(
     g: &mut Growing<'p>,
@@ -47,33 +93,36 @@ fn hard<'p>(
     e: &'p TExpr,
     turn: u32,
     aim: Aim,
-) -> Result<u32, OutOfMemory>
-    ensures { IfOk result (λ at. (at, seen.growing (seen.structs_of here.now) g.new)
+) -> Result<Made, OutOfMemory>
+    ensures made { IfOk result (λ m. (m.at, seen.growing (seen.structs_of here.now) g.new)
         ≡ steps.hard (exp (seen.structs_of here.now) e.now) turn (seen.aim aim) (seen.growing (seen.structs_of here.now) g.old)) }
+    ensures easy { IfOk result (λ m. m.easy ≡ spec.easy (exp (seen.structs_of here.now) e.now)) }
 {
     match &e.what {
         What::Comma(a, b) => {
-            let second = expression(g, here, b.get(), turn, aim)?;
+            let second = operand(g, here, b.get(), turn, aim)?;
             let x = g.fresh(here, 1)?;
-            expression(g, here, a.get(), turn, Aim::Into(Want::Value, x, second))
+            let first = operand(g, here, a.get(), turn, Aim::Into(Want::Value, x, second.at))?;
+            Ok(both(first, second))
         }
         What::Assign(op, works, a, b) => match operator(*op) {
             None => {
                 let s = read_two(g, here, e, aim)?;
-                let second = expression(
+                let second = operand(
                     g,
                     here,
                     b.get(),
                     turn,
                     Aim::Into(right_want(&e.ctype), s.right, s.next),
                 )?;
-                expression(
+                let first = operand(
                     g,
                     here,
                     a.get(),
                     turn,
-                    Aim::Into(Want::Place, s.left, second),
-                )
+                    Aim::Into(Want::Place, s.left, second.at),
+                )?;
+                Ok(both(first, second))
             }
             Some(op) => {
                 let updating = Updating {
@@ -82,55 +131,59 @@ fn hard<'p>(
                     ctype: &e.ctype,
                 };
                 let s = update(g, here, updating, aim)?;
-                let second = expression(
+                let second = operand(
                     g,
                     here,
                     b.get(),
                     turn,
                     Aim::Into(Want::Value, s.right, s.next),
                 )?;
-                let before = former(g, here, &e.ctype, s, second)?;
-                expression(
+                let before = former(g, here, &e.ctype, s, second.at)?;
+                let first = operand(
                     g,
                     here,
                     a.get(),
                     turn,
                     Aim::Into(Want::Place, s.place, before),
-                )
+                )?;
+                Ok(both(first, second))
             }
         },
         What::Cond(a, b, c) => {
             let hit = expression(g, here, b.get(), turn, aim)?;
             let miss = expression(g, here, c.get(), turn, aim)?;
-            expression(g, here, a.get(), turn, Aim::Test(hit, miss))
+            let at = expression(g, here, a.get(), turn, Aim::Test(hit, miss))?;
+            Ok(Made { at, easy: false })
         }
         What::Binary(op, a, b) => {
             if is_logical(*op) {
                 let c = sides_of(g, here, &e.ctype, aim)?;
                 let second = expression(g, here, b.get(), turn, Aim::Test(c.hit, c.miss))?;
                 let first = first_test(*op, second, c);
-                expression(g, here, a.get(), turn, first)
+                let at = expression(g, here, a.get(), turn, first)?;
+                Ok(Made { at, easy: false })
             } else {
                 let s = read_two(g, here, e, aim)?;
-                let second = expression(
+                let second = operand(
                     g,
                     here,
                     b.get(),
                     turn,
                     Aim::Into(Want::Value, s.right, s.next),
                 )?;
-                expression(
+                let first = operand(
                     g,
                     here,
                     a.get(),
                     turn,
-                    Aim::Into(Want::Value, s.left, second),
-                )
+                    Aim::Into(Want::Value, s.left, second.at),
+                )?;
+                Ok(both(first, second))
             }
         }
         What::Cast(a) | What::Convert(a) => {
             let s = read_one(g, here, e, aim)?;
-            expression(
+            operand(
                 g,
                 here,
                 a.get(),
@@ -141,7 +194,7 @@ fn hard<'p>(
         What::Unary(op, a) => match op {
             UnaryOp::Address => {
                 let k = goal_of(g, here, aim)?;
-                expression(
+                operand(
                     g,
                     here,
                     a.get(),
@@ -152,7 +205,7 @@ fn hard<'p>(
             UnaryOp::Deref | UnaryOp::Not | UnaryOp::Plus | UnaryOp::Minus | UnaryOp::Complement =>
                 {
                     let s = read_one(g, here, e, aim)?;
-                    expression(
+                    operand(
                         g,
                         here,
                         a.get(),
@@ -163,7 +216,7 @@ fn hard<'p>(
         },
         What::PreInc(_, a) | What::PostInc(_, a) => {
             let s = read_one(g, here, e, aim)?;
-            expression(
+            operand(
                 g,
                 here,
                 a.get(),
@@ -171,23 +224,30 @@ fn hard<'p>(
                 Aim::Into(Want::Place, s.operand, s.next),
             )
         }
-        What::SizeofExpr(_, _) => keep(g, here, Expression::Over(e, 0, 0), aim),
+        What::SizeofExpr(a, _) => {
+            let at = keep(g, here, Expression::Over(e, 0, 0), aim)?;
+            Ok(Made {
+                at,
+                easy: is_easy(here, a.get()),
+            })
+        }
         What::Index(a, b) => {
             let s = read_two(g, here, e, aim)?;
-            let second = expression(
+            let second = operand(
                 g,
                 here,
                 b.get(),
                 turn,
                 Aim::Into(Want::Value, s.right, s.next),
             )?;
-            expression(
+            let first = operand(
                 g,
                 here,
                 a.get(),
                 turn,
-                Aim::Into(operand_want(here, a.get()), s.left, second),
-            )
+                Aim::Into(operand_want(here, a.get()), s.left, second.at),
+            )?;
+            Ok(both(first, second))
         }
         What::Call(f, args) => {
             let calling = Calling {
@@ -198,16 +258,12 @@ fn hard<'p>(
             };
             let s = calls(g, here, calling, args, aim)?;
             let first = arguments(g, here, args, turn, s.operand, s.next)?;
-            if is_name(here, f.get()) {
-                Ok(first)
-            } else {
-                let x = g.fresh(here, 1)?;
-                expression(g, here, f.get(), turn, Aim::Into(Want::Value, x, first))
-            }
+            let at = callee(g, here, f.get(), turn, first)?;
+            Ok(Made { at, easy: false })
         }
         What::Field(a, _, _, arrow) => {
             let s = read_one(g, here, e, aim)?;
-            expression(
+            operand(
                 g,
                 here,
                 a.get(),
@@ -215,8 +271,14 @@ fn hard<'p>(
                 Aim::Into(arrow_want(*arrow), s.operand, s.next),
             )
         }
-        What::Temp(_) => keep(g, here, Expression::Nothing, aim),
-        What::TempPlace(_) => temp_place(g, here, &e.ctype, aim),
+        What::Temp(_) => {
+            let at = keep(g, here, Expression::Nothing, aim)?;
+            Ok(Made { at, easy: false })
+        }
+        What::TempPlace(_) => {
+            let at = temp_place(g, here, &e.ctype, aim)?;
+            Ok(Made { at, easy: false })
+        }
         What::SizeofType(_)
         | What::Param(_)
         | What::Local(_)
@@ -224,7 +286,31 @@ fn hard<'p>(
         | What::Function(_, _)
         | What::Int(_)
         | What::Char(_)
-        | What::Str(_) => keep(g, here, Expression::Source(e), aim),
+        | What::Str(_) => {
+            let at = keep(g, here, Expression::Source(e), aim)?;
+            Ok(Made { at, easy: true })
+        }
+    }
+}
+
+// What is called, where it is not a name, in front of the arguments: its value is kept in a temp that nobody reads.
+#[cycle(expression)]
+fn callee<'p>(
+    g: &mut Growing<'p>,
+    here: &Context<'p, '_>,
+    f: &'p TExpr,
+    turn: u32,
+    next: u32,
+) -> Result<u32, OutOfMemory>
+    ensures { IfOk result (λ at. (at, seen.growing (seen.structs_of here.now) g.new)
+        ≡ spec.called (eval.is_name (exp (seen.structs_of here.now) f.now)) (spec.unroll (exp (seen.structs_of here.now) f.now) turn) next
+        (seen.growing (seen.structs_of here.now) g.old)) }
+{
+    if is_name(here, f) {
+        Ok(next)
+    } else {
+        let x = g.fresh(here, 1)?;
+        expression(g, here, f, turn, Aim::Into(Want::Value, x, next))
     }
 }
 

@@ -1,6 +1,6 @@
 // A graph while it grows, from its end to its beginning. A node's number is how many nodes were there before it.
 
-ghost use Rattle.std.specs.Prelude.{◌≡◌, ◌+◌, List, IfOk};
+ghost use Rattle.std.specs.Prelude.{◌≡◌, ◌+◌, List, length, IfOk};
 ghost use Rattle.sc_world.specs.Source.{Struct};
 ghost use Rattle.flow_graph.specs.Growing as spec;
 ghost use Rattle.sc_flow.specs.Seen as seen;
@@ -16,6 +16,13 @@ pub struct Growing<'p> {
     pub nodes: Vec<Node<'p>>,
     pub temps: u32,
     pub slots: u32,
+}
+
+/// How far a graph has grown.
+#[derive(Clone, Copy)]
+pub struct Reached {
+    pub nodes: usize,
+    pub temps: u32,
 }
 
 // A count as one of 32 bits. More are answered as want of memory.
@@ -82,5 +89,27 @@ impl<'p> Growing<'p> {
         let first = self.slots;
         self.slots = added(first, n)?;
         Ok(first)
+    }
+
+    // How far it has grown.
+    #[tactic(auto, unfolding(crate::specs::Seen::growing), using(crate::proofs::Nodes::put_length))]
+    pub fn reached(&self, here: &Context) -> Reached
+        ensures nodes { result.nodes ≡ length (seen.growing (seen.structs_of here.now) self.now).nodes }
+        ensures temps { result.temps ≡ (seen.growing (seen.structs_of here.now) self.now).temps }
+    {
+        Reached {
+            nodes: self.nodes.len(),
+            temps: self.temps,
+        }
+    }
+
+    // Takes back what was made since it had grown so far.
+    #[tactic(auto, unfolding(crate::specs::Seen::growing), using(crate::proofs::Nodes::rest_is))]
+    pub fn take_back(&mut self, here: &Context, reached: Reached)
+        ensures { seen.growing (seen.structs_of here.now) self.new
+            ≡ seen.back reached.nodes reached.temps (seen.growing (seen.structs_of here.now) self.old) }
+    {
+        self.nodes.truncate(reached.nodes);
+        self.temps = reached.temps;
     }
 }
