@@ -6,11 +6,11 @@ use Rattle.std.proofs.Math.Seq.{drop-append_seam}
 use Rattle.sc_tree.specs.declared.op.BinaryOp.{BinaryOp}
 use Rattle.sc_tree.specs.declared.op.UnaryOp.{UnaryOp}
 use Rattle.sc_tree.specs.declared.op.UnaryOp.TheVariants as sign
-use Rattle.sc_world.specs.Tree.{Exp, Comma, Assign, Cond, Binary, Cast, Unary, PreInc, PostInc, SizeofExpr, SizeofType, Index, Call, Field, Param, Local, Global, Function, Number, Str, Convert, Temp, TempPlace, Exps, NoExps, Exps', Ty, type_of}
+use Rattle.sc_world.specs.Tree.{Exp, Comma, Assign, Cond, Binary, Cast, Unary, PreInc, PostInc, SizeofExpr, SizeofType, Index, Call, Field, Param, Local, Global, Function, Number, Str, Convert, Temp, TempPlace, Exps, NoExps, Exps', Ty}
 use Rattle.sc_world.specs.Eval.{Want, Value, Place', is_logical, is_name}
 use Rattle.flow_graph.specs.Nodes.{Node, Branch, Keep, CallOf, Update, Calling, Updating}
 use Rattle.flow_graph.specs.Growing.{Growing, Build, ◌>>=◌, pure, put, fresh, numbers}
-use Rattle.flow_graph.specs.Expressions.{Aim, Into, Test, Part, goal, kept, sides, logical, conditional, comma, address, called, nothing, as_scalar, count, unroll, unroll_all, easy, first_test}
+use Rattle.flow_graph.specs.Expressions.{Aim, Into, Test, Part, goal, kept, sides, logical, called, nothing, as_scalar, count, unroll, unroll_all, easy, first_test}
 use Rattle.sc_flow.specs.Over.{over}
 use Rattle.sc_flow.specs.Steps as steps
 use Rattle.sc_flow.specs.Seen.{back}

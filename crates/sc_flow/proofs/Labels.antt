@@ -2,8 +2,8 @@
 use Rattle.std.proofs.Common.{◌≡◌, ℕ, ◌<◌, Bool, true, false, nat_eq, Option, Some, None, List, [], ◌∷◌, ◌++◌, length, map, refl, sym, ap, ◌∙◌, arith}
 use Rattle.std.specs.Map.{lookup}
 use Rattle.sc_base.specs.declared.pos.NameId.{NameId}
-use Rattle.scopes.specs.Frames.{Frames, within, or_else, meaning, through as scopes_through, at_file, declared, opened, closed}
-use Rattle.flow_graph.specs.Statements.{Target, look}
+use Rattle.scopes.specs.Frames.{Frames, within, or_else, meaning, through as scopes_through, declared, opened, closed}
+use Rattle.flow_graph.specs.Statements.{look}
 use Rattle.sc_flow.specs.Seen.{target, through, labels}
 
 -- the node of a label, where there is one

@@ -1,6 +1,6 @@
 -- The expression of a node that reads kept operands: an expression of the text, whose operands are those that temps keep.
 -- Where an operand is an object, what is kept is its place.
-use Rattle.std.specs.Prelude.{ℕ, Bool, true, false, None, if◌then◌else◌}
+use Rattle.std.specs.Prelude.{ℕ, true, false, None, if◌then◌else◌}
 use Rattle.sc_world.specs.Tree.{is_array, Exp, Comma, Assign, Cond, Binary, Cast, Unary, PreInc, PostInc, SizeofExpr, SizeofType, Index, Call, Field, Param, Local, Global, Function, Number, Str, Convert, Temp, TempPlace, type_of}
 use Rattle.flow_graph.specs.Expressions.{is_scalar}
 

@@ -10,7 +10,7 @@ use Rattle.sc_world.specs.Tree.{Ty, is_array, Exp, Comma, Assign, Cond, Binary, 
 use Rattle.sc_world.specs.Eval.{Want, Value, Place', is_name, is_logical}
 use Rattle.flow_graph.specs.Nodes.{Node, Keep, CallOf, Update, Calling, Updating, Fill, Mark, MarkSwitch, Exit, SetAside}
 use Rattle.flow_graph.specs.Growing.{Build, ◌>>=◌, pure, put, fresh, fresh_slots, numbers}
-use Rattle.flow_graph.specs.Expressions.{Aim, Into, Part, Goal, goal, easy, is_scalar, as_scalar, kept, nothing, comma, logical, conditional, address, count, called, unroll, unroll_all, one as ones}
+use Rattle.flow_graph.specs.Expressions.{Aim, Into, Part, goal, easy, is_scalar, as_scalar, kept, nothing, comma, logical, conditional, address, count, called, unroll, unroll_all, one as ones}
 use Rattle.flow_graph.specs.Statements as stmt
 use Rattle.sc_flow.specs.Over.{over}
 use Rattle.sc_flow.specs.Seen as seen

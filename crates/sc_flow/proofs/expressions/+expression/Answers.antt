@@ -1,7 +1,6 @@
 -- An easy operand: what was made of it is taken back.
 use Rattle.std.proofs.Common.{◌≡◌, length, sym, ap, ◌∙◌}
 use Rattle.sc_world.specs.View.{exp}
-use Rattle.flow_graph.specs.Growing.{Growing}
 use Rattle.flow_graph.specs.Expressions.{kept}
 use Rattle.sc_flow.specs.Seen.{structs_of, growing, aim, back}
 use Rattle.sc_flow.proofs.Added.{back_is}

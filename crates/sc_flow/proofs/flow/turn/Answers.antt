@@ -1,4 +1,4 @@
-use Rattle.std.proofs.Common.{◌≡◌, ◌<◌, length, ap, ◌∙◌, add-one, arith, length-set}
+use Rattle.std.proofs.Common.{◌<◌, length, ap, ◌∙◌, add-one, arith, length-set}
 use Rattle.flow_graph.specs.Unrolled.{turned}
 use Rattle.sc_flow.specs.Seen.{node}
 use Rattle.sc_flow.proofs.Nodes.{turn_step, all_turned}

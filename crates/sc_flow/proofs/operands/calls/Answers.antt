@@ -1,5 +1,4 @@
 -- The count of the arguments is that of the list.
-use Rattle.std.proofs.Common.{◌≡◌}
 use Rattle.sc_flow.specs.Seen.{structs_of}
 use Rattle.sc_flow.proofs.Easy.{count_is}
 use Rattle.sc_flow.proofs.operands.calls.Goals as goal

@@ -1,4 +1,4 @@
-use Rattle.std.proofs.Common.{◌≡◌, ◌∷◌, ap, sym, ◌∙◌}
+use Rattle.std.proofs.Common.{◌∷◌, ap, sym, ◌∙◌}
 use Rattle.sc_world.specs.View.{stm}
 use Rattle.sc_world.specs.Tree.{Label}
 use Rattle.flow_graph.specs.Statements.{labels_of}
