@@ -1,6 +1,5 @@
 -- Switches, items one after another, and turns of loops.
-use Rattle.std.proofs.Common.{◌≡◌, ℕ, ◌+◌, ◌*◌, ◌-◌, ◌<◌, ◌≤◌, Option, List, length, drop, slice_index_or, sym, ap, subst, ◌∙◌, arith}
-use Rattle.std.proofs.Common.{Result}
+use Rattle.std.proofs.Common.{◌≡◌, ◌+◌, ◌-◌, ◌<◌, Option, List, Result, length, drop, slice_index_or, sym, ap, subst, ◌∙◌, arith}
 use Rattle.std.proofs.lemmas.Result.{err_from_is_err_and}
 use Rattle.sc_typed.specs.declared.stmt.TStmt.{TStmt}
 use Rattle.sc_world.specs.Layout.{Layout}
@@ -14,8 +13,8 @@ use Rattle.sc_world.specs.Exec.{exec_all, switch_by}
 use Rattle.run_room.specs.Room.{stm_room, stms_room}
 use Rattle.run_world.specs.Seen.{world, env, how_ended, cell, Does}
 use Rattle.run_inits.specs.Seen.{exp_of, most}
-use Rattle.run_stmts.specs.Loops.{behind_room, loop_turn, turns_room}
-use Rattle.run_stmts.specs.Room.{Fits, room_of, room_of_items, room_of_turn, room_of_turns}
+use Rattle.run_stmts.specs.Loops.{behind_room}
+use Rattle.run_stmts.specs.Room.{room_of, room_of_items}
 use Rattle.run_stmts.specs.Seen.{flow, flow_if, seek, seek_if, after, loop_of}
 use Rattle.run_stmts.specs.Trees.{stm_of, stms_of}
 use Rattle.run_stmts.proofs.Fits.{fits_less}
@@ -211,9 +210,10 @@ exec_loop-returns-in-Some-clause-done g t c =
     let l = loop_of (env here).source.structs c.args.tests in
     let t = c.loop-turn.turn in
     let low : t < (env here).source.depth = omega (arith, c.loop-turn-test.true, c.depth-turn-end.ensures) in
+    let ended = c.in_ok-loop_turn.ensures.done ∙ ap (λ o. done (flow_if o) (world c.loop_turn.new.world)) c.in-Some.is in
     sym c.loop-turn.invariant.executed
     ∙ loop_ends l c.args.pos (env here) (stm_of here c.args.body.now) (env here).source.depth t (flow c.in-Some.flow)
-    (world c.loop-turn.world) (world c.loop_turn.new.world) low c.in-Some.ensures.done
+    (world c.loop-turn.world) (world c.loop_turn.new.world) low ended
 
 pub loop_turn-behind_body-requires-clause-room : goal.loop_turn-behind_body-requires-clause-room
 loop_turn-behind_body-requires-clause-room g t c =
