@@ -1,5 +1,5 @@
 -- Switches, items one after another, and turns of loops.
-use Rattle.std.proofs.Common.{◌≡◌, ◌+◌, ◌-◌, ◌<◌, Option, List, Result, length, drop, slice_index_or, sym, ap, subst, ◌∙◌, arith}
+use Rattle.std.proofs.Common.{◌≡◌, ◌+◌, ◌<◌, Option, List, Result, length, drop, slice_index_or, sym, ap, subst, ◌∙◌, arith}
 use Rattle.std.proofs.lemmas.Result.{err_from_is_err_and}
 use Rattle.sc_typed.specs.declared.stmt.TStmt.{TStmt}
 use Rattle.sc_world.specs.Layout.{Layout}
