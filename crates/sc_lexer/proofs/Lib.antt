@@ -9,3 +9,4 @@ pub mod ScanProofs
 pub mod RemovalProofs
 pub mod LawProofs
 pub mod CutProofs
+mod NamingProofs

@@ -49,7 +49,7 @@ cut_empty names file zero before rest z = refl
 cut_empty names file (suc n) before [] z = refl
 cut_empty names file (suc n) before (c ∷ cs) z = absurd (omega arith)
 
-front_more : (at n : ℕ) (bytes : List ℕ) → take at bytes ++ take n (drop at bytes) ≡ take (at + n) bytes
+pub front_more : (at n : ℕ) (bytes : List ℕ) → take at bytes ++ take n (drop at bytes) ≡ take (at + n) bytes
 front_more at n bytes =
     let a : take at (take (at + n) bytes) ≡ take at bytes = take-take at (at + n) bytes (omega arith) in
     let b : drop at (take (at + n) bytes) ≡ take n (drop at bytes) = drop-take at n bytes in

@@ -1,5 +1,6 @@
 pub mod Texts
 pub mod Place
 pub mod Answer
+pub mod Naming
 pub mod OpenBrackets
 pub mod Laws

@@ -4,6 +4,7 @@
 ghost use Rattle.std.specs.Prelude.{◌≡◌, ◌+◌, ◌-◌, ◌^◌, ◌<◌, ◌≤◌, ◌++◌, [], length, IfOk, OnOk};
 ghost use Rattle.sc_tree.specs.Cut.{cut, token_of};
 ghost use Rattle.sc_lexer.specs.Answer.{Grow, Scans};
+ghost use Rattle.sc_lexer.specs.Naming.{with_words};
 
 use crate::answer::LexAnswer;
 use crate::pieces::piece;
@@ -34,6 +35,7 @@ pub(crate) fn scan(
     ensures tokens { Scans result (cut names.new file (length bytes.now) [] bytes.now) }
     ensures few { IfOk result (λ tokens. length tokens ≤ length bytes.now) }
     ensures names { Grow (length bytes.now) names.old names.new }
+    ensures named { IfOk result (λ _. names.new ≡ with_words (length bytes.now) names.old [] bytes.now) }
 {
     let mut tokens = List::new(alloc);
     let mut place = Place::start();

@@ -5,7 +5,9 @@ ghost use Rattle.std.specs.Prelude.{◌≡◌, ℕ, ◌-◌, ◌^◌, ◌<◌, �
 ghost use Rattle.std.specs.List.{list_all};
 ghost use Rattle.sc_tree.specs.Bytes.{is_word_byte};
 ghost use Rattle.sc_tree.specs.Cut.{kind_of, word_kind};
+ghost use Rattle.sc_tree.specs.Words as spelled;
 ghost use Rattle.sc_lexer.specs.Answer.{Grow};
+ghost use Rattle.sc_lexer.specs.Naming.{with_piece, with_word};
 ghost use Rattle.sc_lexer.specs.Texts.{HasText};
 
 use crate::tables::reserved;
@@ -29,6 +31,7 @@ fn word_kind(names: &mut Names, word: &[u8]) -> Result<Kind, OutOfMemory>
     requires room { length names.old < 2 ^ 32 - 1 }
     requires text { list_all is_word_byte word.now ≡ true }
     ensures kind { IfOk result (λ kind. (more : List (List ℕ)) → kind ≡ word_kind (names.new ++ more) word.now) }
+    ensures named { IfOk result (λ _. names.new ≡ with_word (spelled.reserved word.now) names.old word.now) }
     ensures names { Grow 1 names.old names.new }
 {
     if let Some(word) = reserved(word) {
@@ -47,6 +50,7 @@ pub(crate) fn kind_of(
     requires room { length names.old < 2 ^ 32 - 1 }
     requires text { HasText form text.now }
     ensures kind { IfOk result (λ kind. (more : List (List ℕ)) → kind ≡ kind_of (names.new ++ more) form text.now) }
+    ensures named { IfOk result (λ _. names.new ≡ with_piece form names.old text.now) }
     ensures names { Grow 1 names.old names.new }
 {
     match form {

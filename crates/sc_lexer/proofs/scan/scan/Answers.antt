@@ -7,6 +7,7 @@ use Rattle.sc_lexer.specs.declared.place.Place.{Place}
 use Rattle.sc_lexer.proofs.PlaceProofs.{pos_is, place_room}
 use Rattle.sc_lexer.proofs.WordProofs.{grow_more, grow_at_most}
 use Rattle.sc_lexer.proofs.ScanProofs.{so_far_more, so_far_ends, so_far_out, so_far_stops, past_is, token_more}
+use Rattle.sc_lexer.proofs.NamingProofs.{named_more, named_ends, named_out}
 use Rattle.sc_lexer.proofs.scan.scan.Goals as goal
 
 pub returns-then-at-end-clause-tokens : goal.returns-then-at-end-clause-tokens
@@ -64,7 +65,19 @@ loop-preserved c =
           c.in_ok-kind.kind c.kind_of.ensures.names c.split_at.ensures.back c.split_at-in-loop.ensures.front c.in_ok-kind.ensures.kind
           c.loop-test.true (omega (arith, c.split_at.ensures.back_len)) is_piece longer c.loop.invariant.3,
       token_more c.loop.tokens c.push.new.tokens c.in_ok-kind.kind c.pos-in-loop.result c.loop.counter c.in_ok-push.ensures c.loop.invariant.4,
+      named_more c.args.names.now c.loop.names c.kind_of.new.names c.loop.counter c.loop.at bytes rest text p
+          c.split_at.ensures.back c.split_at-in-loop.ensures.front c.in_ok-kind.ensures.named
+          c.loop-test.true (omega (arith, c.split_at.ensures.back_len)) is_piece c.loop.invariant.5,
     )
 
 pub returns-clause-tokens : goal.returns-clause-tokens
 returns-clause-tokens c = so_far_out c.loop.names c.args.file c.loop.counter c.loop.at c.args.bytes.now c.loop.tokens c.loop-test.false c.loop.invariant.3
+
+pub returns-then-at-end-clause-named : goal.returns-then-at-end-clause-named
+returns-then-at-end-clause-named c =
+    let bytes = c.args.bytes.now in
+    let z : length (drop c.loop.at bytes) ≡ 0 = omega (arith, length-drop c.loop.at bytes) in
+    named_ends c.args.names.now c.loop.names c.loop.counter c.loop.at bytes z c.loop.invariant.5
+
+pub returns-clause-named : goal.returns-clause-named
+returns-clause-named c = named_out c.args.names.now c.loop.names c.loop.counter c.loop.at c.args.bytes.now c.loop-test.false c.loop.invariant.5
