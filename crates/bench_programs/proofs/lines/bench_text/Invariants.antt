@@ -1,5 +1,5 @@
 -- The text so far, with the lines that are left, is the whole text.
-use Rattle.std.proofs.Common.{◌≡◌, ◌×◌, ◌≤◌}
+use Rattle.std.proofs.Common.{◌≡◌, ◌≤◌}
 use Rattle.bench_programs.specs.Programs.{first_line, function_text}
 use Rattle.bench_programs.proofs.Behind.{all_lines}
 use Rattle.bench_programs.proofs.lines.bench_text.Given as goal
