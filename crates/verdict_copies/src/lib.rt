@@ -5,4 +5,4 @@ mod reports;
 mod summaries;
 mod verdicts;
 
-pub use verdicts::copy;
+pub use verdicts::{copies, copy};
