@@ -1,0 +1,176 @@
+//! Calls that act by a summary, which is written by hand.
+
+use crate::runs::{Given, checked, replayed};
+use sc_base::{List, OutOfMemory};
+use std::alloc::Global;
+use std::test::*;
+use sum_rows::{Gives, Item, ItemRows, Path, Root, Row, State, Step, Summary, Verdict, Write};
+
+const UNLOCKED: State = State::At(0);
+
+const LOCKED: State = State::At(1);
+
+// What the parameter with that number points to.
+fn behind(alloc: Global, param: u32) -> Result<Path, OutOfMemory> {
+    let steps = vec![in alloc; Step::Deref]?;
+    Ok(Path {
+        root: Root::Param(param),
+        steps: List::from_vec(steps),
+    })
+}
+
+fn row(given: u8, before: State, after: State) -> Row {
+    Row {
+        given,
+        before,
+        result: Gives::Nothing,
+        after,
+    }
+}
+
+fn item(alloc: Global, item: Item, rows: &[Row]) -> Result<ItemRows, OutOfMemory> {
+    let mut list = List::new(alloc);
+    for row in rows {
+        list.push(*row)?;
+    }
+    Ok(ItemRows { item, rows: list })
+}
+
+// The end of a function with one row.
+fn ends(alloc: Global, given: u8) -> Result<ItemRows, OutOfMemory> {
+    item(alloc, Item::Exit, &[row(given, State::Nil, State::Nil)])
+}
+
+fn done(alloc: Global, bits: u8, items: Vec<ItemRows>, writes: List<Write>) -> Verdict {
+    let summary = Summary {
+        bits,
+        items: List::from_vec(items),
+        writes,
+    };
+    Verdict::Done(summary, List::new(alloc))
+}
+
+// The verdict of `void g(spinlock_t*l){spin_lock(l);}`.
+fn locks_once(alloc: Global) -> Result<Verdict, OutOfMemory> {
+    let rows = [row(1, UNLOCKED, LOCKED), row(1, LOCKED, State::Bad)];
+    let locks = item(alloc, Item::Lock(behind(alloc, 0)?), &rows)?;
+    let items = vec![in alloc; ends(alloc, 1)?, locks]?;
+    Ok(done(alloc, 1, items, List::new(alloc)))
+}
+
+// The verdict of `void g(spinlock_t*a,spinlock_t*b){spin_lock(a);spin_lock(b);}`.
+fn locks_both(alloc: Global) -> Result<Verdict, OutOfMemory> {
+    let of_a = [
+        row(2, LOCKED, State::Bad),
+        row(3, UNLOCKED, LOCKED),
+        row(3, LOCKED, State::Bad),
+    ];
+    let of_b = [row(3, UNLOCKED, LOCKED), row(3, LOCKED, State::Bad)];
+    let a = item(alloc, Item::Lock(behind(alloc, 0)?), &of_a)?;
+    let b = item(alloc, Item::Lock(behind(alloc, 1)?), &of_b)?;
+    let items = vec![in alloc; ends(alloc, 3)?, a, b]?;
+    Ok(done(alloc, 2, items, List::new(alloc)))
+}
+
+// The verdict of `void mk(char**o){*o=kmalloc(4,0);}`.
+fn makes_one(alloc: Global) -> Result<Verdict, OutOfMemory> {
+    let rows = [
+        row(1, State::Nil, State::Null),
+        row(1, State::Nil, State::Fresh),
+    ];
+    let out = item(alloc, Item::Out(0), &rows)?;
+    let items = vec![in alloc; ends(alloc, 1)?, out]?;
+    let mut writes = List::new(alloc);
+    writes.push(Write {
+        path: behind(alloc, 0)?,
+        width: 0,
+    })?;
+    Ok(done(alloc, 1, items, writes))
+}
+
+// The text of a run of the second function of a file, which uses the summary of the first.
+fn second(alloc: Global, text: &str, verdict: Verdict, choice: &str) -> Result<Vec<u8>, Fail> {
+    let program = checked(alloc, text)?;
+    let verdicts = vec![in alloc; verdict]?;
+    let given = Given {
+        program: &program,
+        function: 1,
+        kept: &[0],
+        verdicts: verdicts.as_slice(),
+    };
+    replayed(alloc, given, choice)
+}
+
+const TWICE: &str =
+    "typedef struct{int v;}spinlock_t;\nvoid g(spinlock_t*l){spin_lock(l);}\nvoid h(spinlock_t*l){g(l);g(l);}";
+
+/// A choice of a run of it, and the text of that run.
+const CALLS: [(&str, &str); 5] = [
+    (
+        "98",
+        "3:22 call g\n3:27 call g\n3:27 error *l\noutcome error *l\n",
+    ),
+    ("e0", "3:22 call g\n3:22 error *l\noutcome error *l\n"),
+    ("80", "3:22 call g\noutcome aside norow\n"),
+    ("00", "3:22 call g\noutcome aside norow\n"),
+    ("90", "3:22 call g\n3:27 call g\noutcome aside norow\n"),
+];
+
+#[test]
+fn a_lock_is_taken_twice_by_calls(rt: HostRuntime) -> Result<(), Fail> {
+    for (choice, want) in CALLS {
+        let verdict = locks_once(rt.alloc())?;
+        let found = second(rt.alloc(), TWICE, verdict, choice)?;
+        assert_eq!(rt; found.as_slice(), want.as_bytes(), "{choice}");
+    }
+    Ok(())
+}
+
+const SAME: &str =
+    "typedef struct{int v;}spinlock_t;\nvoid g(spinlock_t*a,spinlock_t*b){spin_lock(a);spin_lock(b);}\nvoid h(spinlock_t*p){g(p,p);}";
+
+/// A choice of a run of it, and the text of that run.
+const ALIASES: [(&str, &str); 3] = [
+    ("80", "3:22 call g\noutcome aside alias\n"),
+    ("c0", "3:22 call g\noutcome aside alias\n"),
+    ("00", "3:22 call g\noutcome aside norow\n"),
+];
+
+#[test]
+fn two_paths_lead_to_one_lock(rt: HostRuntime) -> Result<(), Fail> {
+    for (choice, want) in ALIASES {
+        let verdict = locks_both(rt.alloc())?;
+        let found = second(rt.alloc(), SAME, verdict, choice)?;
+        assert_eq!(rt; found.as_slice(), want.as_bytes(), "{choice}");
+    }
+    Ok(())
+}
+
+const MAKER: &str =
+    "void mk(char**o){*o=kmalloc(4,0);}\nvoid use(_Bool c){char*p;mk(&p);if(c)kfree(p);}";
+
+/// A choice of a run of it, and the text of that run.
+const OUTS: [(&str, &str); 6] = [
+    ("000", "2:26 call mk\n2:33 if 0\n2:47 end\noutcome exit\n"),
+    ("200", "2:26 call mk\n2:33 if 0\n2:47 end\noutcome exit\n"),
+    ("400", "2:26 call mk\noutcome aside norow\n"),
+    ("600", "2:26 call mk\noutcome aside norow\n"),
+    (
+        "a00",
+        "2:26 call mk\n2:33 if 1\n2:38 call kfree\n2:47 end\noutcome exit\n",
+    ),
+    (
+        "800",
+        "2:26 call mk\n2:33 if 1\n2:38 call kfree\n2:47 end\noutcome exit\n",
+    ),
+];
+
+#[test]
+fn an_object_is_given_through_a_parameter(rt: HostRuntime) -> Result<(), Fail> {
+    for (choice, want) in OUTS {
+        let verdict = makes_one(rt.alloc())?;
+        let found = second(rt.alloc(), MAKER, verdict, choice)?;
+        assert_eq!(rt; found.as_slice(), want.as_bytes(), "{choice}");
+    }
+    Ok(())
+}
