@@ -31,12 +31,8 @@ fn call(shape: Shape) -> Option<&'static [u8]>
     match shape {
         Shape::Unlocks => Some(b"(spinlock_t*l){f"),
         Shape::Frees => Some(b"(int n){char*p=f"),
-        Shape::Paired
-        | Shape::Twice
-        | Shape::Tries
-        | Shape::Loses
-        | Shape::Locks
-        | Shape::Makes => None,
+        Shape::Paired | Shape::Twice | Shape::Tries | Shape::Loses | Shape::Locks | Shape::Makes =>
+            None,
     }
 }
 

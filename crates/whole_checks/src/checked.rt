@@ -74,7 +74,12 @@ fn verdicts_of(
 }
 
 // What is said of a typed program.
-fn say_program(alloc: Global, program: &Program, depth: u32, reach: u32) -> Result<Said, OutOfMemory>
+fn say_program(
+    alloc: Global,
+    program: &Program,
+    depth: u32,
+    reach: u32,
+) -> Result<Said, OutOfMemory>
     requires whole { HasWholeMachine program.now.machine }
     ensures { IfOk result (λ s. seen.said s ≡ said_of_program program.now depth reach) }
 {
@@ -126,7 +131,9 @@ pub fn say(
 {
     match check(alloc, names, files, units, widths, machine) {
         Ok(program) => say_program(alloc, &program, depth, reach),
-        Err(CheckAnswer::Duplicate(names, name)) => Ok(Said::Twice(name_text(alloc, &names, name)?)),
+        Err(CheckAnswer::Duplicate(names, name)) => Ok(Said::Twice(name_text(
+            alloc, &names, name,
+        )?)),
         Err(CheckAnswer::Limit(kind, count)) => Ok(Said::Beyond(kind, count)),
         Err(CheckAnswer::OutOfMemory) => Err(OutOfMemory),
     }

@@ -9,6 +9,6 @@ loop-number-preserved c =
     let n = c.loop-number.number in (
       omega (arith, c.loop-number-test.true),
       ap (λ (front : List ℕ). all_lines line front (n + 1) c.args.count) c.in_ok-put_function.ensures
-      ∙ one_more line c.loop-number.out.items n c.args.count c.loop-number-test.true
-      ∙ c.loop-number.invariant.1,
+          ∙ one_more line c.loop-number.out.items n c.args.count c.loop-number-test.true
+          ∙ c.loop-number.invariant.1,
     )
