@@ -91,10 +91,10 @@ pub fn with_file<'a, F: Files>(
     input: Input,
     name: &'a str,
 ) -> Result<Input, Refusal<'a>>
-    requires open { IsOpen input }
+    requires room { IsOpen input }
     requires few { length input.units < most_files }
     ensures added { IfOk result (Adds (F.held files.old) name.entry.now input) }
-    ensures open { IfOk result (λ more. IsOpen more) }
+    ensures room { IfOk result (λ more. IsOpen more) }
     ensures refused { IfErr result (RefuseFile (record { held = F.held files.old; firm = F.firm files.old; faults_before = F.faults files.old; faults_after = F.faults files.new }) input name.entry.now) }
     ensures held { F.held files.new ≡ F.held files.old }
     ensures firm { F.firm files.new ≡ F.firm files.old }

@@ -29,7 +29,7 @@ pub fn with_machine<'a, F: Files>(
     name: &'a str,
 ) -> Result<Input, Refusal<'a>>
     ensures begins { IfOk result (Begins (F.held files.old) (Some name.entry.now)) }
-    ensures open { IfOk result (λ input. IsOpen input × (input.units ≡ [])) }
+    ensures room { IfOk result (λ input. IsOpen input × (input.units ≡ [])) }
     ensures refused { IfErr result (RefuseMachine (record { held = F.held files.old; firm = F.firm files.old; faults_before = F.faults files.old; faults_after = F.faults files.new }) name.entry.now) }
     ensures held { F.held files.new ≡ F.held files.old }
     ensures firm { F.firm files.new ≡ F.firm files.old }

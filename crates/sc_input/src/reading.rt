@@ -19,7 +19,7 @@ fn with_files<'a, F: Files>(
     start: Input,
     named: &[&'a str],
 ) -> Result<Input, Refusal<'a>>
-    requires open { IsOpen start }
+    requires room { IsOpen start }
     requires first { start.units ≡ [] }
     requires few { length named.now ≤ most_files }
     ensures read { IfOk result (Give (F.held files.old) start (map (λ name. name.now) named.now)) }
@@ -42,7 +42,7 @@ fn begun<'a, F: Files>(
     machine: Option<&'a str>,
 ) -> Result<Input, Refusal<'a>>
     ensures begins { IfOk result (Begins (F.held files.old) (option_map (λ name. name.now) machine.entry)) }
-    ensures open { IfOk result (λ input. IsOpen input × (input.units ≡ [])) }
+    ensures room { IfOk result (λ input. IsOpen input × (input.units ≡ [])) }
     ensures refused { IfErr result (RefuseBegin (record { held = F.held files.old; firm = F.firm files.old; faults_before = F.faults files.old; faults_after = F.faults files.new }) (option_map (λ name. name.now) machine.entry)) }
     ensures held { F.held files.new ≡ F.held files.old }
     ensures firm { F.firm files.new ≡ F.firm files.old }

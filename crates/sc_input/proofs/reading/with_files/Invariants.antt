@@ -5,7 +5,7 @@ use Rattle.sc_input.proofs.reading.with_files.Given as goal
 -- the files so far are read, and nothing else is different outside
 abbrev pub invariant-loop-name : goal.invariant-loop-name
 invariant-loop-name g l = record {
-  open : IsOpen l.input;
+  room : IsOpen l.input;
   count : length l.input.units ≡ l.name-index;
   read : Give (g.F.Files.held l.fn.files) l.start (map (λ name. name.now) (take l.name-index l.named)) l.input;
   held : g.F.Files.held l.files ≡ g.F.Files.held l.fn.files;
