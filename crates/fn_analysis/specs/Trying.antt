@@ -8,19 +8,19 @@ use Rattle.sc_world.specs.Paths.{Texts}
 use Rattle.sc_world.specs.Programs.{machine_or_locks}
 use Rattle.sc_world.specs.Shows.{Query}
 use Rattle.sc_world.specs.Verdict.{shows}
+use Rattle.program_verdicts.specs.Verdicts.{texts}
 use Rattle.layout_base.specs.Seen as laid
-use Rattle.location_texts.specs.Seen as named
 use Rattle.fn_analysis.specs.declared.runs.Runs.{Runs}
 
 -- the function, what its locations are called, and its layout
 abbrev pub source_of : Runs → Source
 source_of r = (laid.ground_of r.machine.given).source
 
-abbrev pub texts_of : Runs → Texts
-texts_of r = named.texts r.texts
-
 abbrev pub layout_of : Runs → Layout
-layout_of r = (texts_of r).layout
+layout_of r = laid.layout_of r.machine.places.now
+
+abbrev pub texts_of : Runs → Texts
+texts_of r = texts r.program.now r.function.now (layout_of r)
 
 -- whether the run on a list of choices answers yes
 unfoldable pub passing : Runs → Query → List Bool → Bool

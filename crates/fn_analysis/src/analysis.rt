@@ -1,11 +1,13 @@
 // The verdict of a function.
 
-ghost use Rattle.std.specs.Prelude.{◌≡◌, IfOk, Some, slice_get};
+ghost use Rattle.std.specs.Prelude.{◌≡◌, IfOk, Ok, Some, slice_get};
 ghost use Rattle.sc_base.specs.declared.skip.Skip.TheVariants as skip;
 ghost use Rattle.sum_rows.specs.declared.report.Verdict.TheVariants as verdicts;
 ghost use Rattle.fsm_spec.specs.Table.{IsWhole};
 ghost use Rattle.sc_gather.specs.Seen as seen;
 ghost use Rattle.sc_world.specs.Verdict as spec;
+ghost use Rattle.sc_world.specs.Places.{places};
+ghost use Rattle.layout_base.specs.Seen as laid;
 ghost use Rattle.program_verdicts.specs.Verdicts.{texts, verdict_given};
 ghost use Rattle.fn_analysis.specs.Trying.{HasWholeMachine};
 
@@ -43,12 +45,12 @@ fn tried<'p>(
     alloc: Global,
     here: &Context<'p, '_>,
     function: &'p Function,
-    laid: &Places<'p>,
+    layout: &Places<'p>,
 ) -> Result<Verdict, OutOfMemory>
     requires whole { IsWhole (seen.source_of here.now).machine }
-    requires laid { spec.places (seen.source_of here.now) ≡ Ok (laid.layout_of laid.now) }
-    ensures { IfOk result (λ v. v ≡ spec.done_with (seen.source_of here.now) (texts here.now.program.now function.now (laid.layout_of laid.now))
-        (spec.answers (seen.source_of here.now) (texts here.now.program.now function.now (laid.layout_of laid.now)))) }
+    requires laid { places (seen.source_of here.now) ≡ Ok (laid.layout_of layout.now) }
+    ensures { IfOk result (λ v. v ≡ spec.done_with (seen.source_of here.now) (texts here.now.program.now function.now (laid.layout_of layout.now))
+        (spec.answers (seen.source_of here.now) (texts here.now.program.now function.now (laid.layout_of layout.now)))) }
 {
     layouts_are_closed();
     let found = match gather(alloc, here) {
@@ -62,7 +64,7 @@ fn tried<'p>(
     let names = Texts {
         program: here.program,
         function,
-        places: laid,
+        places: layout,
     };
     let mut asks = Trying::new(alloc, given, names)?;
     verdict(alloc, here, &names, &mut asks)
@@ -86,7 +88,7 @@ fn of_body<'p>(
         here.depth,
         here.reach,
     ) {
-        Ok(laid) => tried(alloc, here, function, &laid),
+        Ok(layout) => tried(alloc, here, function, &layout),
         Err(PlaceAnswer::Limit(kind, _)) => Ok(beyond(kind)),
         Err(PlaceAnswer::OutOfMemory) => Err(OutOfMemory),
     }

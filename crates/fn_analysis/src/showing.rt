@@ -2,20 +2,31 @@
 
 ghost use Rattle.std.specs.Prelude.{◌≡◌, IfOk};
 ghost use Rattle.sc_world.specs.Verdict as spec;
-ghost use Rattle.layout_base.specs.Seen as laid;
+ghost use Rattle.location_texts.specs.Seen as named;
 ghost use Rattle.run_questions.specs.Seen.{query};
 ghost use Rattle.sc_interp.specs.Seen.{ended};
 ghost use Rattle.fn_analysis.specs.Trying.{passing, source_of, texts_of, layout_of, AreOf};
 
 use crate::runs::Runs;
-use location_texts::text_at;
+use location_texts::{Texts, text_at};
 use run_answers::says;
 use run_questions::Query;
 use sc_base::{List, OutOfMemory};
 use sc_interp::Outcome;
 use sum_rows::Shown;
 
-impl Runs<'_, '_, '_> {
+impl<'p, 'f> Runs<'p, '_, 'f> {
+    /// What its locations are called.
+    fn texts(&self) -> Texts<'p, 'f>
+        ensures { named.texts result ≡ texts_of self.now }
+    {
+        Texts {
+            program: self.program,
+            function: self.function,
+            places: self.machine.places,
+        }
+    }
+
     /// Whether the run on this choice answers yes.
     #[tactic(auto, unfolding(crate::specs::Trying::passing))]
     pub fn says(&mut self, asked: Query, choice: &[bool]) -> Result<bool, OutOfMemory>
@@ -25,7 +36,7 @@ impl Runs<'_, '_, '_> {
         let outcome = self.machine.run(choice);
         says(
             self.alloc,
-            &self.texts,
+            &self.texts(),
             &self.machine.over(choice, outcome),
             asked,
         )
@@ -37,7 +48,7 @@ impl Runs<'_, '_, '_> {
     {
         match outcome {
             Outcome::Error(at) | Outcome::Inner(at) => {
-                Ok(List::from_vec(text_at(self.alloc, &self.texts, at)?))
+                Ok(List::from_vec(text_at(self.alloc, &self.texts(), at)?))
             }
             Outcome::Exit(_) | Outcome::Aside(_) => Ok(List::new(self.alloc)),
         }

@@ -24,7 +24,7 @@ pub struct Trying<'p, 'm, 'f> {
     runs: Runs<'p, 'm, 'f>,
     // room for one choice
     choice: Vec<bool>,
-    ghost long: { length choice.items ≡ (named.texts runs.texts).layout.bits },
+    ghost long: { length choice.items ≡ (layout_of runs).bits },
 }
 
 // So many bits that are not set.
@@ -67,7 +67,8 @@ impl<'p, 'm, 'f> Trying<'p, 'm, 'f> {
             runs: Runs {
                 alloc,
                 machine,
-                texts,
+                program: texts.program,
+                function: texts.function,
             },
             choice,
         })
