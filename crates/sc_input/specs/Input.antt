@@ -66,7 +66,7 @@ pub record IsTree (names : List (List ℕ)) (file : ℕ) (bytes : List ℕ) (uni
   pub tokens : List Token
   pub ends : List ℕ
   pub cut : lexed names file bytes ≡ Lexemes tokens ends
-  pub file : unit.file ≡ file
+  pub numbered : unit.file ≡ file
   pub segments : AllFit [] tokens 0 ends unit.segments
 
 -- What one more file makes of what was read before it: its name and then its words are names, its bytes count, and its

@@ -1,6 +1,6 @@
 // What is read, and one more file.
 
-ghost use Rattle.std.specs.Prelude.{◌≡◌, ◌<◌, ◌≤◌, ◌+◌, ◌^◌, IfErr, IfOk, length};
+ghost use Rattle.std.specs.Prelude.{◌≡◌, ◌<◌, ◌≤◌, ◌+◌, ◌-◌, ◌^◌, IfErr, IfOk, length};
 ghost use Rattle.sc_lexer.specs.Answer.{Grow};
 ghost use Rattle.sc_lexer.specs.Naming.{named};
 ghost use Rattle.sc_input.specs.Input.{most_bytes, most_files, Adds, Fit, IsOpen, IsTree};
