@@ -174,3 +174,38 @@ fn an_object_is_given_through_a_parameter(rt: HostRuntime) -> Result<(), Fail> {
     }
     Ok(())
 }
+
+const CYCLE: &str = "void g(int n);void f(int n){if(n)g(n-1);}void g(int n){f(n);}";
+
+/// A choice of a run of it, and the text of that run.
+const KEPT: [(&str, &str); 2] = [
+    (
+        "00000001",
+        "1:29 if 1\n1:34 call g\n1:41 end\noutcome exit\n",
+    ),
+    ("00000002", "1:29 if 1\n1:34 call g\noutcome aside norow\n"),
+];
+
+// The text of a run of the first function of a file, whose call of the second one is kept. That one comes to its end
+// where it is given 0.
+fn kept(alloc: Global, choice: &str) -> Result<Vec<u8>, Fail> {
+    let program = checked(alloc, CYCLE)?;
+    let items = vec![in alloc; ends(alloc, 0)?]?;
+    let verdicts = vec![in alloc; done(alloc, 1, items, List::new(alloc))]?;
+    let given = Given {
+        program: &program,
+        function: 0,
+        kept: &[1],
+        verdicts: verdicts.as_slice(),
+    };
+    replayed(alloc, given, choice)
+}
+
+#[test]
+fn an_edge_of_a_cycle_is_kept(rt: HostRuntime) -> Result<(), Fail> {
+    for (choice, want) in KEPT {
+        let found = kept(rt.alloc(), choice)?;
+        assert_eq!(rt; found.as_slice(), want.as_bytes(), "{choice}");
+    }
+    Ok(())
+}

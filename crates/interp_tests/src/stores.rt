@@ -1,16 +1,20 @@
 //! What is left behind a run, run after run, and questions to a run that is over.
 
+ghost use Rattle.fsm_spec.specs.Table.{IsWhole};
+
 use crate::runs::{
-    bits_of, checked, context, first, laid_out, machine, nothing, reserved, texts, up_to,
+    Given, bits_of, checked, context, first, laid_out, machine, nothing, reserved, texts, up_to,
 };
 use run_answers::says;
 use run_questions::Query;
 use run_store::Flag;
 use run_world::Value;
-use sc_base::Pos;
-use sc_interp::Outcome;
+use sc_base::{OutOfMemory, Pos};
+use sc_gather::Context;
+use sc_interp::{Machine, Outcome};
 use sc_world::Reason;
 use std::alloc::Global;
+use std::process::Abort;
 use std::test::*;
 use sum_rows::{Gives, Row, State};
 
@@ -31,6 +35,30 @@ const LEFT: [(&str, Outcome, u64, bool, usize); 6] = [
     ("c", Outcome::Error(2), 1, true, 4),
 ];
 
+// The run on these bits ends so and leaves that, whatever ran before on this memory.
+fn leaves(
+    rt: &impl Abort,
+    runs: &mut Machine,
+    bits: &[bool],
+    left: (&str, Outcome, u64, bool, usize),
+) {
+    let (spelled, outcome, state, touched, events) = left;
+    assert_eq!(rt; runs.run(bits), outcome, "{spelled}");
+    assert_eq!(rt; runs.state(2), state, "{spelled}");
+    assert_eq!(rt; runs.has_mark(2, Flag::Touched), touched, "{spelled}");
+    assert_eq!(rt; runs.trace().len(), events, "{spelled}");
+}
+
+// Each of the runs in turn, on one memory.
+fn leave_all(rt: &impl Abort, alloc: Global, runs: &mut Machine) -> Result<(), OutOfMemory> {
+    for left in LEFT {
+        let bits = bits_of(alloc, left.0)?;
+        let choice = up_to(bits.as_slice(), runs.places.choice_len());
+        leaves(rt, runs, choice, left);
+    }
+    Ok(())
+}
+
 #[test]
 fn each_run_begins_anew(rt: HostRuntime) -> Result<(), Fail> {
     // Location 2 is the lock that `l` points to.
@@ -41,14 +69,7 @@ fn each_run_begins_anew(rt: HostRuntime) -> Result<(), Fail> {
     let laid = laid_out(alloc, first(&program))?;
     let found = nothing(alloc);
     let mut runs = reserved(alloc, &here, &found, &laid)?;
-    for (spelled, outcome, state, touched, events) in LEFT {
-        let bits = bits_of(alloc, spelled)?;
-        let ended = runs.run(up_to(bits.as_slice(), laid.choice_len()));
-        assert_eq!(rt; ended, outcome, "{spelled}");
-        assert_eq!(rt; runs.state(2), state, "{spelled}");
-        assert_eq!(rt; runs.has_mark(2, Flag::Touched), touched, "{spelled}");
-        assert_eq!(rt; runs.trace().len(), events, "{spelled}");
-    }
+    leave_all(&rt, alloc, &mut runs)?;
     Ok(())
 }
 
@@ -124,15 +145,22 @@ const GIVEN: [(&str, &str, Value); 16] = [
     ),
 ];
 
+// How the run of a function ends, on the choice that these digits spell.
+fn ends(alloc: Global, here: &Context, given: Given, spelled: &str) -> Result<Outcome, Fail>
+    requires { IsWhole here.now.machine.now }
+{
+    let laid = laid_out(alloc, given)?;
+    let found = nothing(alloc);
+    let mut runs = reserved(alloc, here, &found, &laid)?;
+    let bits = bits_of(alloc, spelled)?;
+    Ok(runs.run(up_to(bits.as_slice(), laid.choice_len())))
+}
+
 fn gives(alloc: Global, text: &str, spelled: &str) -> Result<Outcome, Fail> {
     let program = checked(alloc, text)?;
     let table = machine(alloc)?;
     let here = context(first(&program), &table);
-    let laid = laid_out(alloc, first(&program))?;
-    let found = nothing(alloc);
-    let mut runs = reserved(alloc, &here, &found, &laid)?;
-    let bits = bits_of(alloc, spelled)?;
-    Ok(runs.run(up_to(bits.as_slice(), laid.choice_len())))
+    ends(alloc, &here, first(&program), spelled)
 }
 
 #[test]
@@ -156,21 +184,44 @@ fn row(given: u8, before: State, after: State) -> Row {
     }
 }
 
-fn asked(alloc: Global, text: &str, spelled: &str, query: Query) -> Result<bool, Fail> {
-    let program = checked(alloc, text)?;
-    let given = first(&program);
-    let table = machine(alloc)?;
-    let here = context(given, &table);
+// The answer of the run on this choice.
+fn answer(
+    alloc: Global,
+    given: Given,
+    runs: &mut Machine,
+    choice: &[bool],
+    query: Query,
+) -> Result<bool, OutOfMemory> {
+    let outcome = runs.run(choice);
+    match texts(given, runs.places) {
+        None => Ok(false),
+        Some(texts) => says(alloc, &texts, &runs.over(choice, outcome), query),
+    }
+}
+
+// The same, on the choice that these digits spell.
+fn answers(
+    alloc: Global,
+    here: &Context,
+    given: Given,
+    spelled: &str,
+    query: Query,
+) -> Result<bool, Fail>
+    requires { IsWhole here.now.machine.now }
+{
     let laid = laid_out(alloc, given)?;
     let found = nothing(alloc);
-    let mut runs = reserved(alloc, &here, &found, &laid)?;
+    let mut runs = reserved(alloc, here, &found, &laid)?;
     let bits = bits_of(alloc, spelled)?;
     let choice = up_to(bits.as_slice(), laid.choice_len());
-    let outcome = runs.run(choice);
-    match texts(given, &laid) {
-        None => Ok(false),
-        Some(texts) => Ok(says(alloc, &texts, &runs.over(choice, outcome), query)?),
-    }
+    Ok(answer(alloc, given, &mut runs, choice, query)?)
+}
+
+fn asked(alloc: Global, text: &str, spelled: &str, query: Query) -> Result<bool, Fail> {
+    let program = checked(alloc, text)?;
+    let table = machine(alloc)?;
+    let here = context(first(&program), &table);
+    answers(alloc, &here, first(&program), spelled, query)
 }
 
 #[test]

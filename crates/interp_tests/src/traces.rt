@@ -4,7 +4,7 @@ use crate::runs::{checked, first, replayed};
 use std::test::*;
 
 /// A file, the choice of a run of its first function, and the text of that run.
-const RUNS: [(&str, &str, &str); 24] = [
+const RUNS: [(&str, &str, &str); 25] = [
     (
         "typedef struct{int v;}spinlock_t;\nvoid f(_Bool c,spinlock_t*l){spin_lock(l);if(c)spin_lock(l);}",
         "c",
@@ -119,6 +119,11 @@ const RUNS: [(&str, &str, &str); 24] = [
         "void f(char*p){unknown(p);*p=1;}",
         "80000000000",
         "1:16 call unknown\n1:32 end\noutcome exit\n",
+    ),
+    (
+        "void f(int n){if(n)f(n-1);}",
+        "00000001",
+        "1:15 if 1\n1:20 call f\n1:27 end\noutcome exit\n",
     ),
     (
         "void f(int n){if(n)exit(1);}",

@@ -1,10 +1,30 @@
 -- One item of a block, and what follows it.
-use Rattle.std.proofs.Common.{◌≡◌, Bool, true, false, refl, ap, ◌∙◌}
+use Rattle.std.proofs.Common.{◌≡◌, ℕ, zero, suc, ◌+◌, ◌<◌, List, [], ◌∷◌, Bool, true, false, refl, sym, ap, ◌∙◌}
+use Rattle.std.proofs.Common.{length, map, drop, slice_index_or, add-one, arith}
 use Rattle.std.specs.Prelude.{Ok, Err, Result, if◌then◌else◌}
+use Rattle.sc_typed.specs.declared.stmt.TStmt.{TStmt}
+use Rattle.sc_gather.specs.Seen.{statements_of}
+use Rattle.sc_world.specs.Source.{Struct}
+use Rattle.sc_world.specs.View.{stm, stms}
 use Rattle.sc_world.specs.Tree.{Stm, Stms, Stms'}
 use Rattle.sc_world.specs.World.{World, Ended, Run, Env, goes_on, done}
 use Rattle.sc_world.specs.Exec.{Flow, Next, Breaks, Continues, GoesTo, Returns, Seek, found, exec, exec_all, goes_on_in}
 use Rattle.run_stmts.specs.Items.{After, Seeks, Ends, behind, one_item}
+
+-- what a list is seen as from one on: that one, and the others
+mapped_from : {A B : Type 0} (f : A → B) (xs : List A) (i : ℕ) (x : A) → i < length xs → x ≡ slice_index_or xs i x
+    → map f (drop i xs) ≡ f x ∷ map f (drop (suc i) xs)
+mapped_from f [] i x low is = absurd (omega arith)
+mapped_from f (a ∷ xs) zero x low is = ap (λ y. f y ∷ map f xs) (sym is)
+mapped_from f (a ∷ xs) (suc i) x low is = let low' : i < length xs = omega arith in mapped_from f xs i x low' is
+
+-- the items from one on
+pub next_item : (structs : List Struct) (xs : List TStmt) (i : ℕ) (x : TStmt) → i < length xs
+    → x ≡ slice_index_or xs i x
+    → statements_of structs (drop i xs) ≡ Stms' (stm structs x) (statements_of structs (drop (i + 1) xs))
+next_item structs xs i x low is =
+    ap stms (mapped_from (stm structs) xs i x low is)
+    ∙ ap (λ n. Stms' (stm structs x) (statements_of structs (drop n xs))) (sym (add-one i))
 
 abbrev rest_of : Stms → Env → After → Run Flow
 rest_of rest env (Seeks k) = exec_all rest k env

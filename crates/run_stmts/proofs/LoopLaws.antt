@@ -9,7 +9,7 @@ use Rattle.sc_world.specs.World.{World, Ended, Run, Env, goes_on, done}
 use Rattle.sc_world.specs.Exec.{Flow, Next, Breaks, Continues, GoesTo, Returns, exec, turns, do_turns, after_turn, again}
 use Rattle.sc_world.specs.Exec.{while_by, do_by, for_by, condition, condition_if, with_step, in_turn}
 use Rattle.run_exprs.specs.Room.{room}
-use Rattle.run_room.specs.Room.{room_if, loop_room}
+use Rattle.run_room.specs.Room.{room_if}
 use Rattle.run_stmts.specs.Loops.{Loop, While, For, Do, ended_by, tested_behind, loop_turn, last_test, more_or, loops}
 use Rattle.run_stmts.specs.Loops.{loop_stm, first_room, turn_room, turns_room}
 use Rattle.run_stmts.specs.Room.{Fits}

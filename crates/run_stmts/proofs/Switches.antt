@@ -1,5 +1,5 @@
 -- A `switch`, behind its event.
-use Rattle.std.proofs.Common.{◌≡◌, ℕ, Some, List, sym, ap, ◌∙◌}
+use Rattle.std.proofs.Common.{◌≡◌, ℕ, List, sym, ap, ◌∙◌}
 use Rattle.std.specs.Prelude.{Ok}
 use Rattle.sc_base.specs.declared.pos.Pos.{Pos}
 use Rattle.sc_typed.specs.declared.expr.TExpr.{TExpr}

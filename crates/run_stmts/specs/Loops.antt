@@ -1,5 +1,5 @@
 -- Loops: what one turn does, and all turns that are left. The three kinds of loops are one here.
-use Rattle.std.specs.Prelude.{ℕ, zero, suc, ◌+◌, Bool, true, false, Option, Some, None, if◌then◌else◌}
+use Rattle.std.specs.Prelude.{ℕ, zero, suc, ◌+◌, Bool, true, Option, Some, None, if◌then◌else◌}
 use Rattle.sc_base.specs.declared.pos.Pos.{Pos}
 use Rattle.sum_rows.specs.declared.report.What.TheVariants as what
 use Rattle.sc_world.specs.declared.run.Reason.TheVariants as reason

@@ -1,5 +1,5 @@
 -- A run leaves as many cells as there were at entry: two for each location, its own and that of its state.
-use Rattle.std.specs.Prelude.{ℕ, ◌*◌, ◌≤◌, List, Bool, length}
+use Rattle.std.specs.Prelude.{◌*◌, ◌≤◌, List, Bool, length}
 use Rattle.std.specs.Coded.{le_prop}
 use Rattle.sc_world.specs.Source.{Source}
 use Rattle.sc_world.specs.Layout.{Layout}

@@ -1,6 +1,6 @@
 // What the calls of a run do.
 
-ghost use Rattle.std.specs.Prelude.{◌≡◌, ◌<◌, ◌^◌, length};
+ghost use Rattle.std.specs.Prelude.{◌<◌, ◌^◌, length};
 ghost use Rattle.layout_base.specs.Seen as laid;
 ghost use Rattle.run_acts.specs.Reads.{reads_of};
 ghost use Rattle.run_acts.specs.Room.{fits_all_prop};

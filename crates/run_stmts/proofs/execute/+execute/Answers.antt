@@ -1,11 +1,10 @@
 -- Switches, items one after another, and turns of loops.
-use Rattle.std.proofs.Common.{◌≡◌, ℕ, ◌+◌, ◌*◌, ◌-◌, ◌<◌, ◌≤◌, Option, List, length, drop, slice_index_or, sym, ap, subst, ◌∙◌, arith}
-use Rattle.std.proofs.Common.{Result}
+use Rattle.std.proofs.Common.{◌≡◌, ◌+◌, ◌<◌, Option, List, Result, length, drop, slice_index_or, sym, ap, subst, ◌∙◌, arith}
 use Rattle.std.proofs.lemmas.Result.{err_from_is_err_and}
 use Rattle.sc_typed.specs.declared.stmt.TStmt.{TStmt}
 use Rattle.sc_world.specs.Layout.{Layout}
 use Rattle.sc_world.specs.Source.{Source}
-use Rattle.sc_world.specs.View.{stm, stms, exp}
+use Rattle.sc_world.specs.View.{stm}
 use Rattle.sc_world.specs.Tree.{Switch, Stms'}
 use Rattle.sc_world.specs.World as spec
 use Rattle.sc_world.specs.World.{goes_on, done}
@@ -14,13 +13,12 @@ use Rattle.sc_world.specs.Exec.{exec_all, switch_by}
 use Rattle.run_room.specs.Room.{stm_room, stms_room}
 use Rattle.run_world.specs.Seen.{world, env, how_ended, cell, Does}
 use Rattle.run_inits.specs.Seen.{exp_of, most}
-use Rattle.run_inits.proofs.StoreLaws.{next_mapped}
-use Rattle.run_stmts.specs.Loops.{behind_room, loop_turn, turns_room}
-use Rattle.run_stmts.specs.Room.{Fits, room_of, room_of_items, room_of_turn, room_of_turns}
-use Rattle.run_stmts.specs.Seen.{flow, flow_if, seek, seek_if, loop_of}
+use Rattle.run_stmts.specs.Loops.{behind_room}
+use Rattle.run_stmts.specs.Room.{room_of, room_of_items}
+use Rattle.run_stmts.specs.Seen.{flow, flow_if, seek, seek_if, after, loop_of}
 use Rattle.run_stmts.specs.Trees.{stm_of, stms_of}
 use Rattle.run_stmts.proofs.Fits.{fits_less}
-use Rattle.run_stmts.proofs.Items.{item_seeks, item_ends, item_errs}
+use Rattle.run_stmts.proofs.Items.{next_item, item_seeks, item_ends, item_errs}
 use Rattle.run_stmts.proofs.LoopLaws.{loop_ends, loop_errs}
 use Rattle.run_stmts.proofs.LoopTests.{turn_in}
 use Rattle.run_stmts.proofs.Switches.{stm_switch, switch_goes}
@@ -84,7 +82,7 @@ exec_items-returns-in_err-next-clause-done g t c =
     let low : i < length xs = omega (arith, c.loop-x-test.true, ap length same) in
     let item : x ≡ slice_index_or xs i x = subst (λ (ys : List TStmt). x ≡ slice_index_or ys i x) same c.x-item.is in
     let next : stms_of here (drop i xs) ≡ Stms' (stm_of here x) (stms_of here (drop (i + 1) xs)) =
-    ap stms (next_mapped (stm (env here).source.structs) xs i x low item) in
+    next_item (env here).source.structs xs i x low item in
     let begun : exec_all (stms_of here (drop i xs)) (seek c.loop-x.sought) (env here) (world c.loop-x.world)
     ≡ exec_all (Stms' (stm_of here x) (stms_of here (drop (i + 1) xs))) (seek c.loop-x.sought) (env here) (world c.loop-x.world) =
     ap (λ ss. exec_all ss (seek c.loop-x.sought) (env here) (world c.loop-x.world)) next in
@@ -104,7 +102,7 @@ exec_items-returns-in_err-next-clause-used g t c =
     let low : i < length xs = omega (arith, c.loop-x-test.true, ap length same) in
     let item : x ≡ slice_index_or xs i x = subst (λ (ys : List TStmt). x ≡ slice_index_or ys i x) same c.x-item.is in
     let next : stms_of here (drop i xs) ≡ Stms' (stm_of here x) (stms_of here (drop (i + 1) xs)) =
-    ap stms (next_mapped (stm (env here).source.structs) xs i x low item) in
+    next_item (env here).source.structs xs i x low item in
     let needs : room_of_items here (drop i xs) ≡ room_of here x + room_of_items here (drop (i + 1) xs) =
     ap (stms_room (env here).source.depth (most here)) next in
     let used = c.exec_item.ensures.used in
@@ -126,13 +124,14 @@ exec_items-returns-in-Ends-clause-done g t c =
     let low : i < length xs = omega (arith, c.loop-x-test.true, ap length same) in
     let item : x ≡ slice_index_or xs i x = subst (λ (ys : List TStmt). x ≡ slice_index_or ys i x) same c.x-item.is in
     let next : stms_of here (drop i xs) ≡ Stms' (stm_of here x) (stms_of here (drop (i + 1) xs)) =
-    ap stms (next_mapped (stm (env here).source.structs) xs i x low item) in
+    next_item (env here).source.structs xs i x low item in
     let begun : exec_all (stms_of here (drop i xs)) (seek c.loop-x.sought) (env here) (world c.loop-x.world)
     ≡ exec_all (Stms' (stm_of here x) (stms_of here (drop (i + 1) xs))) (seek c.loop-x.sought) (env here) (world c.loop-x.world) =
     ap (λ ss. exec_all ss (seek c.loop-x.sought) (env here) (world c.loop-x.world)) next in
+    let ended = c.in_ok-next.ensures.done ∙ ap (λ a. done (after a) (world c.exec_item.new.world)) c.in-Ends.is in
     sym c.loop-x.invariant.executed ∙ (begun
     ∙ item_ends (stm_of here x) (stms_of here (drop (i + 1) xs)) (seek c.loop-x.sought) (flow c.in-Ends.flow) (env here)
-    (world c.loop-x.world) (world c.exec_item.new.world) c.in-Ends.ensures.done)
+    (world c.loop-x.world) (world c.exec_item.new.world) ended)
 
 pub exec_items-returns-in-Ends-clause-used : goal.exec_items-returns-in-Ends-clause-used
 exec_items-returns-in-Ends-clause-used g t c =
@@ -144,7 +143,7 @@ exec_items-returns-in-Ends-clause-used g t c =
     let low : i < length xs = omega (arith, c.loop-x-test.true, ap length same) in
     let item : x ≡ slice_index_or xs i x = subst (λ (ys : List TStmt). x ≡ slice_index_or ys i x) same c.x-item.is in
     let next : stms_of here (drop i xs) ≡ Stms' (stm_of here x) (stms_of here (drop (i + 1) xs)) =
-    ap stms (next_mapped (stm (env here).source.structs) xs i x low item) in
+    next_item (env here).source.structs xs i x low item in
     let needs : room_of_items here (drop i xs) ≡ room_of here x + room_of_items here (drop (i + 1) xs) =
     ap (stms_room (env here).source.depth (most here)) next in
     let used = c.exec_item.ensures.used in
@@ -166,7 +165,7 @@ exec_items-loop-x-preserved g t c =
     let low : i < length xs = omega (arith, c.loop-x-test.true, ap length same) in
     let item : x ≡ slice_index_or xs i x = subst (λ (ys : List TStmt). x ≡ slice_index_or ys i x) same c.x-item.is in
     let next : stms_of here (drop i xs) ≡ Stms' (stm_of here x) (stms_of here (drop (i + 1) xs)) =
-    ap stms (next_mapped (stm (env here).source.structs) xs i x low item) in
+    next_item (env here).source.structs xs i x low item in
     let begun : exec_all (stms_of here (drop i xs)) (seek c.loop-x.sought) (env here) (world c.loop-x.world)
     ≡ exec_all (Stms' (stm_of here x) (stms_of here (drop (i + 1) xs))) (seek c.loop-x.sought) (env here) (world c.loop-x.world) =
     ap (λ ss. exec_all ss (seek c.loop-x.sought) (env here) (world c.loop-x.world)) next in
@@ -174,10 +173,11 @@ exec_items-loop-x-preserved g t c =
     ap (stms_room (env here).source.depth (most here)) next in
     let used = c.exec_item.ensures.used in
     let so_far = c.loop-x.invariant in
+    let sought = c.in_ok-next.ensures.done ∙ ap (λ a. done (after a) (world c.exec_item.new.world)) c.in-Seeks.is in
     record {
       executed = sym (begun
           ∙ item_seeks (stm_of here x) (stms_of here (drop (i + 1) xs)) (seek c.loop-x.sought) (seek c.in-Seeks.next) (env here)
-          (world c.loop-x.world) (world c.exec_item.new.world) c.in-Seeks.ensures.done) ∙ so_far.executed;
+          (world c.loop-x.world) (world c.exec_item.new.world) sought) ∙ so_far.executed;
       few_events = omega (arith, needs, used.0, so_far.few_events);
       few = omega (arith, needs, so_far.few);
       fits = fits_less here.turn (room_of_items here (drop (i + 1) xs)) (room_of_items here (drop i xs)) (omega (arith, needs)) so_far.fits;
@@ -196,7 +196,7 @@ exec_loop-returns-in_err-loop_turn-clause-done g t c =
     let here = c.args.here.now in
     let l = loop_of (env here).source.structs c.args.tests in
     let t = c.loop-turn.turn in
-    let low : t < (env here).source.depth = omega (arith, c.loop-turn-test.true, c.depth.ensures) in
+    let low : t < (env here).source.depth = omega (arith, c.loop-turn-test.true, c.depth-turn-end.ensures) in
     let p = err_from_is_err_and c.from_residual.result c.from_residual.ensures.1 in
     rw (p.1, p.2)
     (sym c.loop-turn.invariant.executed
@@ -209,10 +209,11 @@ exec_loop-returns-in-Some-clause-done g t c =
     let here = c.args.here.now in
     let l = loop_of (env here).source.structs c.args.tests in
     let t = c.loop-turn.turn in
-    let low : t < (env here).source.depth = omega (arith, c.loop-turn-test.true, c.depth.ensures) in
+    let low : t < (env here).source.depth = omega (arith, c.loop-turn-test.true, c.depth-turn-end.ensures) in
+    let ended = c.in_ok-loop_turn.ensures.done ∙ ap (λ o. done (flow_if o) (world c.loop_turn.new.world)) c.in-Some.is in
     sym c.loop-turn.invariant.executed
     ∙ loop_ends l c.args.pos (env here) (stm_of here c.args.body.now) (env here).source.depth t (flow c.in-Some.flow)
-    (world c.loop-turn.world) (world c.loop_turn.new.world) low c.in-Some.ensures.done
+    (world c.loop-turn.world) (world c.loop_turn.new.world) low ended
 
 pub loop_turn-behind_body-requires-clause-room : goal.loop_turn-behind_body-requires-clause-room
 loop_turn-behind_body-requires-clause-room g t c =
@@ -247,7 +248,7 @@ loop_turn-returns-clause-done g t c =
     let body = c.args.body.now in
     let goes = turn_in c.args.tests c.args.pos body (env here) (env within) c.depth.result c.args.turn
     c.in_ok-test_first.field-0 (flow c.in_ok-flow.flow) (world c.args.world.now) (world c.test_first.new.world)
-    (world c.exec.new.world) c.in_turn-within.ensures.env c.depth.ensures c.in_ok-test_first.ensures.done c.if-branch.false
+    (world c.exec.new.world) c.in_turn-within.ensures.env c.depth.ensures c.in_ok-test_first.ensures.done c.if-not-branch.false
     c.in_ok-flow.ensures.done in
     subst
     (λ (d : Result (Option exec.Flow) spec.Ended × spec.World). Does flow_if d c.behind_body.result
