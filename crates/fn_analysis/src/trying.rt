@@ -51,6 +51,7 @@ fn nothing_shown(alloc: Global) -> Shown
 
 impl<'p, 'm, 'f> Trying<'p, 'm, 'f> {
     /// Who answers about the function at hand. `given` has what is read of the program, and `texts` the layout.
+    #[tactic(auto, unfolding(layout_base::specs::Seen::layout_of))]
     pub fn new(
         alloc: Global,
         given: Ground<'p, 'm, 'f>,
