@@ -4,7 +4,7 @@ use crate::runs::{checked, first, replayed};
 use std::test::*;
 
 /// A file, the choice of a run of its first function, and the text of that run.
-const RUNS: [(&str, &str, &str); 25] = [
+const RUNS: [(&str, &str, &str); 27] = [
     (
         "typedef struct{int v;}spinlock_t;\nvoid f(_Bool c,spinlock_t*l){spin_lock(l);if(c)spin_lock(l);}",
         "c",
@@ -124,6 +124,16 @@ const RUNS: [(&str, &str, &str); 25] = [
         "void f(int n){if(n)f(n-1);}",
         "00000001",
         "1:15 if 1\n1:20 call f\n1:27 end\noutcome exit\n",
+    ),
+    (
+        "void m(char**o,_Bool c){if(c)*o=0;}",
+        "d888",
+        "1:25 if 1\n1:35 end\noutcome exit\n",
+    ),
+    (
+        "void m(char**o,_Bool c){if(c)*o=0;}",
+        "9408",
+        "1:25 if 0\n1:35 end\noutcome exit\n",
     ),
     (
         "void f(int n){if(n)exit(1);}",
