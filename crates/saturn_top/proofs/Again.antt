@@ -1,8 +1,8 @@
 -- What is spelled so, in good form and low enough, is read: statements.
 use Rattle.std.proofs.Common.{◌≡◌, ℕ, zero, suc, ◌<◌, ◌≤◌, Bool, true, false, List, ◌++◌, length, Some, None, refl, ap, append_assoc, arith, length-append}
 use Rattle.std.specs.Prelude.{codes}
-use Rattle.sc_tree.specs.declared.first.ParamKind.TheVariants as kinds
-use Rattle.sc_tree.specs.Tree.{Code, Codes, Block, Lock, Unlock, If, IfElse, Return, Done, Then, Formal}
+use Rattle.saturn_top.specs.declared.form.ParamKind.TheVariants as kinds
+use Rattle.saturn_top.specs.Tree.{Code, Codes, Block, Lock, Unlock, If, IfElse, Return, Done, Then, Formal}
 use Rattle.saturn_top.specs.Spelling.{name_of, spelled, all_spelled, takes_else, IsGood, AreGood, height, all_height}
 use Rattle.saturn_top.specs.Reading.{after, lock_at, block_at, choice_at, statement_step, statement_at}
 use Rattle.saturn_top.proofs.Items.{AreNamed, place_again}

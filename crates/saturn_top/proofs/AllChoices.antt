@@ -3,7 +3,7 @@ use Rattle.std.proofs.Common.{◌≡◌, ℕ, zero, suc, ◌+◌, ◌-◌, ◌<�
 use Rattle.std.proofs.lemmas.Bool.{false≢true}
 use Rattle.std.proofs.lemmas.List.{length-map}
 use Rattle.std.proofs.lemmas.List.Elements.{Contains-append_left, Contains-append_right, Contains-append_cases}
-use Rattle.sc_tree.specs.Tree.{Formal}
+use Rattle.saturn_top.specs.Tree.{Formal}
 use Rattle.saturn_top.specs.Run.{bit}
 use Rattle.saturn_top.specs.Rows.{choices_from, all_false, is_lock, entry_choices, lock_choices}
 use Rattle.saturn_top.specs.RowLaws.{IsChoice, IsEntry, AreLocks}

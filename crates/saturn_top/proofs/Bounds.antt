@@ -5,7 +5,7 @@ use Rattle.std.proofs.Math.Pow.{pow_mono}
 use Rattle.std.proofs.lemmas.List.{length-map}
 use Rattle.std.proofs.lemmas.List.Sums.{sum_by-cons}
 use Rattle.std.proofs.lemmas.List.FromFn.{length-range_with_len}
-use Rattle.sc_tree.specs.Tree.{Form, Formal}
+use Rattle.saturn_top.specs.Tree.{Form, Formal}
 use Rattle.saturn_top.specs.declared.first.summary.Section.{Section}
 use Rattle.saturn_top.specs.Rows.{choices_from, all_false, entry_choices, is_listed, possible_rows, lock_rows, stands, row_stands}
 use Rattle.saturn_top.specs.declared.first.rows.Question.TheVariants.{Exits}

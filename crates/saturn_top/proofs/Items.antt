@@ -6,9 +6,9 @@ use Rattle.std.specs.Char.{is_ascii_lowercase}
 use Rattle.std.proofs.lemmas.Bool.{and_parts, and_from, not-true}
 use Rattle.std.proofs.lemmas.List.{take_at, drop_at, take-append-drop}
 use Rattle.std.proofs.lemmas.Slice.Eq.{bytes_eq-Decides}
-use Rattle.sc_tree.specs.declared.first.ParamKind.{ParamKind}
-use Rattle.sc_tree.specs.declared.first.ParamKind.TheVariants as kinds
-use Rattle.sc_tree.specs.Tree.{Formal}
+use Rattle.saturn_top.specs.declared.form.ParamKind.{ParamKind}
+use Rattle.saturn_top.specs.declared.form.ParamKind.TheVariants as kinds
+use Rattle.saturn_top.specs.Tree.{Formal}
 use Rattle.saturn_top.specs.Spelling.{is_name, name_of, kind_of, names_of, are_different, kind_text, param_text, params_text}
 use Rattle.saturn_top.specs.Reading.{◌>>=◌, chosen, after, name_at, is_kind, is_param, param_of, place_at, kind_at, param_at, params_at}
 use Rattle.saturn_top.proofs.Basics.{bind_is, chosen_is, test_is, some_is, after_is, name_parts}

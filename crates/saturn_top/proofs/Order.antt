@@ -3,7 +3,7 @@ use Rattle.std.proofs.Common.{◌≡◌, ℕ, zero, suc, ◌<◌, ◌≤◌, Boo
 use Rattle.std.specs.List.{flat_map, list_all}
 use Rattle.std.specs.List.Sorted.{IsStrictlyIncreasing}
 use Rattle.std.proofs.lemmas.Bool.Decides.{nat_tests}
-use Rattle.sc_tree.specs.Tree.{Formal, Form}
+use Rattle.saturn_top.specs.Tree.{Formal, Form}
 use Rattle.saturn_top.specs.declared.first.rows.Question.TheVariants.{Exits}
 use Rattle.saturn_top.specs.Rows.{entry_choices, stands, exit_rows, possible_rows, row_stands, lock_rows}
 use Rattle.saturn_top.specs.RowLaws.{entry_rank, row_rank}

@@ -2,7 +2,7 @@
 use Rattle.std.proofs.Common.{◌≡◌, ℕ, zero, suc, ◌<◌, ◌↔◌, Bool, true, false, ◌&&◌, List, Contains, Option, Some, None, get_or, refl, sym, ap, subst, arith}
 use Rattle.std.specs.List.{flat_map}
 use Rattle.std.proofs.lemmas.Bool.{false≢true}
-use Rattle.sc_tree.specs.Tree.{Form}
+use Rattle.saturn_top.specs.Tree.{Form}
 use Rattle.saturn_top.specs.declared.first.run.Outcome.{Outcome}
 use Rattle.saturn_top.specs.declared.first.run.Outcome.TheVariants.{Exit, Error, Aside}
 use Rattle.saturn_top.specs.declared.first.rows.State.{State}

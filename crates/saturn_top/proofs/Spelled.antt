@@ -1,8 +1,8 @@
 -- What is read is spelled so, and is in good form: statements.
 use Rattle.std.proofs.Common.{◌≡◌, ℕ, zero, suc, ◌≤◌, Bool, true, false, List, ◌++◌, length, Option, Some, None, refl, sym, ap, subst, ◌∙◌, append_assoc, arith, inl, inr}
 use Rattle.std.specs.Prelude.{codes}
-use Rattle.sc_tree.specs.declared.first.ParamKind.TheVariants as kinds
-use Rattle.sc_tree.specs.Tree.{Code, Codes, Block, Lock, Unlock, If, IfElse, Return, Done, Then, Formal}
+use Rattle.saturn_top.specs.declared.form.ParamKind.TheVariants as kinds
+use Rattle.saturn_top.specs.Tree.{Code, Codes, Block, Lock, Unlock, If, IfElse, Return, Done, Then, Formal}
 use Rattle.saturn_top.specs.Spelling.{name_of, kind_of, spelled, all_spelled, takes_else, IsGood, AreGood, height, all_height}
 use Rattle.saturn_top.specs.Reading.{◌>>=◌, chosen, after, place_at, lock_at, block_at, choice_at, statement_step, statement_at}
 use Rattle.saturn_top.proofs.Basics.{bind_is, chosen_is, some_is, after_is, behind}

@@ -3,7 +3,7 @@
 -- Both loops keep that what was read so far, before what is still to read, is the whole reading.
 use Rattle.std.proofs.Common.{◌≡◌, ℕ, suc, ◌+◌, ◌-◌, ◌<◌, ◌≤◌, List, [], ◌∷◌, ◌++◌, Option, Some, None, refl, sym, ap, ◌∙◌, append_assoc, arith}
 use Rattle.std.specs.Prelude.{codes}
-use Rattle.sc_tree.specs.Tree.{Code, Codes, Done, Then, Formal, code_list}
+use Rattle.saturn_top.specs.Tree.{Code, Codes, Done, Then, Formal, code_list}
 use Rattle.saturn_top.specs.declared.first.stop.Stop.{Stop}
 use Rattle.saturn_top.specs.declared.first.stop.Stop.TheVariants as stops
 use Rattle.saturn_top.specs.Reading.{◌>>=◌, Fails, after, param_at, params_at, block_at}

@@ -4,7 +4,7 @@ use Rattle.std.specs.Prelude.{◌||◌, ◌↔◌, codes, bytes_eq, nat_le}
 use Rattle.std.proofs.lemmas.Bool.{leb-true}
 use Rattle.std.proofs.lemmas.List.{append-nil}
 use Rattle.std.proofs.lemmas.Slice.Eq.{bytes_eq-Decides}
-use Rattle.sc_tree.specs.Tree.{Code, Codes, Block, Formal, Form}
+use Rattle.saturn_top.specs.Tree.{Code, Codes, Block, Formal, Form}
 use Rattle.saturn_top.specs.Spelling.{is_name, names_of, are_different, AreParams, params_text, spelled, all_spelled, IsGood, AreGood, height, all_height, form_text, IsGoodForm, IsFirst}
 use Rattle.saturn_top.specs.Reading.{◌>>=◌, after, name_at, params_at, block_at, statement_at, head_at, is_end, body_at, whole_at, form_at}
 use Rattle.saturn_top.proofs.Basics.{bind_is, test_is, some_is, after_is, behind}

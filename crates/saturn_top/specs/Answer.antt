@@ -4,7 +4,7 @@ use Rattle.std.specs.Prelude.{◌≡◌, ◌≢◌, ◌⊎◌, ℕ, Bool, true, 
 use Rattle.sc_base.specs.Causes.{Rose}
 use Rattle.sc_base.specs.Held.{is_named, IsRead}
 use Rattle.sc_base.specs.Taken.{SinkChange, Keeps, Went}
-use Rattle.sc_tree.specs.Tree.{Form}
+use Rattle.saturn_top.specs.Tree.{Form}
 use Rattle.saturn_top.specs.declared.status.Status.{Status}
 use Rattle.saturn_top.specs.declared.status.Status.TheVariants.{Clean, Reports, Refused, BadWords, ReadFault, WriteFault, Memory, Helped}
 use Rattle.saturn_top.specs.Spelling.{IsFirst}

@@ -6,9 +6,9 @@
 use Rattle.std.specs.Prelude.{◌≡◌, ℕ, zero, suc, ◌+◌, Bool, true, false, ◌&&◌, ◌||◌, nat_le, List, [], ◌∷◌, length, take, drop, Option, Some, None, Result, Ok, Err, codes, bytes_eq, option_map, if◌then◌else◌}
 use Rattle.std.specs.List.{prefix_len}
 use Rattle.std.specs.Char.{is_ascii_lowercase}
-use Rattle.sc_tree.specs.declared.first.ParamKind.{ParamKind}
-use Rattle.sc_tree.specs.declared.first.ParamKind.TheVariants as kinds
-use Rattle.sc_tree.specs.Tree.{Code, Codes, Block, Lock, Unlock, If, IfElse, Return, Done, Then, Formal, Form}
+use Rattle.saturn_top.specs.declared.form.ParamKind.{ParamKind}
+use Rattle.saturn_top.specs.declared.form.ParamKind.TheVariants as kinds
+use Rattle.saturn_top.specs.Tree.{Code, Codes, Block, Lock, Unlock, If, IfElse, Return, Done, Then, Formal, Form}
 use Rattle.saturn_top.specs.declared.first.stop.Stop.{Stop}
 use Rattle.saturn_top.specs.declared.first.stop.Stop.TheVariants as stops
 use Rattle.saturn_top.specs.Spelling.{is_name, are_different, names_of}

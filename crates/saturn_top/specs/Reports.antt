@@ -5,7 +5,7 @@
 -- state at entry it has a row to unlocked and a row to locked: callers cannot know in which state it is.
 use Rattle.std.specs.Prelude.{ℕ, Bool, List, ◌&&◌, ◌||◌}
 use Rattle.std.specs.List.{list_any}
-use Rattle.sc_tree.specs.Tree.{Form}
+use Rattle.saturn_top.specs.Tree.{Form}
 use Rattle.saturn_top.specs.declared.first.rows.State.{State}
 use Rattle.saturn_top.specs.declared.first.rows.State.TheVariants.{Unlocked, Locked, Bad}
 use Rattle.saturn_top.specs.declared.first.rows.Question.TheVariants.{Ends}

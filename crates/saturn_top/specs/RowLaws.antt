@@ -1,6 +1,6 @@
 -- What the rows and the reports of a first form say of its runs, without the search that finds them.
 use Rattle.std.specs.Prelude.{◌≡◌, ℕ, ◌+◌, ◌*◌, Bool, true, List, length, map, Contains, Some, if◌then◌else◌}
-use Rattle.sc_tree.specs.Tree.{Formal, Form}
+use Rattle.saturn_top.specs.Tree.{Formal, Form}
 use Rattle.saturn_top.specs.declared.first.run.Outcome.TheVariants.{Exit}
 use Rattle.saturn_top.specs.declared.first.rows.State.{State}
 use Rattle.saturn_top.specs.declared.first.rows.State.TheVariants.{Unlocked, Locked, Bad}

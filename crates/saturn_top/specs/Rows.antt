@@ -7,9 +7,9 @@
 -- error on this lock. A lock is listed where some run that is not set aside touched it.
 use Rattle.std.specs.Prelude.{◌≡◌, ℕ, ◌+◌, Bool, true, false, List, [], ◌∷◌, ◌++◌, ◌&&◌, ◌==◌, Option, None, Some, map, filter, slice_set, if◌then◌else◌}
 use Rattle.std.specs.List.{list_any, flat_map}
-use Rattle.sc_tree.specs.declared.first.ParamKind.{ParamKind}
-use Rattle.sc_tree.specs.declared.first.ParamKind.TheVariants as kind
-use Rattle.sc_tree.specs.Tree.{Formal, Form}
+use Rattle.saturn_top.specs.declared.form.ParamKind.{ParamKind}
+use Rattle.saturn_top.specs.declared.form.ParamKind.TheVariants as kind
+use Rattle.saturn_top.specs.Tree.{Formal, Form}
 use Rattle.saturn_top.specs.declared.first.run.Outcome.{Outcome}
 use Rattle.saturn_top.specs.declared.first.run.Outcome.TheVariants.{Exit, Error, Aside}
 use Rattle.saturn_top.specs.declared.first.run.Locks.{Locks}

@@ -5,7 +5,7 @@
 -- locked one unlocks it; locking a locked one and unlocking an unlocked one are errors, which end the run.
 -- `return` ends it without an error.
 use Rattle.std.specs.Prelude.{ℕ, Bool, true, false, List, [], ◌∷◌, Option, None, Some, slice_get, slice_set, unwrap_or, if◌then◌else◌}
-use Rattle.sc_tree.specs.Tree.{Code, Block, Lock, Unlock, If, IfElse, Return, Codes, Done, Then}
+use Rattle.saturn_top.specs.Tree.{Code, Block, Lock, Unlock, If, IfElse, Return, Codes, Done, Then}
 use Rattle.saturn_top.specs.declared.first.run.Flow.{Flow}
 use Rattle.saturn_top.specs.declared.first.run.Flow.TheVariants.{Next, Returned, Failed, SetAside}
 use Rattle.saturn_top.specs.declared.first.run.Operation.{Operation}

@@ -15,9 +15,9 @@
 use Rattle.std.specs.Prelude.{◌≡◌, ℕ, zero, suc, ◌≤◌, max, Bool, true, false, not, ◌&&◌, nat_le, List, [], ◌∷◌, ◌++◌, length, map, Option, Some, None, codes, bytes_eq, ◌⊎◌}
 use Rattle.std.specs.List.{list_all, list_any}
 use Rattle.std.specs.Char.{is_ascii_lowercase}
-use Rattle.sc_tree.specs.declared.first.ParamKind.{ParamKind}
-use Rattle.sc_tree.specs.declared.first.ParamKind.TheVariants as kinds
-use Rattle.sc_tree.specs.Tree.{Code, Codes, Block, Lock, Unlock, If, IfElse, Return, Done, Then, Formal, Form}
+use Rattle.saturn_top.specs.declared.form.ParamKind.{ParamKind}
+use Rattle.saturn_top.specs.declared.form.ParamKind.TheVariants as kinds
+use Rattle.saturn_top.specs.Tree.{Code, Codes, Block, Lock, Unlock, If, IfElse, Return, Done, Then, Formal, Form}
 
 -- ---- names
 

@@ -1,7 +1,7 @@
 -- The summary of a first form: its rows and its reports, in printing order.
 use Rattle.std.specs.Prelude.{ℕ, ◌+◌, Bool, List, length, map, filter, sum_by, nat_lt}
 use Rattle.std.specs.List.{range_with_len}
-use Rattle.sc_tree.specs.Tree.{Formal, Form}
+use Rattle.saturn_top.specs.Tree.{Formal, Form}
 use Rattle.saturn_top.specs.declared.first.summary.Mark.{Mark}
 use Rattle.saturn_top.specs.declared.first.summary.Mark.TheVariants.{Listed, Double, Ambiguous}
 use Rattle.saturn_top.specs.declared.first.summary.Section.{Section}

@@ -6,7 +6,7 @@
 use Rattle.std.specs.Prelude.{ℕ, Bool, true, false, List, [], ◌∷◌, ◌++◌, length, map, slice_get, codes, decimal}
 use Rattle.std.specs.Prelude.{Option, None, Some}
 use Rattle.std.specs.List.{flat_map, range_with_len}
-use Rattle.sc_tree.specs.Tree.{Formal, Form}
+use Rattle.saturn_top.specs.Tree.{Formal, Form}
 use Rattle.saturn_top.specs.declared.first.rows.State.{State}
 use Rattle.saturn_top.specs.declared.first.rows.State.TheVariants.{Unlocked, Locked, Bad}
 use Rattle.saturn_top.specs.declared.first.rows.LockRow.{LockRow}

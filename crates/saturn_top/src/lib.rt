@@ -6,6 +6,7 @@
 
 pub mod check;
 pub mod first;
+pub mod form;
 pub mod status;
 
 pub use check::check_main;

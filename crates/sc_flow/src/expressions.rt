@@ -20,7 +20,7 @@ use sc_gather::Context;
 use sc_tree::op::UnaryOp;
 use sc_typed::{TExpr, What};
 
-/// The node at which an expression begins, and whether one node does for it.
+// The node at which an expression begins, and whether one node does for it.
 #[derive(Clone, Copy)]
 struct Made {
     at: u32,

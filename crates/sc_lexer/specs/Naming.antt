@@ -37,5 +37,5 @@ with_words (suc n) names before (c ∷ cs) =
     with_words n (with_piece p.form names text) (before ++ text) (drop p.len (c ∷ cs)))
 
 -- the names with the words of a file
-unfoldable pub named : List (List ℕ) → List ℕ → List (List ℕ)
-named names bytes = with_words (length bytes) names [] bytes
+unfoldable pub names_after : List (List ℕ) → List ℕ → List (List ℕ)
+names_after names bytes = with_words (length bytes) names [] bytes

@@ -5,7 +5,7 @@ ghost use Rattle.std.specs.Prelude.{◌≡◌, ◌+◌, ◌-◌, ◌^◌, ◌<�
 ghost use Rattle.sc_tree.specs.Lexed.{lexed};
 ghost use Rattle.sc_tree.specs.Segments.{Cuts};
 ghost use Rattle.sc_lexer.specs.Answer.{Answers, Grow};
-ghost use Rattle.sc_lexer.specs.Naming.{named};
+ghost use Rattle.sc_lexer.specs.Naming.{names_after};
 
 use crate::answer::LexAnswer;
 use crate::brackets::unbalanced;
@@ -20,7 +20,7 @@ use std::alloc::Global;
 /// none: first a place where nothing begins, then a bracket without its other half. The names of
 /// words go behind those that are there, which stay, whatever the answer is; where there are tokens, they stand in the
 /// order of the text. (C11 6.4.)
-#[tactic(auto, using(crate::proofs::CutProofs::ends_cut), unfolding(sc_tree::specs::Lexed::lexed, crate::specs::Naming::named))]
+#[tactic(auto, using(crate::proofs::CutProofs::ends_cut), unfolding(sc_tree::specs::Lexed::lexed, crate::specs::Naming::names_after))]
 pub fn tokens(
     alloc: Global,
     names: &mut Names,
@@ -31,7 +31,7 @@ pub fn tokens(
     ensures answer { Answers file result (lexed names.new file bytes.now) }
     ensures cut { IfOk result (λ t. Cuts 0 (length t.list) t.ends) }
     ensures names { Grow (length bytes.now) names.old names.new }
-    ensures named { IfOk result (λ _. names.new ≡ named names.old bytes.now) }
+    ensures named { IfOk result (λ _. names.new ≡ names_after names.old bytes.now) }
 {
     let all = scan(alloc, names, file, bytes)?;
     if let Some(place) = unbalanced(alloc, all.as_slice())? {

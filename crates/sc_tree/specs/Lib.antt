@@ -1,4 +1,3 @@
-pub mod Tree
 pub mod Tables
 pub mod Bytes
 pub mod Words

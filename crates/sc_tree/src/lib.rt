@@ -2,15 +2,12 @@
 //!
 //! `token` and `piece` have the tokens of preprocessed C; `specs/Lexed.antt` defines which a file has.
 //! `expr`, `op`, `ctype`, `grammar`, `decl`, `stmt` and `unit` have the trees of C; `specs/Grammar.antt`,
-//! `Statements.antt` and `Units.antt` define which tokens spell which tree. `first` has the *first forms*:
-//! one function whose statements lock, unlock, branch on a flag and return; `specs/Tree.antt` has what a
-//! contract sees of one: the same tree without pointers, vectors and strings.
+//! `Statements.antt` and `Units.antt` define which tokens spell which tree.
 #![tactic(auto)]
 
 pub mod ctype;
 pub mod decl;
 pub mod expr;
-pub mod first;
 pub mod grammar;
 pub mod op;
 pub mod piece;

@@ -1,7 +1,7 @@
 //! What is read of small files, and what is no first form.
 
 use saturn_top::first::read::read_first;
-use sc_tree::first::{ParamKind, Stmt};
+use saturn_top::form::{ParamKind, Stmt};
 use std::alloc::{AllocError, Global};
 use std::test::Fail;
 

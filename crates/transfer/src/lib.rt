@@ -1,7 +1,7 @@
 //! What comes in and what goes out: a file read whole, and bytes written whole, over any files and any sink.
 #![tactic(auto)]
 
-ghost use Rattle.std.specs.Prelude.{◌≡◌, Ok, Err, false, IfOk, MatchResult};
+ghost use Rattle.std.specs.Prelude.{◌≡◌, ◌≤◌, Ok, Err, false, IfOk, MatchResult};
 ghost use Rattle.sc_base.specs.Causes.{Rose};
 ghost use Rattle.sc_base.specs.Held.{is_named, IsRead};
 ghost use Rattle.sc_base.specs.Taken.{Appends, GotFront};
@@ -51,6 +51,9 @@ pub fn read_file<F: Files>(
 ) -> Result<Vec<u8>, ReadError>
     ensures read { IfOk result (λ bytes. IsRead limit (F.held files.old) name.now bytes.items) }
     ensures failed { result ≡ Err errors.Failed → Rose (F.faults files.old) (F.faults files.new) × (is_named name.now (F.firm files.old) ≡ false) }
+    ensures held { F.held files.new ≡ F.held files.old }
+    ensures firm { F.firm files.new ≡ F.firm files.old }
+    ensures later { F.faults files.old ≤ F.faults files.new }
 {
     files.start(name)?;
     let mut bytes = Vec::new(alloc);

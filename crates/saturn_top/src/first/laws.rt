@@ -2,7 +2,7 @@
 #![tactic(auto)]
 
 ghost use Rattle.std.specs.Prelude.{◌≡◌, ℕ, List, ◌++◌, ◌⊎◌, ◌↔◌, Some, None, codes};
-ghost use Rattle.sc_tree.specs.Tree.{Code, Form, Formal};
+ghost use Rattle.saturn_top.specs.Tree.{Code, Form, Formal};
 ghost use Rattle.saturn_top.specs.Spelling.{AreParams, IsFirst, IsGood, spelled};
 ghost use Rattle.saturn_top.specs.Reading.{form_at};
 

@@ -3,13 +3,13 @@
 
 ghost use Rattle.std.specs.Prelude.{◌≡◌, bytes_eq, map};
 ghost use Rattle.std.specs.List.{list_any};
-ghost use Rattle.sc_tree.specs.Tree.{formal};
+ghost use Rattle.saturn_top.specs.Tree.{formal};
 ghost use Rattle.saturn_top.specs.Spelling.{are_different, names_of};
 ghost use Rattle.saturn_top.specs.Reading.{Gives, is_param, kind_at, name_at, param_at, param_of, params_at, place_at};
 
 use crate::first::names::{after, name, text_of};
 use crate::first::stop::Stop;
-use sc_tree::first::{Param, ParamKind};
+use crate::form::{Param, ParamKind};
 use std::alloc::Global;
 
 fn is_param(kind: ParamKind, name: &[u8], param: &Param) -> bool

@@ -2,7 +2,7 @@
 #![tactic(auto)]
 
 ghost use Rattle.std.specs.Prelude.{◌≡◌, IfNone, IfOk, IfSome, Some, length, map, option_map, string_bytes};
-ghost use Rattle.sc_tree.specs.Tree.{Form, code_list, form, formal, seen};
+ghost use Rattle.saturn_top.specs.Tree.{Form, code_list, form, formal, seen};
 ghost use Rattle.saturn_top.specs.Spelling.{IsFirst};
 ghost use Rattle.saturn_top.specs.Reading.{Gives, body_at, form_at, head_at, is_end, whole_at};
 
@@ -11,7 +11,7 @@ use crate::first::params::{are_different, params};
 use crate::first::statements::block;
 use crate::first::stop::Stop;
 use sc_base::OutOfMemory;
-use sc_tree::first::{First, Param, Stmt};
+use crate::form::{First, Param, Stmt};
 use std::alloc::Global;
 
 /// How many bytes a file has at most.

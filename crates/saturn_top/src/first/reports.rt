@@ -2,13 +2,13 @@
 // that callers cannot know. `specs/Reports.antt` defines both by rows that stand.
 
 ghost use Rattle.std.specs.Prelude.{◌≡◌};
-ghost use Rattle.sc_tree.specs.Tree.{form};
+ghost use Rattle.saturn_top.specs.Tree.{form};
 ghost use Rattle.saturn_top.specs.Rows.{AreChoices};
 ghost use Rattle.saturn_top.specs.Reports.{is_double, ends_both, is_ambiguous};
 
 use crate::first::rows::{Choices, Question, State, stands};
 use crate::first::run::Bits;
-use sc_tree::first::First;
+use crate::form::First;
 
 /// Whether the lock has a report of a double call: for some entry bits a call is an error on it whether
 /// it is locked or unlocked at entry.

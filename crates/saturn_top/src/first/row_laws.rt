@@ -3,7 +3,7 @@
 
 ghost use Rattle.std.specs.Prelude.{◌≡◌, ℕ, Bool, true, List, length, ◌≤◌, ◌↔◌, map, Contains};
 ghost use Rattle.std.specs.List.Sorted.{IsStrictlyIncreasing};
-ghost use Rattle.sc_tree.specs.Tree.{Form, Formal};
+ghost use Rattle.saturn_top.specs.Tree.{Form, Formal};
 ghost use Rattle.saturn_top.specs.declared.first.rows.LockRow.{LockRow};
 ghost use Rattle.saturn_top.specs.declared.first.rows.State.TheVariants.{Unlocked, Locked, Bad};
 ghost use Rattle.saturn_top.specs.Rows.{entry_choices, lock_choices, exit_rows, lock_rows};

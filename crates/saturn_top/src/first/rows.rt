@@ -4,13 +4,13 @@
 // choices of the locks. `specs/Rows.antt` defines what stands; here each question is asked of every run.
 
 ghost use Rattle.std.specs.Prelude.{◌≡◌, ◌+◌, ◌^◌, ◌<◌, ◌++◌, length, IfOk, OnOk, map, filter};
-ghost use Rattle.sc_tree.specs.Tree.{seen, code_list, form, formal};
+ghost use Rattle.saturn_top.specs.Tree.{seen, code_list, form, formal};
 ghost use Rattle.saturn_top.specs.Run.{bit, run};
 ghost use Rattle.saturn_top.specs.Rows.{choices_from, is_lock, entry_choices, lock_choices, AreChoices, state_of, is_state, is_exit, is_bounded, state_after, is_some_state, says, stands, exit_rows, is_listed, possible_rows, row_stands, lock_rows};
 
 use crate::first::run::{Bits, Locks, Outcome, bit, run, with_bit};
 use sc_base::OutOfMemory;
-use sc_tree::first::{First, Param, ParamKind};
+use crate::form::{First, Param, ParamKind};
 use std::alloc::Global;
 
 /// The state of a lock in a row.

@@ -5,10 +5,10 @@
 // aside at a lock call on a null pointer (Aside). `specs/Run.antt` defines the same on the tree.
 
 ghost use Rattle.std.specs.Prelude.{◌≡◌, slice_set, map};
-ghost use Rattle.sc_tree.specs.Tree.{seen, code_list};
+ghost use Rattle.saturn_top.specs.Tree.{seen, code_list};
 ghost use Rattle.saturn_top.specs.Run.{bit, target_of, call_of, exec, exec_all, outcome_of, run};
 
-use sc_tree::first::Stmt;
+use crate::form::Stmt;
 
 /// The greatest number of parameters of a first form.
 pub const MAX_PARAMS: usize = 3;

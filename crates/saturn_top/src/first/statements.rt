@@ -2,13 +2,13 @@
 #![tactic(auto)]
 
 ghost use Rattle.std.specs.Prelude.{◌≡◌, length, map};
-ghost use Rattle.sc_tree.specs.Tree.{code_list, formal, seen};
+ghost use Rattle.saturn_top.specs.Tree.{code_list, formal, seen};
 ghost use Rattle.saturn_top.specs.Reading.{Gives, block_at, choice_at, lock_at, statement_at};
 
 use crate::first::names::{after, expect};
 use crate::first::params::place;
 use crate::first::stop::Stop;
-use sc_tree::first::{Param, ParamKind, Stmt, make_block};
+use crate::form::{Param, ParamKind, Stmt, make_block};
 use std::alloc::Global;
 
 /// The lock that a call names, by its number. The call's opening bracket was read.

@@ -1,7 +1,7 @@
 // The summary of a first form: what stands between its runs and the text. `specs/Summary.antt` defines it.
 
 ghost use Rattle.std.specs.Prelude.{◌≡◌, map, filter, IfOk};
-ghost use Rattle.sc_tree.specs.Tree.{form};
+ghost use Rattle.saturn_top.specs.Tree.{form};
 ghost use Rattle.saturn_top.specs.Rows.{AreChoices};
 ghost use Rattle.saturn_top.specs.Summary.{numbers, has, section_of, summary_of};
 
@@ -9,7 +9,7 @@ use crate::first::reports::{is_ambiguous, is_double};
 use crate::first::rows::{Choices, LockRow, choices_of, exit_rows, is_listed, lock_rows};
 use crate::first::run::Bits;
 use sc_base::{List, OutOfMemory};
-use sc_tree::first::First;
+use crate::form::First;
 use std::alloc::Global;
 
 /// The rows of a lock.

@@ -2,7 +2,7 @@
 
 ghost use Rattle.std.specs.Prelude.{◌≡◌, ◌+◌, ◌^◌, ◌<◌, ◌≤◌, ◌++◌, length, map, OnOk, IfOk, decimal, string_bytes};
 ghost use Rattle.std.specs.List.{flat_map};
-ghost use Rattle.sc_tree.specs.Tree.{form, formal};
+ghost use Rattle.saturn_top.specs.Tree.{form, formal};
 ghost use Rattle.saturn_top.specs.Run.{bit};
 ghost use Rattle.saturn_top.specs.Summary.{row_count, report_count, has_reports};
 ghost use Rattle.saturn_top.specs.Text.{digit_of, bits_text, state_text, exit_line, lock_line, name_at, function_line, entry_line, exits_text, section_text, kind_text, report_line, total_line, summary_text, text_of};
@@ -12,7 +12,7 @@ use crate::first::run::{Bits, bit};
 use crate::first::summary::{Section, Summary, summarize};
 use itoa::Buffer;
 use sc_base::OutOfMemory;
-use sc_tree::first::{First, Param};
+use crate::form::{First, Param};
 use std::alloc::Global;
 
 // Each function here puts its part behind the bytes that `out` has.

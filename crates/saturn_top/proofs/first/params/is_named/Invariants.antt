@@ -2,7 +2,7 @@
 use Rattle.std.proofs.Common.{◌≡◌, map, drop}
 use Rattle.std.specs.Prelude.{bytes_eq}
 use Rattle.std.specs.List.{list_any}
-use Rattle.sc_tree.specs.Tree.{formal}
+use Rattle.saturn_top.specs.Tree.{formal}
 use Rattle.saturn_top.specs.Spelling.{names_of}
 use Rattle.saturn_top.proofs.first.params.is_named.Given as goal
 

@@ -1,7 +1,7 @@
 -- Past the parameters so far, the search gives what it gives among all.
 use Rattle.std.proofs.Common.{◌≡◌, ◌+◌, map, drop}
 use Rattle.std.specs.Prelude.{option_map}
-use Rattle.sc_tree.specs.Tree.{formal}
+use Rattle.saturn_top.specs.Tree.{formal}
 use Rattle.saturn_top.specs.Reading.{param_of}
 use Rattle.saturn_top.proofs.first.params.number_of.Given as goal
 

@@ -1,6 +1,6 @@
 -- What was read so far, before what is still to read, is the whole reading.
 use Rattle.std.proofs.Common.{◌≡◌, ◌-◌, map}
-use Rattle.sc_tree.specs.Tree.{formal}
+use Rattle.saturn_top.specs.Tree.{formal}
 use Rattle.saturn_top.specs.Reading.{params_at}
 use Rattle.saturn_top.proofs.Turns.{with_params}
 use Rattle.saturn_top.proofs.first.params.params.Given as goal

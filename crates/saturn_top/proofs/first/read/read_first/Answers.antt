@@ -1,5 +1,5 @@
 use Rattle.std.proofs.Common.{◌≡◌, None, sym, ◌∙◌}
-use Rattle.sc_tree.specs.Tree.{form}
+use Rattle.saturn_top.specs.Tree.{form}
 use Rattle.saturn_top.specs.Reading.{form_at}
 use Rattle.saturn_top.proofs.Whole.{form_is, form_again, no_form}
 use Rattle.saturn_top.proofs.first.read.read_first.Goals as goal

@@ -1,7 +1,7 @@
 -- No entry so far leaves the lock open.
 use Rattle.std.proofs.Common.{◌≡◌, drop}
 use Rattle.std.specs.List.{list_any}
-use Rattle.sc_tree.specs.Tree.{form}
+use Rattle.saturn_top.specs.Tree.{form}
 use Rattle.saturn_top.specs.Reports.{leaves_open}
 use Rattle.saturn_top.proofs.first.reports.is_ambiguous.Given as goal
 

@@ -1,7 +1,7 @@
 -- No entry so far has an error from either state.
 use Rattle.std.proofs.Common.{◌≡◌, drop}
 use Rattle.std.specs.List.{list_any}
-use Rattle.sc_tree.specs.Tree.{form}
+use Rattle.saturn_top.specs.Tree.{form}
 use Rattle.saturn_top.specs.Reports.{errs_from_both}
 use Rattle.saturn_top.proofs.first.reports.is_double.Given as goal
 

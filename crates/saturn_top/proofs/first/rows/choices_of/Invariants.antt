@@ -1,6 +1,6 @@
 -- The places that are free, as far as the parameters were read.
 use Rattle.std.proofs.Common.{◌≡◌, map, take, true}
-use Rattle.sc_tree.specs.Tree.{formal}
+use Rattle.saturn_top.specs.Tree.{formal}
 use Rattle.saturn_top.specs.Rows.{is_lock}
 use Rattle.saturn_top.proofs.first.rows.choices_of.Given as goal
 

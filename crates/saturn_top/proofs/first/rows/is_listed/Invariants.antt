@@ -1,7 +1,7 @@
 -- No entry so far has a run that touches the lock.
 use Rattle.std.proofs.Common.{◌≡◌, drop}
 use Rattle.std.specs.List.{list_any}
-use Rattle.sc_tree.specs.Tree.{form}
+use Rattle.saturn_top.specs.Tree.{form}
 use Rattle.saturn_top.specs.declared.first.rows.Question.TheVariants.{Touches}
 use Rattle.saturn_top.specs.Rows.{stands}
 use Rattle.saturn_top.proofs.first.rows.is_listed.Given as goal

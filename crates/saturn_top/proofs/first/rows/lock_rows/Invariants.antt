@@ -1,7 +1,7 @@
 -- The rows so far are those of the entries so far.
 use Rattle.std.proofs.Common.{◌≡◌, take, filter}
 use Rattle.std.specs.List.{flat_map}
-use Rattle.sc_tree.specs.Tree.{form}
+use Rattle.saturn_top.specs.Tree.{form}
 use Rattle.saturn_top.specs.Rows.{row_stands, possible_rows}
 use Rattle.saturn_top.proofs.first.rows.lock_rows.Given as goal
 

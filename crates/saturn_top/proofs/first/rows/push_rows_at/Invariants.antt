@@ -1,6 +1,6 @@
 -- What was put there, before what the rows still to ask for give, is all of it.
 use Rattle.std.proofs.Common.{◌≡◌, ◌++◌, drop, filter}
-use Rattle.sc_tree.specs.Tree.{form}
+use Rattle.saturn_top.specs.Tree.{form}
 use Rattle.saturn_top.specs.Rows.{row_stands, possible_rows}
 use Rattle.saturn_top.proofs.first.rows.push_rows_at.Given as goal
 

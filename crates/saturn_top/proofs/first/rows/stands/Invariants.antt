@@ -1,7 +1,7 @@
 -- No run so far said yes.
 use Rattle.std.proofs.Common.{◌≡◌, drop}
 use Rattle.std.specs.List.{list_any}
-use Rattle.sc_tree.specs.Tree.{form}
+use Rattle.saturn_top.specs.Tree.{form}
 use Rattle.saturn_top.specs.Rows.{run_says}
 use Rattle.saturn_top.proofs.first.rows.stands.Given as goal
 

@@ -1,6 +1,6 @@
 -- What the statements still to run do is what all of them do.
 use Rattle.std.proofs.Common.{◌≡◌, drop, map}
-use Rattle.sc_tree.specs.Tree.{seen, code_list}
+use Rattle.saturn_top.specs.Tree.{seen, code_list}
 use Rattle.saturn_top.specs.Run.{exec_all}
 use Rattle.saturn_top.proofs.first.run.+exec.Given as goal
 

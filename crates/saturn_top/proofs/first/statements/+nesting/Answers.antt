@@ -1,7 +1,7 @@
 use Rattle.std.proofs.Common.{◌≡◌, ◌++◌, ◌∷◌, [], length, map, sym}
 use Rattle.std.proofs.lemmas.Result.{err_from_is_err_and}
 use Rattle.std.proofs.lemmas.List.{map_push}
-use Rattle.sc_tree.specs.Tree.{formal, seen}
+use Rattle.saturn_top.specs.Tree.{formal, seen}
 use Rattle.saturn_top.specs.Reading.{block_at, statement_at}
 use Rattle.saturn_top.proofs.Turns.{codes_go, codes_end, codes_stop}
 use Rattle.saturn_top.proofs.first.statements.+nesting.Goals as goal

@@ -1,7 +1,7 @@
 -- What was read so far, before what is still to read, is the whole reading. A statement is one deeper
 -- than what stands in it.
 use Rattle.std.proofs.Common.{◌≡◌, ◌+◌, ◌-◌, ◌*◌, length, map}
-use Rattle.sc_tree.specs.Tree.{formal, seen}
+use Rattle.saturn_top.specs.Tree.{formal, seen}
 use Rattle.saturn_top.specs.Reading.{block_at, statement_at}
 use Rattle.saturn_top.proofs.Turns.{with_codes}
 use Rattle.saturn_top.proofs.first.statements.+nesting.Given as goal

@@ -1,6 +1,6 @@
 use Rattle.std.proofs.Common.{◌∙◌}
 use Rattle.saturn_top.specs.Summary.{has}
-use Rattle.sc_tree.specs.Tree.{form}
+use Rattle.saturn_top.specs.Tree.{form}
 use Rattle.saturn_top.proofs.Numbers.{found_more}
 use Rattle.saturn_top.proofs.first.summary.marked.Goals as goal
 use Rattle.saturn_top.proofs.first.summary.marked.Goals.{then-has+in_ok-push, else-has}

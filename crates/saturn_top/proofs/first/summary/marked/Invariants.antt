@@ -1,7 +1,7 @@
 -- The locks found so far are those of the parameters so far.
 use Rattle.std.proofs.Common.{◌≡◌, filter}
 use Rattle.std.specs.List.{range_with_len}
-use Rattle.sc_tree.specs.Tree.{form}
+use Rattle.saturn_top.specs.Tree.{form}
 use Rattle.saturn_top.specs.Summary.{has}
 use Rattle.saturn_top.proofs.first.summary.marked.Given as goal
 

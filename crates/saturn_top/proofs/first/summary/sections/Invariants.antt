@@ -1,6 +1,6 @@
 -- The sections so far are those of the locks so far.
 use Rattle.std.proofs.Common.{◌≡◌, map, take}
-use Rattle.sc_tree.specs.Tree.{form}
+use Rattle.saturn_top.specs.Tree.{form}
 use Rattle.saturn_top.specs.Summary.{section_of}
 use Rattle.saturn_top.proofs.first.summary.sections.Given as goal
 

@@ -1,7 +1,7 @@
 -- The names so far.
 use Rattle.std.proofs.Common.{◌≡◌, ◌++◌, map, take, codes}
 use Rattle.std.specs.List.{flat_map}
-use Rattle.sc_tree.specs.Tree.{formal}
+use Rattle.saturn_top.specs.Tree.{formal}
 use Rattle.saturn_top.specs.Text.{spaced_name}
 use Rattle.saturn_top.proofs.first.text.put_entry.Given as goal
 

@@ -1,7 +1,7 @@
 -- The lines so far.
 use Rattle.std.proofs.Common.{◌≡◌, ◌++◌, take, map}
 use Rattle.std.specs.List.{flat_map}
-use Rattle.sc_tree.specs.Tree.{formal}
+use Rattle.saturn_top.specs.Tree.{formal}
 use Rattle.saturn_top.specs.Text.{report_line}
 use Rattle.saturn_top.proofs.first.text.put_reports.Given as goal
 

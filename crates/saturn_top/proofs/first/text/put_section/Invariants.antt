@@ -1,7 +1,7 @@
 -- The rows so far.
 use Rattle.std.proofs.Common.{◌≡◌, ◌++◌, take, codes, length, map}
 use Rattle.std.specs.List.{flat_map}
-use Rattle.sc_tree.specs.Tree.{formal}
+use Rattle.saturn_top.specs.Tree.{formal}
 use Rattle.saturn_top.specs.Text.{lock_line, name_at}
 use Rattle.saturn_top.proofs.first.text.put_section.Given as goal
 

@@ -1,7 +1,7 @@
 use Rattle.std.proofs.Common.{◌^◌, ◌<◌, subst, sym}
 use Rattle.saturn_top.specs.declared.first.summary.Summary.{Summary}
 use Rattle.saturn_top.specs.Summary.{row_count}
-use Rattle.sc_tree.specs.Tree.{form}
+use Rattle.saturn_top.specs.Tree.{form}
 use Rattle.saturn_top.proofs.Bounds.{row_count_short}
 use Rattle.saturn_top.proofs.first.text.text_of.Goals as goal
 

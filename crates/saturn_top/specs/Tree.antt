@@ -3,13 +3,13 @@
 -- Two trees of the program that differ only in where they lie in memory are one `Form` here, so every
 -- definition on first forms (spelling, runs, rows, text) is one on `Code`, `Formal` and `Form`.
 use Rattle.std.specs.Prelude.{ℕ, List, [], ◌∷◌, map, string_bytes}
-use Rattle.sc_tree.specs.declared.first.First.{First}
-use Rattle.sc_tree.specs.declared.first.Param.{Param}
-use Rattle.sc_tree.specs.declared.first.ParamKind.{ParamKind}
-use Rattle.sc_tree.specs.declared.first.Stmt.{Stmt}
-use Rattle.sc_tree.specs.declared.first.Stmt.TheOpen as layer
-use Rattle.sc_tree.specs.declared.first.Stmt.TheOpen.{Stmt-F}
-use Rattle.sc_tree.specs.declared.first.Stmt.TheFolds.{fold-Stmt}
+use Rattle.saturn_top.specs.declared.form.First.{First}
+use Rattle.saturn_top.specs.declared.form.Param.{Param}
+use Rattle.saturn_top.specs.declared.form.ParamKind.{ParamKind}
+use Rattle.saturn_top.specs.declared.form.Stmt.{Stmt}
+use Rattle.saturn_top.specs.declared.form.Stmt.TheOpen as layer
+use Rattle.saturn_top.specs.declared.form.Stmt.TheOpen.{Stmt-F}
+use Rattle.saturn_top.specs.declared.form.Stmt.TheFolds.{fold-Stmt}
 
 -- A statement, and a list of statements. The numbers are those of parameters, counted from 0.
 mutual

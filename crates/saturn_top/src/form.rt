@@ -5,7 +5,7 @@
 #![tactic(auto)]
 
 ghost use Rattle.std.specs.Prelude.{◌≡◌, map};
-ghost use Rattle.sc_tree.specs.Tree.{Block, code_list, seen};
+ghost use Rattle.saturn_top.specs.Tree.{Block, code_list, seen};
 
 /// What a parameter is.
 #[derive(Clone, Copy, Debug, PartialEq, Eq)]
