@@ -1,14 +1,3 @@
-pub mod Answered
-pub mod Basics
-pub mod Turns
-pub mod Items
-pub mod Spelled
-pub mod Again
-pub mod Whole
-pub mod Numbers
-pub mod Digits
-pub mod Bounds
-pub mod Members
-pub mod RowProofs
-pub mod Order
-pub mod AllChoices
+mod Answered
+mod Machines
+mod Unread

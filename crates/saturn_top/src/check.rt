@@ -1,131 +1,235 @@
-// The top call of `saturn_check`: it reads the file that the words name, and writes the text that is
-// defined for its bytes, or one line that says why there is none.
+// The call of `saturn_check`.
 
-ghost use Rattle.std.specs.Prelude.{◌≡◌, ◌≢◌, ◌⊎◌, List, ℕ, ◌∷◌, [], ◌++◌, map, length, true, false, string_bytes, codes, IfOk};
+ghost use Rattle.std.specs.Prelude.{◌≡◌, ◌⊎◌, ◌<◌, ◌≤◌, ℕ, List, [], map, string_bytes, codes, true, false, IfOk};
+ghost use Rattle.clap.specs.Words.{App};
 ghost use Rattle.sc_base.specs.Causes.{Rose};
 ghost use Rattle.sc_base.specs.Held.{is_named};
-ghost use Rattle.sc_base.specs.Taken.{Went, Keeps};
-ghost use Rattle.saturn_top.specs.Answer.{IsDueFor, Answers, has_text, is_finding, status_of, cannot_read};
-ghost use Rattle.saturn_top.specs.Found.{due_of};
+ghost use Rattle.sc_base.specs.Taken.{Keeps};
+ghost use Rattle.sc_input.specs.Input.{Outside};
+ghost use Rattle.saturn_words.specs.Commands.{IsCheck};
+ghost use Rattle.saturn_words.specs.Words.{faults};
+ghost use Rattle.whole_checks.specs.Said.{said, HasWholeMachine};
+ghost use Rattle.saturn_top.specs.Answer.{Answers, has_output, is_finding};
+ghost use Rattle.saturn_top.specs.Checks.{due_of_said, sources_of, IsDue, IsFound, AskNothing, AskForHelp, AreBad, NamesFile};
+ghost use Rattle.saturn_top.specs.Seen.{seen};
 
-use crate::first::read::read_first;
-use crate::first::text::{FirstText, text_of};
+use crate::answer::{Answer, give};
+use crate::refusals::{answer_of, refused};
 use crate::status::Status;
+use fsm_spec::whole_machines;
+use saturn_words::{NoWords, Options, check_words};
 use sc_base::{Files, OutOfMemory, Sink};
+use sc_input::{Input, read_input};
 use std::alloc::Global;
-use transfer::{ReadError, read_file, write_all};
+use std::sync::Wait;
+use std::thread::Threads;
+use whole_checks::{Sources, say, say_by};
+use work_pool::Gate;
 
-/// Reading ends at this byte: a first form has at most one fewer.
-const READ_LIMIT: usize = 4097;
-
-/// The words: the program's name and the file's.
-const WORD_COUNT: usize = 2;
-
-// Writes the bytes, and answers the status that is due with them.
-fn say<S: Sink>(sink: &mut S, due: Status, bytes: &[u8]) -> Status
-    ensures { Went due Status.WriteFault result (record { faults_before = S.faults sink.old; faults_after = S.faults sink.new; before = S.taken sink.old; after = S.taken sink.new }) bytes.now }
+// What is due for the input.
+fn answer_for(alloc: Global, options: &Options, input: Input) -> Result<Answer, OutOfMemory>
+    requires whole { HasWholeMachine input.machine }
+    ensures { IfOk result (λ answer. seen answer ≡ due_of_said (codes "saturn_check") (said (sources_of options.now input) options.now.depth options.now.reach)) }
 {
-    match write_all(sink, bytes) {
-        Ok(()) => due,
-        Err(_) => Status::WriteFault,
-    }
-}
-
-// The line for a file that was not read.
-fn cannot_read_line(alloc: Global, name: &str) -> Result<Vec<u8>, OutOfMemory>
-    ensures { IfOk result (λ line. line.items ≡ cannot_read name.now) }
-{
-    let mut line = b"saturn_check: cannot read ".to_vec(alloc)?;
-    line.extend_from_slice(name.as_bytes())?;
-    line.push(b'\n')?;
-    Ok(line)
-}
-
-// The text for the bytes of a file of this name, or nothing where they are not a first form.
-fn find_text(alloc: Global, name: &str, bytes: &[u8]) -> Result<Option<FirstText>, OutOfMemory>
-    ensures { IfOk result (λ found. IsDueFor name.now bytes.now (due_of found)) }
-{
-    match read_first(alloc, bytes)? {
-        Some(first) => Ok(Some(text_of(alloc, name, &first)?)),
-        None => Ok(None),
-    }
-}
-
-fn status(has_reports: bool) -> Status
-    ensures { result ≡ status_of has_reports }
-{
-    if has_reports {
-        Status::Reports
-    } else {
-        Status::Clean
-    }
-}
-
-// Checks the file of this name.
-fn check_file<F: Files, O: Sink, E: Sink>(
-    alloc: Global,
-    name: &str,
-    files: &mut F,
-    out: &mut O,
-    err: &mut E,
-) -> Status
-    ensures { (program : List ℕ) → Answers (program ∷ name.now ∷ [])
-        (record { held = F.held files.old; firm = F.firm files.old; faults_before = F.faults files.old; faults_after = F.faults files.new })
-        result
-        (record { faults_before = O.faults out.old; faults_after = O.faults out.new; before = O.taken out.old; after = O.taken out.new })
-        (record { faults_before = E.faults err.old; faults_after = E.faults err.new; before = E.taken err.old; after = E.taken err.new }) }
-{
-    let bytes = match read_file(alloc, files, name, READ_LIMIT) {
-        Ok(bytes) => bytes,
-        Err(ReadError::Failed) => {
-            return match cannot_read_line(alloc, name) {
-                Ok(line) => say(err, Status::ReadFault, &line),
-                Err(_) => Status::Memory,
-            };
-        }
-        Err(ReadError::OutOfMemory) => return Status::Memory,
+    let Input {
+        names,
+        files,
+        units,
+        machine,
+        ..
+    } = input;
+    let sources = Sources {
+        names,
+        files,
+        units: units.as_slice(),
+        widths: options.widths,
+        machine,
     };
-    match find_text(alloc, name, &bytes) {
-        Ok(Some(found)) => say(out, status(found.has_reports), &found.text),
-        Ok(None) => say(err, Status::Refused, b"saturn_check: unbuilt\n"),
-        Err(_) => Status::Memory,
+    let said = say(alloc, sources, options.depth, options.reach)?;
+    answer_of(alloc, b"saturn_check", said)
+}
+
+// The same, found by so many workers.
+fn answer_by<R: Threads + Wait + Sync, G: Gate + Sync>(
+    rt: &R,
+    alloc: Global,
+    options: &Options,
+    input: Input,
+    jobs: u32,
+    gate: &G,
+) -> Result<Answer, OutOfMemory>
+    requires whole { HasWholeMachine input.machine }
+    requires jobs { (0 < jobs) × (jobs ≤ 64) }
+    ensures { IfOk result (λ answer. seen answer ≡ due_of_said (codes "saturn_check") (said (sources_of options.now input) options.now.depth options.now.reach)) }
+{
+    let Input {
+        names,
+        files,
+        units,
+        machine,
+        ..
+    } = input;
+    let sources = Sources {
+        names,
+        files,
+        units: units.as_slice(),
+        widths: options.widths,
+        machine,
+    };
+    let said = say_by(rt, alloc, sources, options.depth, options.reach, jobs, gate)?;
+    answer_of(alloc, b"saturn_check", said)
+}
+
+// What is due for the files that these options name.
+fn find<F: Files>(alloc: Global, options: &Options, files: &mut F) -> Result<Answer, OutOfMemory>
+    ensures { IfOk result (λ answer. IsFound options.now (record { held = F.held files.old; firm = F.firm files.old; faults_before = F.faults files.old; faults_after = F.faults files.new }) (seen answer)) }
+{
+    whole_machines();
+    match read_input(alloc, files, options.machine, options.files.as_slice()) {
+        Ok(input) => answer_for(alloc, options, input),
+        Err(why) => refused(alloc, b"saturn_check", why),
     }
 }
 
-/// Checks a file: `words` are the program's name and the file's.
+// The same, found by so many workers.
+fn find_by<R: Threads + Wait + Sync, F: Files, G: Gate + Sync>(
+    rt: &R,
+    alloc: Global,
+    options: &Options,
+    files: &mut F,
+    jobs: u32,
+    gate: &G,
+) -> Result<Answer, OutOfMemory>
+    requires jobs { (0 < jobs) × (jobs ≤ 64) }
+    ensures { IfOk result (λ answer. IsFound options.now (record { held = F.held files.old; firm = F.firm files.old; faults_before = F.faults files.old; faults_after = F.faults files.new }) (seen answer)) }
+{
+    whole_machines();
+    match read_input(alloc, files, options.machine, options.files.as_slice()) {
+        Ok(input) => answer_by(rt, alloc, options, input, jobs, gate),
+        Err(why) => refused(alloc, b"saturn_check", why),
+    }
+}
+
+// What is due where the words ask for nothing.
+fn unasked(why: NoWords) -> Result<Answer, OutOfMemory>
+    ensures { IfOk result (λ answer. (words : List (List ℕ)) (outside : Outside) → AskNothing words why → IsDue words outside (seen answer)) }
+{
+    match why {
+        NoWords::Help(text) => Ok(Answer::Output(Status::Helped, text.into_bytes())),
+        NoWords::Bad(text) => Ok(Answer::Errors(Status::BadWords, text.into_bytes())),
+        NoWords::Memory => Err(OutOfMemory),
+    }
+}
+
+// What is due for these words.
+fn answer<F: Files>(
+    alloc: Global,
+    words: &Vec<String>,
+    files: &mut F,
+) -> Result<Answer, OutOfMemory>
+    ensures { IfOk result (λ answer. IsDue (map string_bytes words.now.items) (record { held = F.held files.old; firm = F.firm files.old; faults_before = F.faults files.old; faults_after = F.faults files.new }) (seen answer)) }
+{
+    match check_words(alloc, words.as_slice()) {
+        Ok(asked) => find(alloc, &asked.options, files),
+        Err(why) => unasked(why),
+    }
+}
+
+// The same, found by as many workers as the words ask for.
+fn answer_by_jobs<R: Threads + Wait + Sync, F: Files, G: Gate + Sync>(
+    rt: &R,
+    alloc: Global,
+    words: &Vec<String>,
+    files: &mut F,
+    gate: &G,
+) -> Result<Answer, OutOfMemory>
+    ensures { IfOk result (λ answer. IsDue (map string_bytes words.now.items) (record { held = F.held files.old; firm = F.firm files.old; faults_before = F.faults files.old; faults_after = F.faults files.new }) (seen answer)) }
+{
+    match check_words(alloc, words.as_slice()) {
+        Ok(asked) => {
+            if asked.jobs == 1 {
+                find(alloc, &asked.options, files)
+            } else {
+                find_by(rt, alloc, &asked.options, files, asked.jobs, gate)
+            }
+        }
+        Err(why) => unasked(why),
+    }
+}
+
+/// Checks files on the calling thread. `words` are the program's name and the words of `saturn_check`.
 ///
-/// The text goes to `out`, and a line that says why there is none to `err`. Either is made whole
-/// before its first byte is written.
-pub fn check_main<F: Files, O: Sink, E: Sink>(
+/// The text of the check, or that of help, goes to `out`; the line that says why there is none goes to `err`. Either is
+/// made whole before its first byte is written.
+pub fn check_alone<F: Files, O: Sink, E: Sink>(
     alloc: Global,
     words: &Vec<String>,
     files: &mut F,
     out: &mut O,
     err: &mut E,
 ) -> Status
-    // Memory was refused and nothing was written, or the due answer was given: it is the defined one for these
-    // words and these bytes, and its bytes went to their sink whole or, where that failed, up to the fault.
-    ensures answers { Answers (map string_bytes words.now.items)
-        (record { held = F.held files.old; firm = F.firm files.old; faults_before = F.faults files.old; faults_after = F.faults files.new })
+    // Memory was refused and nothing was written; or the answer that is due for these words and these files was given,
+    // and its bytes went to their sink, whole or, where that failed, up to the fault.
+    ensures answers { Answers (IsDue (map string_bytes words.now.items) (record { held = F.held files.old; firm = F.firm files.old; faults_before = F.faults files.old; faults_after = F.faults files.new }))
         result
         (record { faults_before = O.faults out.old; faults_after = O.faults out.new; before = O.taken out.old; after = O.taken out.new })
         (record { faults_before = E.faults err.old; faults_after = E.faults err.new; before = E.taken err.old; after = E.taken err.new }) }
 
     // Each answer has its cause.
-    ensures bad_words { result ≡ Status.BadWords → length words.now.items ≢ 2 }
+    ensures bad_words { result ≡ Status.BadWords → AreBad (map string_bytes words.now.items) }
+    ensures helped { result ≡ Status.Helped → AskForHelp (map string_bytes words.now.items) }
     ensures read_fault { result ≡ Status.ReadFault → Rose (F.faults files.old) (F.faults files.new) }
-    ensures not_firm { result ≡ Status.ReadFault → (name : List ℕ) × (is_named name (map string_bytes words.now.items) ≡ true) × (is_named name (F.firm files.old) ≡ false) }
+    ensures not_firm { result ≡ Status.ReadFault → (name : List ℕ) × NamesFile (map string_bytes words.now.items) name × (is_named name (F.firm files.old) ≡ false) }
     ensures write_fault { result ≡ Status.WriteFault → Rose (O.faults out.old) (O.faults out.new) ⊎ Rose (E.faults err.old) (E.faults err.new) }
-    ensures no_help { result ≢ Status.Helped }
-    // With two words and no fault the answer says what the file is, or that memory was refused.
-    ensures complete { length words.now.items ≡ 2 → ¬ Rose (F.faults files.old) (F.faults files.new) → ¬ Rose (O.faults out.old) (O.faults out.new)
+    // With good words and no fault the answer says what the files are, or that memory was refused.
+    ensures complete { ((command : App) → IsCheck command → faults command (map string_bytes words.now.items) ≡ [])
+        → ¬ Rose (F.faults files.old) (F.faults files.new) → ¬ Rose (O.faults out.old) (O.faults out.new)
         → ¬ Rose (E.faults err.old) (E.faults err.new) → is_finding result ≡ true }
 
-    // Nothing was written to the output with an answer that has no text.
-    ensures quiet { has_text result ≡ false → Keeps (O.taken out.old) (O.taken out.new) }
+    // Nothing was written to the output with an answer that has none.
+    ensures quiet { has_output result ≡ false → Keeps (O.taken out.old) (O.taken out.new) }
 {
-    if words.len() != WORD_COUNT {
-        return say(err, Status::BadWords, b"saturn_check: bad words\n");
+    match answer(alloc, words, files) {
+        Ok(answer) => give(&answer, out, err),
+        Err(_) => Status::Memory,
     }
-    check_file(alloc, &words[1], files, out, err)
+}
+
+/// Checks files as `check_alone` does, by as many workers as the words ask for; the calling thread is one of them. The
+/// answers, their causes and the bytes are those of `check_alone`. With more than one worker it may wait for ever: what
+/// is promised of the answer holds if it returns. `gate` is told of each claim of a worker.
+pub fn check_main<R: Threads + Wait + Sync, F: Files, O: Sink, E: Sink, G: Gate + Sync>(
+    rt: &R,
+    alloc: Global,
+    words: &Vec<String>,
+    files: &mut F,
+    out: &mut O,
+    err: &mut E,
+    gate: &G,
+) -> Status
+    // Memory was refused and nothing was written; or the answer that is due for these words and these files was given,
+    // and its bytes went to their sink, whole or, where that failed, up to the fault.
+    ensures answers { Answers (IsDue (map string_bytes words.now.items) (record { held = F.held files.old; firm = F.firm files.old; faults_before = F.faults files.old; faults_after = F.faults files.new }))
+        result
+        (record { faults_before = O.faults out.old; faults_after = O.faults out.new; before = O.taken out.old; after = O.taken out.new })
+        (record { faults_before = E.faults err.old; faults_after = E.faults err.new; before = E.taken err.old; after = E.taken err.new }) }
+
+    // Each answer has its cause.
+    ensures bad_words { result ≡ Status.BadWords → AreBad (map string_bytes words.now.items) }
+    ensures helped { result ≡ Status.Helped → AskForHelp (map string_bytes words.now.items) }
+    ensures read_fault { result ≡ Status.ReadFault → Rose (F.faults files.old) (F.faults files.new) }
+    ensures not_firm { result ≡ Status.ReadFault → (name : List ℕ) × NamesFile (map string_bytes words.now.items) name × (is_named name (F.firm files.old) ≡ false) }
+    ensures write_fault { result ≡ Status.WriteFault → Rose (O.faults out.old) (O.faults out.new) ⊎ Rose (E.faults err.old) (E.faults err.new) }
+    // With good words and no fault the answer says what the files are, or that memory was refused.
+    ensures complete { ((command : App) → IsCheck command → faults command (map string_bytes words.now.items) ≡ [])
+        → ¬ Rose (F.faults files.old) (F.faults files.new) → ¬ Rose (O.faults out.old) (O.faults out.new)
+        → ¬ Rose (E.faults err.old) (E.faults err.new) → is_finding result ≡ true }
+
+    // Nothing was written to the output with an answer that has none.
+    ensures quiet { has_output result ≡ false → Keeps (O.taken out.old) (O.taken out.new) }
+{
+    match answer_by_jobs(rt, alloc, words, files, gate) {
+        Ok(answer) => give(&answer, out, err),
+        Err(_) => Status::Memory,
+    }
 }

@@ -1,13 +1,15 @@
-// The top calls of the checker: words and files in, a text and a status out.
-//
-// `check` is the call that `saturn_check` makes. It reads (crate `transfer`), finds the text or a refusal
-// (`first`), writes, and answers a `status`. `specs/Answer.antt` says which answer is due when.
+//! The top calls of the programs: words and files in, a text and a status out.
+//!
+//! `check` is the call of `saturn_check`. It reads the words (`saturn_words`) and the files (`sc_input`), finds what is
+//! said of them (`whole_checks`) or the line of a refusal (`lines`), and writes (`answer`). `specs/Checks.antt` says
+//! which answer is due when.
 #![tactic(auto)]
 
-pub mod check;
-pub mod first;
-pub mod form;
-pub mod status;
+mod answer;
+mod check;
+mod lines;
+mod refusals;
+mod status;
 
-pub use check::check_main;
-pub use status::{Refusal, Status};
+pub use check::{check_alone, check_main};
+pub use status::Status;

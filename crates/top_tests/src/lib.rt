@@ -1,8 +1,20 @@
-//! The tests of the top call, `check_main`, and of the reading of first forms. They stand in a crate of their
-//! own, so that `saturn_top` is proved once, without tests.
+//! The tests of the top calls: whole runs over files and sinks in memory. `rows` runs the rows of `locks`, `memory`,
+//! `skips`, `options` and `refusals`; `faults` has files and sinks that fail, words and limits.
+//!
+//! They stand in a crate of their own, so that the top calls are proved once, without tests.
 #![tactic(auto)]
 
 #[cfg(test)]
-mod reading;
+mod faults;
 #[cfg(test)]
-mod whole;
+mod locks;
+#[cfg(test)]
+mod memory;
+#[cfg(test)]
+mod options;
+#[cfg(test)]
+mod refusals;
+#[cfg(test)]
+mod rows;
+#[cfg(test)]
+mod skips;

@@ -1,0 +1,2 @@
+#![tactic(auto)]
+pub fn one() -> u32 { 1 }

@@ -1,0 +1,64 @@
+// Objects that are made, freed and lost.
+
+use crate::rows::Row;
+use saturn_top::Status;
+
+pub static MEMORY: [Row; 3] = [
+    Row {
+        name: "parameter freed",
+        words: &["saturn_check", "a.c"],
+        files: &[("a.c", "void f(char*p){kfree(p);}")],
+        status: Status::Clean,
+        out: "\
+function f at a.c:1:6
+  entry p
+  exits
+    0 -> -
+    1 -> -
+  param p
+    1 -> - freed
+total functions 1 skipped 0 rows 3 reports 0
+",
+        err: "",
+    },
+    Row {
+        name: "leak where the condition is false",
+        words: &["saturn_check", "a.c"],
+        files: &[("a.c", "void f(_Bool c){char*p=kmalloc(8,0);if(c)kfree(p);}")],
+        status: Status::Reports,
+        out: "\
+function f at a.c:1:6
+  entry c
+  exits
+    0 -> -
+    1 -> -
+  report leak 1:24
+    choice 400
+    1:24 call kmalloc
+    1:37 if 0
+    1:51 end
+total functions 1 skipped 0 rows 2 reports 1
+",
+        err: "",
+    },
+    Row {
+        name: "out parameter kept",
+        words: &["saturn_check", "a.c"],
+        files: &[("a.c", "void m(char**o,_Bool c){if(c)*o=0;}")],
+        status: Status::Clean,
+        out: "\
+function m at a.c:1:6
+  entry o c
+  exits
+    00 -> -
+    10 -> -
+    11 -> -
+  out o
+    10 -> - same
+    11 -> - null
+  writes *o
+total functions 1 skipped 0 rows 5 reports 0
+",
+        err: "",
+    },
+];

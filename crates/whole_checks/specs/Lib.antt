@@ -1,0 +1,3 @@
+pub mod Said
+pub mod Seen
+pub mod Planned

@@ -1,0 +1,23 @@
+-- The typed program of the files with its plan; or what is said of them in place of a text.
+use Rattle.std.specs.Prelude.{◌≡◌, ⊤, ℕ, ◌<◌, ◌^◌, true, nat_le, length}
+use Rattle.plan_core.specs.declared.plan.Plan.{Plan}
+use Rattle.sc_typed.specs.declared.program.Program.{Program}
+use Rattle.sc_check.specs.Typed.{Sources, Typed, typed}
+use Rattle.program_plan.specs.Planned.{edges_of, most_edges}
+use Rattle.program_verdicts.specs.CallGraph as graph
+use Rattle.whole_checks.specs.declared.planned.NoPlan.{NoPlan}
+use Rattle.whole_checks.specs.declared.planned.NoPlan.TheVariants as no_plan
+use Rattle.whole_checks.specs.Said.{said}
+use Rattle.whole_checks.specs.Seen as seen
+
+-- The typed program of the files, with its plan, where a text is said.
+pub record IsPlanned (s : Sources) (p : Program) (plan : Plan) : Type 0 where
+  pub typed : typed s ≡ Typed p
+  pub few : length p.functions < 2 ^ 32
+  pub edges : nat_le (edges_of p) most_edges ≡ true
+  pub plan : plan ≡ graph.plan p
+
+-- what is said of the files in place of a text, for each depth and each reach; of memory that was refused nothing
+abbrev pub Says : Sources → NoPlan → Type 0
+Says s (no_plan.Said x) = (depth reach : ℕ) → said s depth reach ≡ seen.said x
+Says s no_plan.OutOfMemory = ⊤
