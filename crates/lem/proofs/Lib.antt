@@ -1,2 +1,0 @@
-mod Machines
-mod Unread

@@ -1,2 +1,0 @@
-#![tactic(auto)]
-pub fn one() -> u32 { 1 }
