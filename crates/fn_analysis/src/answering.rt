@@ -1,6 +1,6 @@
 // Questions are answered by trying every choice.
 
-ghost use Rattle.std.specs.Prelude.{◌≡◌, [], IfOk, length};
+ghost use Rattle.std.specs.Prelude.{◌≡◌, IfOk, length};
 ghost use Rattle.fsm_spec.specs.Table.{IsWhole};
 ghost use Rattle.sc_world.specs.Verdict as spec;
 ghost use Rattle.layout_base.specs.Seen as laid;
@@ -9,12 +9,12 @@ ghost use Rattle.location_texts.specs.Seen as named;
 ghost use Rattle.fn_analysis.specs.Trying.{answers};
 
 use crate::runs::Runs;
-use crate::search::first_choice;
+use crate::search::{first_choice, show_first};
 use crate::trying::Trying;
 use layout_base::Ground;
 use location_texts::Texts;
 use run_questions::{Answerer, Query};
-use sc_base::{List, OutOfMemory};
+use sc_base::OutOfMemory;
 use sc_interp::Machine;
 use std::alloc::Global;
 use sum_rows::Shown;
@@ -28,17 +28,6 @@ fn blank(alloc: Global, bits: u32) -> Result<Vec<bool>, OutOfMemory>
         choice.push(false)?;
     }
     Ok(choice)
-}
-
-// No run, as it is shown.
-fn nothing_shown(alloc: Global) -> Shown
-    ensures { result ≡ record { choice = []; trace = []; text = [] } }
-{
-    Shown {
-        choice: List::new(alloc),
-        trace: List::new(alloc),
-        text: List::new(alloc),
-    }
 }
 
 impl<'p, 'm, 'f> Trying<'p, 'm, 'f> {
@@ -78,10 +67,6 @@ impl Answerer for Trying<'_, '_, '_> {
 
     #[tactic(auto, unfolding(crate::specs::Runs::passing))]
     fn shown(&mut self, asked: Query) -> Result<Shown, OutOfMemory> {
-        if first_choice(&mut self.runs, asked, self.choice.as_mut_slice())? {
-            self.runs.show(self.choice.as_slice())
-        } else {
-            Ok(nothing_shown(self.runs.alloc))
-        }
+        show_first(&mut self.runs, asked, self.choice.as_mut_slice())
     }
 }

@@ -1,5 +1,5 @@
 -- An answer that is due, given: the parts of a run put together, and the cause of each answer.
-use Rattle.std.proofs.Common.{◌≡◌, ◌⊎◌, ◌∙◌, ℕ, Bool, true, false, List, [], Option, Some, None, refl, sym, subst, inl, inr, ⊎_elim}
+use Rattle.std.proofs.Common.{◌≡◌, ◌⊎◌, ◌∙◌, ℕ, Bool, true, false, List, [], Option, Some, None, refl, sym, subst, ap, inl, inr, ⊎_elim}
 use Rattle.std.specs.Prelude.{codes}
 use Rattle.clap.specs.Words.{App, IsAmong}
 use Rattle.sc_base.specs.Causes.{Rose}
@@ -17,12 +17,21 @@ use Rattle.saturn_top.specs.declared.status.Status.{Status}
 use Rattle.saturn_top.specs.declared.status.Status.TheVariants.{Clean, Reports, Refused, BadWords, ReadFault, WriteFault, Memory, Helped}
 use Rattle.saturn_top.specs.Answer.{Due, ToOutput, ToErrors, IsAnswered, Answers, has_output, is_finding}
 use Rattle.saturn_top.specs.Checks.{due_of_refusal, due_of_said, machine_of, files_of, IsFound, refused, read, Ask, AskForHelp, AreBad, NamesFile, IsDue, helped, bad_words, found}
-use Rattle.saturn_top.proofs.Unread.{Says, says}
+use Rattle.saturn_top.proofs.Unread.{Unread, Says, says}
 
 -- a sink that nothing was written to has what it had
 pub Keeps-itself : (taken : Option (List ℕ)) → Keeps taken taken
 Keeps-itself None = tt
 Keeps-itself (Some bytes) = refl
+
+-- what stands in an option
+unwrapped : Option Due → Due → Due
+unwrapped (Some due) other = due
+unwrapped None other = other
+
+inside : (x y : Due) → Some x ≡ Some y → x ≡ y
+unfolding unwrapped
+inside x y is = ap (λ o. unwrapped o x) is
 
 -- good words, for each form that the command may have
 abbrev pub AreGood : (words : List (List ℕ)) → Type 0
@@ -129,17 +138,30 @@ module _ (words : List (List ℕ)) (outside : Outside) (out err : SinkChange) wh
   of_said (Twice name) answer given = of_line answer _ given
   of_said (Beyond kind count) answer given = of_line answer _ given
 
+  -- the same, where that line is what is due
+  of_due_line : (bytes : List ℕ) (due : Due) (answer : Status) → Some (ToErrors Refused bytes) ≡ Some due → IsAnswered due answer out err
+      → HasCauses words outside answer out err
+  of_due_line bytes due answer is given =
+      let P : Due → Type 0 = λ d. IsAnswered d answer out err in
+      of_line answer bytes (subst P (sym (inside (ToErrors Refused bytes) due is)) given)
+
   module _ (asked : CheckWords) (ask : Ask words asked) where
+    of_due_unread : (bytes : List ℕ) (due : Due) (answer : Status) → Unread outside (machine_of asked.options) (files_of asked.options)
+        → Some (ToErrors ReadFault bytes) ≡ Some due → IsAnswered due answer out err → HasCauses words outside answer out err
+    of_due_unread bytes due answer unread is given =
+        let P : Due → Type 0 = λ d. IsAnswered d answer out err in
+        let line : IsAnswered (ToErrors ReadFault bytes) answer out err = subst P (sym (inside (ToErrors ReadFault bytes) due is)) given in
+        to_errors ReadFault answer bytes line.0 (of_unread unread.0 (asked, ask, unread.1) unread.2.rose unread.2.not_firm line.1)
+
     of_refusal : (why : Refusal) (due : Due) (answer : Status) → Says outside (machine_of asked.options) (files_of asked.options) why
         → due_of_refusal (codes "saturn_check") why ≡ Some due → IsAnswered due answer out err → HasCauses words outside answer out err
-    of_refusal (refusal.Files count) due answer said refl given = of_line answer _ given
-    of_refusal (refusal.Unread shown) due answer said refl (went, kept) =
-        to_errors ReadFault answer _ went (of_unread said.0 (asked, ask, said.1) said.2.rose said.2.not_firm kept)
-    of_refusal refusal.Bytes due answer said refl given = of_line answer _ given
-    of_refusal (refusal.Machine line) due answer said refl given = of_line answer _ given
-    of_refusal (refusal.Lexical shown pos) due answer said refl given = of_line answer _ given
-    of_refusal (refusal.Unbalanced shown pos) due answer said refl given = of_line answer _ given
-    of_refusal refusal.OutOfMemory due answer said wrong given = absurd (cc)
+    of_refusal (refusal.Files count) due answer said is given = of_due_line _ due answer is given
+    of_refusal (refusal.Unread shown) due answer said is given = of_due_unread _ due answer said is given
+    of_refusal refusal.Bytes due answer said is given = of_due_line _ due answer is given
+    of_refusal (refusal.Machine line) due answer said is given = of_due_line _ due answer is given
+    of_refusal (refusal.Lexical shown pos) due answer said is given = of_due_line _ due answer is given
+    of_refusal (refusal.Unbalanced shown pos) due answer said is given = of_due_line _ due answer is given
+    of_refusal refusal.OutOfMemory due answer said is given = absurd (cc)
 
     of_found : (due : Due) (answer : Status) → IsFound asked.options outside due → IsAnswered due answer out err
         → HasCauses words outside answer out err
@@ -147,12 +169,7 @@ module _ (words : List (List ℕ)) (outside : Outside) (out err : SinkChange) wh
         of_refusal why due answer (says outside (machine_of asked.options) (files_of asked.options) why refuses) is given
     of_found due answer (read input is) given = of_said _ answer given
 
-  of_due : (due : Due) (answer : Status) → IsDue words outside due → IsAnswered due answer out err → HasCauses words outside answer out err
+  pub of_due : (due : Due) (answer : Status) → IsDue words outside due → IsAnswered due answer out err → HasCauses words outside answer out err
   of_due due answer (helped bytes help) (went, kept) = to_output Helped answer bytes went (of_help help)
   of_due due answer (bad_words bytes bad) (went, kept) = to_errors BadWords answer bytes went (of_bad_words bad kept)
   of_due due answer (found asked d ask is) given = of_found asked ask due answer is given
-
-  -- the causes of an answer
-  pub causes : (answer : Status) → Answers (IsDue words outside) answer out err → HasCauses words outside answer out err
-  causes answer (inl memory) = carried Memory answer memory.0 (of_finding Memory refl (λ e. memory.1))
-  causes answer (inr given) = of_due given.0 answer given.1 given.2

@@ -1,3 +1,4 @@
 mod Answered
+mod Joined
 mod Machines
 mod Unread

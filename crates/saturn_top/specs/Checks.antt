@@ -71,7 +71,7 @@ pub data IsFound (options : Options) (outside : Outside) : Due → Type 0 where
 
 -- what the words ask for
 abbrev pub Ask : (words : List (List ℕ)) → CheckWords → Type 0
-Ask words asked = (command : App) × IsCheck command × ((rows : List Row) × Give command words rows × HaveCheck rows asked)
+Ask words asked = (command : App) × IsCheck command × (rows : List Row) × Give command words rows × HaveCheck rows asked
 
 -- the words call for help
 abbrev pub AskForHelp : (words : List (List ℕ)) → Type 0

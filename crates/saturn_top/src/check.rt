@@ -1,6 +1,6 @@
 // The call of `saturn_check`.
 
-ghost use Rattle.std.specs.Prelude.{◌≡◌, ◌⊎◌, ◌<◌, ◌≤◌, ℕ, List, [], map, string_bytes, codes, true, false, IfOk};
+ghost use Rattle.std.specs.Prelude.{◌≡◌, ◌⊎◌, ℕ, List, [], map, string_bytes, codes, true, false, IfOk};
 ghost use Rattle.clap.specs.Words.{App};
 ghost use Rattle.sc_base.specs.Causes.{Rose};
 ghost use Rattle.sc_base.specs.Held.{is_named};
@@ -21,10 +21,7 @@ use saturn_words::{NoWords, Options, check_words};
 use sc_base::{Files, OutOfMemory, Sink};
 use sc_input::{Input, read_input};
 use std::alloc::Global;
-use std::sync::Wait;
-use std::thread::Threads;
-use whole_checks::{Sources, say, say_by};
-use work_pool::Gate;
+use whole_checks::{Sources, say};
 
 // What is due for the input.
 fn answer_for(alloc: Global, options: &Options, input: Input) -> Result<Answer, OutOfMemory>
@@ -49,37 +46,6 @@ fn answer_for(alloc: Global, options: &Options, input: Input) -> Result<Answer, 
     answer_of(alloc, b"saturn_check", said)
 }
 
-// The same, found by so many workers.
-fn answer_by<R: Threads + Wait + Sync, G: Gate + Sync>(
-    rt: &R,
-    alloc: Global,
-    options: &Options,
-    input: Input,
-    jobs: u32,
-    gate: &G,
-) -> Result<Answer, OutOfMemory>
-    requires whole { HasWholeMachine input.machine }
-    requires jobs { (0 < jobs) × (jobs ≤ 64) }
-    ensures { IfOk result (λ answer. seen answer ≡ due_of_said (codes "saturn_check") (said (sources_of options.now input) options.now.depth options.now.reach)) }
-{
-    let Input {
-        names,
-        files,
-        units,
-        machine,
-        ..
-    } = input;
-    let sources = Sources {
-        names,
-        files,
-        units: units.as_slice(),
-        widths: options.widths,
-        machine,
-    };
-    let said = say_by(rt, alloc, sources, options.depth, options.reach, jobs, gate)?;
-    answer_of(alloc, b"saturn_check", said)
-}
-
 // What is due for the files that these options name.
 fn find<F: Files>(alloc: Global, options: &Options, files: &mut F) -> Result<Answer, OutOfMemory>
     ensures { IfOk result (λ answer. IsFound options.now (record { held = F.held files.old; firm = F.firm files.old; faults_before = F.faults files.old; faults_after = F.faults files.new }) (seen answer)) }
@@ -87,25 +53,6 @@ fn find<F: Files>(alloc: Global, options: &Options, files: &mut F) -> Result<Ans
     whole_machines();
     match read_input(alloc, files, options.machine, options.files.as_slice()) {
         Ok(input) => answer_for(alloc, options, input),
-        Err(why) => refused(alloc, b"saturn_check", why),
-    }
-}
-
-// The same, found by so many workers.
-fn find_by<R: Threads + Wait + Sync, F: Files, G: Gate + Sync>(
-    rt: &R,
-    alloc: Global,
-    options: &Options,
-    files: &mut F,
-    jobs: u32,
-    gate: &G,
-) -> Result<Answer, OutOfMemory>
-    requires jobs { (0 < jobs) × (jobs ≤ 64) }
-    ensures { IfOk result (λ answer. IsFound options.now (record { held = F.held files.old; firm = F.firm files.old; faults_before = F.faults files.old; faults_after = F.faults files.new }) (seen answer)) }
-{
-    whole_machines();
-    match read_input(alloc, files, options.machine, options.files.as_slice()) {
-        Ok(input) => answer_by(rt, alloc, options, input, jobs, gate),
         Err(why) => refused(alloc, b"saturn_check", why),
     }
 }
@@ -131,28 +78,6 @@ fn answer<F: Files>(
 {
     match check_words(alloc, words.as_slice()) {
         Ok(asked) => find(alloc, &asked.options, files),
-        Err(why) => unasked(why),
-    }
-}
-
-// The same, found by as many workers as the words ask for.
-fn answer_by_jobs<R: Threads + Wait + Sync, F: Files, G: Gate + Sync>(
-    rt: &R,
-    alloc: Global,
-    words: &Vec<String>,
-    files: &mut F,
-    gate: &G,
-) -> Result<Answer, OutOfMemory>
-    ensures { IfOk result (λ answer. IsDue (map string_bytes words.now.items) (record { held = F.held files.old; firm = F.firm files.old; faults_before = F.faults files.old; faults_after = F.faults files.new }) (seen answer)) }
-{
-    match check_words(alloc, words.as_slice()) {
-        Ok(asked) => {
-            if asked.jobs == 1 {
-                find(alloc, &asked.options, files)
-            } else {
-                find_by(rt, alloc, &asked.options, files, asked.jobs, gate)
-            }
-        }
         Err(why) => unasked(why),
     }
 }
@@ -190,45 +115,6 @@ pub fn check_alone<F: Files, O: Sink, E: Sink>(
     ensures quiet { has_output result ≡ false → Keeps (O.taken out.old) (O.taken out.new) }
 {
     match answer(alloc, words, files) {
-        Ok(answer) => give(&answer, out, err),
-        Err(_) => Status::Memory,
-    }
-}
-
-/// Checks files as `check_alone` does, by as many workers as the words ask for; the calling thread is one of them. The
-/// answers, their causes and the bytes are those of `check_alone`. With more than one worker it may wait for ever: what
-/// is promised of the answer holds if it returns. `gate` is told of each claim of a worker.
-pub fn check_main<R: Threads + Wait + Sync, F: Files, O: Sink, E: Sink, G: Gate + Sync>(
-    rt: &R,
-    alloc: Global,
-    words: &Vec<String>,
-    files: &mut F,
-    out: &mut O,
-    err: &mut E,
-    gate: &G,
-) -> Status
-    // Memory was refused and nothing was written; or the answer that is due for these words and these files was given,
-    // and its bytes went to their sink, whole or, where that failed, up to the fault.
-    ensures answers { Answers (IsDue (map string_bytes words.now.items) (record { held = F.held files.old; firm = F.firm files.old; faults_before = F.faults files.old; faults_after = F.faults files.new }))
-        result
-        (record { faults_before = O.faults out.old; faults_after = O.faults out.new; before = O.taken out.old; after = O.taken out.new })
-        (record { faults_before = E.faults err.old; faults_after = E.faults err.new; before = E.taken err.old; after = E.taken err.new }) }
-
-    // Each answer has its cause.
-    ensures bad_words { result ≡ Status.BadWords → AreBad (map string_bytes words.now.items) }
-    ensures helped { result ≡ Status.Helped → AskForHelp (map string_bytes words.now.items) }
-    ensures read_fault { result ≡ Status.ReadFault → Rose (F.faults files.old) (F.faults files.new) }
-    ensures not_firm { result ≡ Status.ReadFault → (name : List ℕ) × NamesFile (map string_bytes words.now.items) name × (is_named name (F.firm files.old) ≡ false) }
-    ensures write_fault { result ≡ Status.WriteFault → Rose (O.faults out.old) (O.faults out.new) ⊎ Rose (E.faults err.old) (E.faults err.new) }
-    // With good words and no fault the answer says what the files are, or that memory was refused.
-    ensures complete { ((command : App) → IsCheck command → faults command (map string_bytes words.now.items) ≡ [])
-        → ¬ Rose (F.faults files.old) (F.faults files.new) → ¬ Rose (O.faults out.old) (O.faults out.new)
-        → ¬ Rose (E.faults err.old) (E.faults err.new) → is_finding result ≡ true }
-
-    // Nothing was written to the output with an answer that has none.
-    ensures quiet { has_output result ≡ false → Keeps (O.taken out.old) (O.taken out.new) }
-{
-    match answer_by_jobs(rt, alloc, words, files, gate) {
         Ok(answer) => give(&answer, out, err),
         Err(_) => Status::Memory,
     }

@@ -1,4 +1,4 @@
-//! The top calls of the programs: words and files in, a text and a status out.
+//! The top call of the checker: words and files in, a text and a status out.
 //!
 //! `check` is the call of `saturn_check`. It reads the words (`saturn_words`) and the files (`sc_input`), finds what is
 //! said of them (`whole_checks`) or the line of a refusal (`lines`), and writes (`answer`). `specs/Checks.antt` says
@@ -11,5 +11,5 @@ mod lines;
 mod refusals;
 mod status;
 
-pub use check::{check_alone, check_main};
+pub use check::check_alone;
 pub use status::Status;

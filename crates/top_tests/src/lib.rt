@@ -1,7 +1,7 @@
-//! The tests of the top calls: whole runs over files and sinks in memory. `rows` runs the rows of `locks`, `memory`,
+//! The tests of the top call: whole runs over files and sinks in memory. `rows` runs the rows of `locks`, `memory`,
 //! `skips`, `options` and `refusals`; `faults` has files and sinks that fail, words and limits.
 //!
-//! They stand in a crate of their own, so that the top calls are proved once, without tests.
+//! They stand in a crate of their own, so that the top call is proved once, without tests.
 #![tactic(auto)]
 
 #[cfg(test)]

@@ -11,11 +11,11 @@ use Rattle.whole_checks.specs.Said.{said}
 use Rattle.whole_checks.specs.Seen as seen
 
 -- The typed program of the files, with its plan, where a text is said.
-pub record IsPlanned (s : Sources) (p : Program) (plan : Plan) : Type 0 where
+pub record IsPlanned (s : Sources) (p : Program) (found : Plan) : Type 0 where
   pub typed : typed s ≡ Typed p
   pub few : length p.functions < 2 ^ 32
   pub edges : nat_le (edges_of p) most_edges ≡ true
-  pub plan : plan ≡ graph.plan p
+  pub plan : found ≡ graph.plan p
 
 -- what is said of the files in place of a text, for each depth and each reach; of memory that was refused nothing
 abbrev pub Says : Sources → NoPlan → Type 0

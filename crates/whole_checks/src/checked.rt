@@ -1,6 +1,6 @@
 // The whole check.
 
-ghost use Rattle.std.specs.Prelude.{◌≡◌, ◌<◌, ◌≤◌, ◌^◌, IfOk, length, map};
+ghost use Rattle.std.specs.Prelude.{◌≡◌, ◌<◌, ◌^◌, IfOk, length, map};
 ghost use Rattle.std.specs.List.{list_any};
 ghost use Rattle.std.specs.Arc.{arc_value};
 ghost use Rattle.program_verdicts.specs.CallGraph as graph;
@@ -18,10 +18,9 @@ use report_text::text;
 use sc_base::{OutOfMemory, RowList};
 use sc_typed::Program;
 use std::alloc::Global;
-use std::sync::{Arc, Wait};
-use std::thread::Threads;
+use std::sync::Arc;
 use sum_rows::Verdict;
-use work_pool::{Gate, run_all, run_alone};
+use work_pool::run_alone;
 
 fn has_report(verdict: &Verdict) -> bool
     ensures { result ≡ has_report verdict.now }
@@ -43,8 +42,8 @@ fn any_report(verdicts: &[Arc<Verdict>]) -> bool
     false
 }
 
-// The verdicts of all functions, in the order of the program, made on the calling thread.
-fn verdicts_alone(
+// The verdicts of all functions, in the order of the program.
+fn verdicts_of(
     alloc: Global,
     program: &Program,
     plan: &Plan,
@@ -70,41 +69,6 @@ fn verdicts_alone(
     )
 }
 
-// The same, made by so many workers.
-fn verdicts_by<R: Threads + Wait + Sync, G: Gate + Sync>(
-    rt: &R,
-    alloc: Global,
-    program: &Program,
-    plan: &Plan,
-    depth: u32,
-    reach: u32,
-    jobs: u32,
-    gate: &G,
-) -> Result<RowList<Verdict>, OutOfMemory>
-    requires few { length program.now.functions < 2 ^ 32 }
-    requires planned { plan.now ≡ graph.plan program.now }
-    requires whole { HasWholeMachine program.now.machine }
-    requires jobs { (0 < jobs) × (jobs ≤ 64) }
-    ensures { IfOk result (λ vs. map arc_value vs.list.items ≡ verdicts program.now depth reach) }
-{
-    no_cycle();
-    let ran = run_all(
-        rt,
-        alloc,
-        &Analysis {
-            alloc,
-            program,
-            plan,
-            depth,
-            reach,
-        },
-        plan,
-        jobs,
-        gate,
-    )?;
-    Ok(ran.rows)
-}
-
 // What is said of a program with these verdicts.
 fn with_verdicts(
     alloc: Global,
@@ -125,41 +89,13 @@ fn with_verdicts(
 /// `OutOfMemory` where memory is refused.
 pub fn say(alloc: Global, sources: Sources<'_>, depth: u32, reach: u32) -> Result<Said, OutOfMemory>
     requires whole { HasWholeMachine sources.machine }
-    ensures { IfOk result (λ s. seen.said s ≡ said (seen.sources sources) depth reach) }
+    ensures { IfOk result (λ s. seen.said s ≡ said (seen.sources sources.entry) depth reach) }
 {
     let (program, plan) = match planned(alloc, sources) {
         Ok(planned) => planned,
         Err(NoPlan::Said(said)) => return Ok(said),
         Err(NoPlan::OutOfMemory) => return Err(OutOfMemory),
     };
-    let verdicts = verdicts_alone(alloc, &program, &plan, depth, reach)?;
-    with_verdicts(alloc, &program, verdicts)
-}
-
-/// The same, where `jobs` workers make the verdicts; the calling thread is one of them. What is said does not depend
-/// on their number. It may wait for ever: what is promised of the result holds if it returns.
-///
-/// # Errors
-///
-/// `OutOfMemory` where memory is refused.
-pub fn say_by<R: Threads + Wait + Sync, G: Gate + Sync>(
-    rt: &R,
-    alloc: Global,
-    sources: Sources<'_>,
-    depth: u32,
-    reach: u32,
-    jobs: u32,
-    gate: &G,
-) -> Result<Said, OutOfMemory>
-    requires whole { HasWholeMachine sources.machine }
-    requires jobs { (0 < jobs) × (jobs ≤ 64) }
-    ensures { IfOk result (λ s. seen.said s ≡ said (seen.sources sources) depth reach) }
-{
-    let (program, plan) = match planned(alloc, sources) {
-        Ok(planned) => planned,
-        Err(NoPlan::Said(said)) => return Ok(said),
-        Err(NoPlan::OutOfMemory) => return Err(OutOfMemory),
-    };
-    let verdicts = verdicts_by(rt, alloc, &program, &plan, depth, reach, jobs, gate)?;
+    let verdicts = verdicts_of(alloc, &program, &plan, depth, reach)?;
     with_verdicts(alloc, &program, verdicts)
 }

@@ -2,7 +2,7 @@
 //! and the text; or the first reason why there is none.
 //!
 //! `sources` has what is checked, `planned` the typed program with its plan, `analysis` the verdict of a function as a
-//! work over the plan, `checked` the whole, by one thread or by several workers, and `said` what comes out.
+//! work over the plan, `checked` the whole, and `said` what comes out.
 #![tactic(auto)]
 
 mod analysis;
@@ -12,6 +12,6 @@ mod said;
 mod sources;
 
 pub use analysis::Analysis;
-pub use checked::{say, say_by};
+pub use checked::say;
 pub use said::Said;
 pub use sources::Sources;

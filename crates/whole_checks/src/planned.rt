@@ -45,8 +45,8 @@ fn name_text(alloc: Global, names: &Names, name: NameId) -> Result<Vec<u8>, OutO
 /// The typed program of all files, and its plan; or what is said in place of a text.
 #[tactic(auto, unfolding(crate::specs::Said::said))]
 pub fn planned(alloc: Global, sources: Sources<'_>) -> Result<(Program, Plan), NoPlan>
-    ensures made { IfOk result (λ made. IsPlanned (seen.sources sources) made.0 made.1) }
-    ensures said { IfErr result (Says (seen.sources sources)) }
+    ensures made { IfOk result (λ made. IsPlanned (seen.sources sources.entry) made.0 made.1) }
+    ensures said { IfErr result (Says (seen.sources sources.entry)) }
 {
     let Sources {
         names,
