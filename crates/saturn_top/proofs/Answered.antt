@@ -1,6 +1,7 @@
 -- An answer that is due, given: the parts of a run put together, and the cause of each answer.
-use Rattle.std.proofs.Common.{◌≡◌, ◌⊎◌, ◌∙◌, ℕ, Bool, true, false, List, [], Option, Some, None, refl, sym, subst, ap, inl, inr, ⊎_elim}
+use Rattle.std.proofs.Common.{◌≡◌, ◌⊎◌, ◌∙◌, ℕ, Bool, true, false, List, [], Option, Some, None, Result, IfOk, refl, sym, subst, ap, inl, inr, ⊎_elim}
 use Rattle.std.specs.Prelude.{codes}
+use Rattle.std.proofs.lemmas.Result.{IfOk-weaker}
 use Rattle.clap.specs.Words.{App, IsAmong}
 use Rattle.sc_base.specs.Causes.{Rose}
 use Rattle.sc_base.specs.Held.{is_named}
@@ -13,10 +14,12 @@ use Rattle.saturn_words.specs.declared.asked.Options.{Options}
 use Rattle.saturn_words.specs.Commands.{IsCheck}
 use Rattle.saturn_words.specs.Words.{faults}
 use Rattle.whole_checks.specs.Said.{Said, Whole, Twice, Beyond}
+use Rattle.saturn_top.specs.declared.answer.Answer.{Answer}
 use Rattle.saturn_top.specs.declared.status.Status.{Status}
 use Rattle.saturn_top.specs.declared.status.Status.TheVariants.{Clean, Reports, Refused, BadWords, ReadFault, WriteFault, Memory, Helped}
 use Rattle.saturn_top.specs.Answer.{Due, ToOutput, ToErrors, IsAnswered, Answers, has_output, is_finding}
 use Rattle.saturn_top.specs.Checks.{due_of_refusal, due_of_said, machine_of, files_of, IsFound, refused, read, Ask, AskForHelp, AreBad, NamesFile, IsDue, helped, bad_words, found}
+use Rattle.saturn_top.specs.Seen.{seen}
 use Rattle.saturn_top.proofs.Unread.{Unread, Says, says}
 
 -- a sink that nothing was written to has what it had
@@ -32,6 +35,11 @@ unwrapped None other = other
 inside : (x y : Due) → Some x ≡ Some y → x ≡ y
 unfolding unwrapped
 inside x y is = ap (λ o. unwrapped o x) is
+
+-- what is seen in an answer is what is due
+pub as_due : {E : Type 0} (result : Result Answer E) (due : Due) → IfOk result (λ answer. seen answer ≡ due)
+    → IfOk result (λ answer. Some due ≡ Some (seen answer))
+as_due result due is = IfOk-weaker result (λ answer. seen answer ≡ due) (λ answer. Some due ≡ Some (seen answer)) (λ answer e. ap Some (sym e)) is
 
 -- good words, for each form that the command may have
 abbrev pub AreGood : (words : List (List ℕ)) → Type 0
