@@ -1,0 +1,122 @@
+// What is read, and one more file.
+
+ghost use Rattle.std.specs.Prelude.{◌≡◌, ◌<◌, ◌≤◌, ◌+◌, ◌-◌, ◌^◌, IfErr, IfOk, length};
+ghost use Rattle.sc_lexer.specs.Answer.{Grow};
+ghost use Rattle.sc_lexer.specs.Naming.{names_after};
+ghost use Rattle.sc_input.specs.Input.{most_bytes, most_files, Adds, Fit, IsOpen, IsTree};
+ghost use Rattle.sc_input.specs.Input.{RefuseBytes, RefuseFile, RefuseTree};
+
+use crate::refusal::Refusal;
+use fsm_spec::MachineSpec;
+use sc_base::{Files, List, NameId, Names};
+use sc_lexer::{LexAnswer, tokens};
+use sc_parse_unit::unit;
+use sc_tree::unit::Unit;
+use std::alloc::Global;
+use transfer::{ReadError, read_file};
+
+/// So many bytes may stand in all files together.
+const MOST_BYTES: usize = 8_388_608;
+
+/// The files of a check, read.
+#[derive(Debug, Drop)]
+pub struct Input {
+    /// The texts of the names that trees have by number.
+    pub names: Names,
+    /// The names of the files, in order.
+    pub files: List<NameId>,
+    /// The trees of the files, in order.
+    pub units: List<Unit>,
+    /// The machine of states, if one is named.
+    pub machine: Option<MachineSpec>,
+    /// How many bytes were read.
+    pub used: usize,
+}
+
+/// The bytes of the file of this name, behind so many of the files before it.
+pub fn bytes_within<'a, F: Files>(
+    alloc: Global,
+    files: &mut F,
+    used: usize,
+    name: &'a str,
+) -> Result<Vec<u8>, Refusal<'a>>
+    requires { used ≤ most_bytes }
+    ensures read { IfOk result (λ bytes. Fit (F.held files.old) used name.entry.now bytes.items) }
+    ensures refused { IfErr result (RefuseBytes (record { held = F.held files.old; firm = F.firm files.old; faults_before = F.faults files.old; faults_after = F.faults files.new }) used name.entry.now) }
+    ensures held { F.held files.new ≡ F.held files.old }
+    ensures firm { F.firm files.new ≡ F.firm files.old }
+    ensures later { F.faults files.old ≤ F.faults files.new }
+{
+    match read_file(alloc, files, name, MOST_BYTES + 1 - used) {
+        Ok(bytes) => {
+            if bytes.len() > MOST_BYTES - used {
+                return Err(Refusal::Bytes);
+            }
+            Ok(bytes)
+        }
+        Err(ReadError::Failed) => Err(Refusal::Unread(name)),
+        Err(ReadError::OutOfMemory) => Err(Refusal::OutOfMemory),
+    }
+}
+
+// The tree of a file with these bytes.
+fn tree<'a>(
+    alloc: Global,
+    names: &mut Names,
+    file: u32,
+    name: &'a str,
+    bytes: &[u8],
+) -> Result<Unit, Refusal<'a>>
+    requires { length names.old + length bytes.now < 2 ^ 32 - 1 }
+    ensures tree { IfOk result (IsTree names.new file bytes.now) }
+    ensures refused { IfErr result (RefuseTree names.new file name.entry.now bytes.now) }
+    ensures names { Grow (length bytes.now) names.old names.new }
+    ensures named { IfOk result (λ _. names.new ≡ names_after names.old bytes.now) }
+{
+    match tokens(alloc, names, file, bytes) {
+        Ok(tokens) => match unit(alloc, &tokens) {
+            Ok(unit) => Ok(unit),
+            Err(_) => Err(Refusal::OutOfMemory),
+        },
+        Err(LexAnswer::Lexical(pos)) => Err(Refusal::Lexical(name, pos)),
+        Err(LexAnswer::Unbalanced(pos)) => Err(Refusal::Unbalanced(name, pos)),
+        Err(LexAnswer::OutOfMemory) => Err(Refusal::OutOfMemory),
+    }
+}
+
+/// What one more file makes of what was read before it.
+pub fn with_file<'a, F: Files>(
+    alloc: Global,
+    files: &mut F,
+    input: Input,
+    name: &'a str,
+) -> Result<Input, Refusal<'a>>
+    requires room { IsOpen input }
+    requires few { length input.units < most_files }
+    ensures added { IfOk result (Adds (F.held files.old) name.entry.now input) }
+    ensures room { IfOk result (λ more. IsOpen more) }
+    ensures refused { IfErr result (RefuseFile (record { held = F.held files.old; firm = F.firm files.old; faults_before = F.faults files.old; faults_after = F.faults files.new }) input name.entry.now) }
+    ensures held { F.held files.new ≡ F.held files.old }
+    ensures firm { F.firm files.new ≡ F.firm files.old }
+    ensures later { F.faults files.old ≤ F.faults files.new }
+{
+    let Input {
+        mut names,
+        files: mut ids,
+        mut units,
+        machine,
+        used,
+    } = input;
+    let id = names.intern(name)?;
+    let bytes = bytes_within(alloc, files, used, name)?;
+    let unit = tree(alloc, &mut names, units.len() as u32, name, &bytes)?;
+    ids.push(id)?;
+    units.push(unit)?;
+    Ok(Input {
+        names,
+        files: ids,
+        units,
+        machine,
+        used: used + bytes.len(),
+    })
+}

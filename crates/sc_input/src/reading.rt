@@ -1,0 +1,82 @@
+// The input of a check, file after file.
+
+ghost use Rattle.std.specs.Prelude.{◌≡◌, ◌≤◌, [], length, map, option_map, IfErr, IfOk};
+ghost use Rattle.sc_input.specs.Input.{most_files, Answers, Begins, Give, IsOpen, RefuseBegin, Stops};
+
+use crate::input::{Input, with_file};
+use crate::machine::{with_machine, without_machine};
+use crate::refusal::Refusal;
+use sc_base::Files;
+use std::alloc::Global;
+
+/// So many files may be named.
+const MOST_FILES: usize = 64;
+
+// What these files make of what was read before them.
+fn with_files<'a, F: Files>(
+    alloc: Global,
+    files: &mut F,
+    start: Input,
+    named: &[&'a str],
+) -> Result<Input, Refusal<'a>>
+    requires room { IsOpen start }
+    requires first { start.units ≡ [] }
+    requires few { length named.now ≤ most_files }
+    ensures read { IfOk result (Give (F.held files.old) start (map (λ name. name.now) named.now)) }
+    ensures stops { IfErr result (Stops (record { held = F.held files.old; firm = F.firm files.old; faults_before = F.faults files.old; faults_after = F.faults files.new }) start (map (λ name. name.now) named.now)) }
+    ensures held { F.held files.new ≡ F.held files.old }
+    ensures firm { F.firm files.new ≡ F.firm files.old }
+    ensures later { F.faults files.old ≤ F.faults files.new }
+{
+    let mut input = start;
+    for name in named {
+        input = with_file(alloc, files, input, *name)?;
+    }
+    Ok(input)
+}
+
+// The input where there are not too many files.
+fn begun<'a, F: Files>(
+    alloc: Global,
+    files: &mut F,
+    machine: Option<&'a str>,
+) -> Result<Input, Refusal<'a>>
+    ensures begins { IfOk result (Begins (F.held files.old) (option_map (λ name. name.now) machine.entry)) }
+    ensures room { IfOk result (λ input. IsOpen input × (input.units ≡ [])) }
+    ensures refused { IfErr result (RefuseBegin (record { held = F.held files.old; firm = F.firm files.old; faults_before = F.faults files.old; faults_after = F.faults files.new }) (option_map (λ name. name.now) machine.entry)) }
+    ensures held { F.held files.new ≡ F.held files.old }
+    ensures firm { F.firm files.new ≡ F.firm files.old }
+    ensures later { F.faults files.old ≤ F.faults files.new }
+{
+    match machine {
+        Some(name) => with_machine(alloc, files, name),
+        None => Ok(without_machine(alloc)),
+    }
+}
+
+/// The input of a check: the machine of the file of that name, if one is named, and then these files in order.
+///
+/// # Errors
+///
+/// The first refusal: more than 64 files; of the machine file and then of each file in order, that it was not read,
+/// that all files so far have more than 8,388,608 bytes, and that it has no machine or no tokens. `Unread` comes only
+/// if the count of faults rose in this call, or stands at its greatest value, and the name is not firm. `OutOfMemory`
+/// may come at any time.
+pub fn read_input<'a, F: Files>(
+    alloc: Global,
+    files: &mut F,
+    machine: Option<&'a str>,
+    named: &[&'a str],
+) -> Result<Input, Refusal<'a>>
+    ensures answers { Answers (record { held = F.held files.old; firm = F.firm files.old; faults_before = F.faults files.old; faults_after = F.faults files.new })
+        (option_map (λ name. name.now) machine.entry) (map (λ name. name.now) named.now) result }
+    ensures held { F.held files.new ≡ F.held files.old }
+    ensures firm { F.firm files.new ≡ F.firm files.old }
+    ensures later { F.faults files.old ≤ F.faults files.new }
+{
+    if named.len() > MOST_FILES {
+        return Err(Refusal::Files(named.len() as u64));
+    }
+    let start = begun(alloc, files, machine)?;
+    with_files(alloc, files, start, named)
+}
