@@ -149,7 +149,11 @@ fn long_files(alloc: Global, count: usize) -> Result<MemFiles, OutOfMemory> {
 }
 
 /// How many bytes are read of the machine and of a file of so many spaces; none where they are too many.
-fn bytes_read(alloc: Global, machine: Option<&str>, count: usize) -> Result<Option<usize>, OutOfMemory> {
+fn bytes_read(
+    alloc: Global,
+    machine: Option<&str>,
+    count: usize,
+) -> Result<Option<usize>, OutOfMemory> {
     let mut files = long_files(alloc, count)?;
     match read_input(alloc, &mut files, machine, &["long.c"]) {
         Ok(input) => Ok(Some(input.used)),
@@ -181,7 +185,15 @@ fn words_lead_to_the_input(rt: HostRuntime) -> Result<(), Fail> {
     let alloc = rt.alloc();
     let words = owned(
         alloc,
-        &["saturn_check", "--machine", "irq", "b.c", "--model", "lp64", "a.c"],
+        &[
+            "saturn_check",
+            "--machine",
+            "irq",
+            "b.c",
+            "--model",
+            "lp64",
+            "a.c",
+        ],
     )?;
     let asked = check_words(alloc, words.as_slice())?;
     assert_eq!(rt; asked.options.widths, Widths::Lp64);

@@ -24,8 +24,16 @@ enum Outcome {
 fn outcome(why: &NoWords) -> Result<Outcome, OutOfMemory> {
     match why {
         NoWords::Memory => Err(OutOfMemory),
-        NoWords::Help(text) => Ok(if text.is_empty() { Outcome::Silent } else { Outcome::Helped }),
-        NoWords::Bad(text) => Ok(if text.is_empty() { Outcome::Silent } else { Outcome::Bad }),
+        NoWords::Help(text) => Ok(if text.is_empty() {
+            Outcome::Silent
+        } else {
+            Outcome::Helped
+        }),
+        NoWords::Bad(text) => Ok(if text.is_empty() {
+            Outcome::Silent
+        } else {
+            Outcome::Bad
+        }),
     }
 }
 
@@ -74,8 +82,19 @@ fn each_option_is_read(rt: HostRuntime) -> Result<(), Fail> {
     let words = owned(
         alloc,
         &[
-            "saturn_check", "--depth", "3", "a.c", "--reach=4", "--model", "lp64", "b.c", "--machine",
-            "m", "--jobs", "64", "a.c",
+            "saturn_check",
+            "--depth",
+            "3",
+            "a.c",
+            "--reach=4",
+            "--model",
+            "lp64",
+            "b.c",
+            "--machine",
+            "m",
+            "--jobs",
+            "64",
+            "a.c",
         ],
     )?;
     let asked = check_words(alloc, words.as_slice())?;
@@ -96,7 +115,18 @@ fn a_run_has_a_function_and_a_choice(rt: HostRuntime) -> Result<(), Fail> {
     let alloc = rt.alloc();
     let words = owned(
         alloc,
-        &["saturn_run", "--choice", "4f", "a.c", "--function", "f", "--depth", "8", "--model", "ilp32"],
+        &[
+            "saturn_run",
+            "--choice",
+            "4f",
+            "a.c",
+            "--function",
+            "f",
+            "--depth",
+            "8",
+            "--model",
+            "ilp32",
+        ],
     )?;
     let asked = run_words(alloc, words.as_slice())?;
     assert_eq!(rt; asked.function, "f");
@@ -113,22 +143,31 @@ fn a_run_has_a_function_and_a_choice(rt: HostRuntime) -> Result<(), Fail> {
 #[test]
 fn a_bench_has_two_numbers(rt: HostRuntime) -> Result<(), Fail> {
     let alloc = rt.alloc();
-    let words = owned(alloc, &["saturn_bench", "4096", "--jobs", "3", "4294967295"])?;
-    assert_eq!(rt; bench_words(alloc, words.as_slice())?, BenchWords {
-        functions: 4096,
-        seed: 4294967295,
-        jobs: 3,
-    });
+    let words = owned(
+        alloc,
+        &["saturn_bench", "4096", "--jobs", "3", "4294967295"],
+    )?;
+    assert_eq!(rt;
+        bench_words(alloc, words.as_slice())?,
+        BenchWords {
+            functions: 4096,
+            seed: 4294967295,
+            jobs: 3,
+        }
+    );
     let words = owned(alloc, &["saturn_bench", "1", "0"])?;
-    assert_eq!(rt; bench_words(alloc, words.as_slice())?, BenchWords {
-        functions: 1,
-        seed: 0,
-        jobs: 1,
-    });
+    assert_eq!(rt;
+        bench_words(alloc, words.as_slice())?,
+        BenchWords {
+            functions: 1,
+            seed: 0,
+            jobs: 1,
+        }
+    );
     Ok(())
 }
 
-/// An option, the least number that it takes, and the greatest.
+/// An option; numbers: one below the least that it takes, the least, the greatest, and one above.
 const BOUNDS: [(&str, &str, &str, &str, &str); 3] = [
     ("--depth", "0", "1", "8", "9"),
     ("--reach", "0", "1", "4", "5"),
@@ -177,7 +216,16 @@ fn words_of_the_others_have_faults(rt: HostRuntime) -> Result<(), Fail> {
         &["saturn_run", "--function", "f", "a.c"],
         &["saturn_run", "--choice", "4", "a.c"],
         &["saturn_run", "--function", "f", "--choice", "4"],
-        &["saturn_run", "--function", "f", "--choice", "4", "--jobs", "1", "a.c"],
+        &[
+            "saturn_run",
+            "--function",
+            "f",
+            "--choice",
+            "4",
+            "--jobs",
+            "1",
+            "a.c",
+        ],
     ];
     for words in bad_runs {
         assert_eq!(rt; run_outcome(alloc, words)?, Outcome::Bad);

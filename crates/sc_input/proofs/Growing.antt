@@ -1,6 +1,6 @@
 -- What holds while file after file is read: there are never too many names, and a refusal of one call is one of all
 -- calls together.
-use Rattle.std.proofs.Common.{◌≡◌, ◌∙◌, ℕ, suc, ◌+◌, ◌-◌, ◌^◌, ◌≤◌, ◌<◌, ◌⊎◌, ⊤, Bool, true, false, List, [], ◌∷◌, ◌++◌, length, map, take, drop, get_or, Option, Some, None, Result, Ok, Err, refl, sym, subst, ap, inl, inr, arith, append_assoc}
+use Rattle.std.proofs.Common.{◌≡◌, ◌∙◌, ℕ, suc, ◌+◌, ◌≤◌, ◌<◌, Bool, true, false, List, [], ◌∷◌, ◌++◌, length, map, take, drop, get_or, Option, Some, None, Result, Ok, Err, refl, sym, subst, ap, inl, inr, arith, append_assoc}
 use Rattle.std.specs.Borrow.{Bor}
 use Rattle.std.specs.Prelude.{if◌then◌else◌, IfOk, IfErr}
 use Rattle.std.proofs.Math.Seq.{split_at, take-suc}
@@ -9,15 +9,13 @@ use Rattle.fsm_spec.specs.declared.table.MachineSpec.{MachineSpec}
 use Rattle.fsm_spec.specs.Reading.{spelled, Machine}
 use Rattle.sc_base.specs.Causes.{Rose}
 use Rattle.sc_base.specs.Held.{is_named}
-use Rattle.sc_base.specs.Names.{place_of, with_text}
-use Rattle.sc_base.specs.declared.pos.NameId.{NameId}
+use Rattle.sc_base.specs.Names.{with_text}
 use Rattle.sc_lexer.specs.Answer.{Grow}
-use Rattle.sc_lexer.specs.Naming.{names_after}
 use Rattle.sc_tree.specs.declared.unit.Unit.{Unit as FileUnit}
 use Rattle.sc_input.specs.declared.input.Input.{Input}
 use Rattle.sc_input.specs.declared.refusal.Refusal.{Refusal}
 use Rattle.sc_input.specs.declared.refusal.Refusal.TheVariants as refusal
-use Rattle.sc_input.specs.Input.{most_bytes, most_files, nothing_but, Outside, Adds, Answers, Begins, Fit, IsOpen, IsTooLarge, IsTree}
+use Rattle.sc_input.specs.Input.{most_bytes, most_files, nothing_but, Outside, Adds, Answers, Begins, Fit, IsOpen, IsTooLarge}
 use Rattle.sc_input.specs.Input.{RefuseBytes, RefuseFile, RefuseTree, HasNoTree, Stops, Give, more, no_tree, with_machine, without}
 
 -- ---- names

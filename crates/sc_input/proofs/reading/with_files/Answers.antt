@@ -39,7 +39,7 @@ loop-name-preserved g c = record {
   room = c.in_ok-input.ensures.room;
   count = one_more_tree _ _ c.loop-name.input _ c.loop-name.name-index c.in_ok-input.ensures.added c.loop-name.invariant.count;
   read = one_more _ _ _ c.loop-name.input _ c.args.named.now c.loop-name.name-index _ c.loop-name.invariant.held c.loop-name-test.true
-  c.loop-name.invariant.read c.in_ok-input.ensures.added;
+      c.loop-name.invariant.read c.in_ok-input.ensures.added;
   held = c.in_ok-input.ensures.held ∙ c.loop-name.invariant.held;
   firm = c.in_ok-input.ensures.firm ∙ c.loop-name.invariant.firm;
   later = omega (arith, c.loop-name.invariant.later, c.in_ok-input.ensures.later);
