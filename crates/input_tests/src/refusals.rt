@@ -13,7 +13,7 @@ const MACHINE: &str = "machine m\nstates a b\nop f void a>b b>a\n";
 const BROKEN: &str = "machine m\nop f void a>b b>a\n";
 
 /// Why these files give no input, in memory that holds some, where the calls of these numbers fail.
-fn refusal<'a>(
+fn told<'a>(
     alloc: Global,
     failing: &[u64],
     machine: Option<&'a str>,
@@ -39,17 +39,17 @@ fn at(file: u32, line: u32, col: u32) -> Pos {
 #[test]
 fn a_file_that_is_not_read_is_named(rt: HostRuntime) -> Result<(), Fail> {
     let alloc = rt.alloc();
-    let none = refusal(alloc, &[], None, &["good.c"])?;
+    let none = told(alloc, &[], None, &["good.c"])?;
     assert_eq!(rt; none, None);
-    let missing = refusal(alloc, &[], None, &["good.c", "none.c"])?;
+    let missing = told(alloc, &[], None, &["good.c", "none.c"])?;
     assert_eq!(rt; missing, Some(Refusal::Unread("none.c")));
     // Each file has a call that starts it, one that reads its bytes, and one that finds its end.
     for call in 1..4 {
-        let unread = refusal(alloc, &[call], None, &["good.c", "odd.c"])?;
+        let unread = told(alloc, &[call], None, &["good.c", "odd.c"])?;
         assert_eq!(rt; unread, Some(Refusal::Unread("good.c")), "{call}");
     }
     for call in 4..7 {
-        let unread = refusal(alloc, &[call], None, &["good.c", "odd.c"])?;
+        let unread = told(alloc, &[call], None, &["good.c", "odd.c"])?;
         assert_eq!(rt; unread, Some(Refusal::Unread("odd.c")), "{call}");
     }
     Ok(())
@@ -58,13 +58,13 @@ fn a_file_that_is_not_read_is_named(rt: HostRuntime) -> Result<(), Fail> {
 #[test]
 fn a_machine_file_comes_before_the_others(rt: HostRuntime) -> Result<(), Fail> {
     let alloc = rt.alloc();
-    let missing = refusal(alloc, &[], Some("none"), &["none.c"])?;
+    let missing = told(alloc, &[], Some("none"), &["none.c"])?;
     assert_eq!(rt; missing, Some(Refusal::Unread("none")));
-    let unread = refusal(alloc, &[2], Some("m"), &["good.c"])?;
+    let unread = told(alloc, &[2], Some("m"), &["good.c"])?;
     assert_eq!(rt; unread, Some(Refusal::Unread("m")));
-    let broken = refusal(alloc, &[4], Some("broken"), &["good.c"])?;
+    let broken = told(alloc, &[4], Some("broken"), &["good.c"])?;
     assert_eq!(rt; broken, Some(Refusal::Machine(2)));
-    let late = refusal(alloc, &[4], Some("m"), &["good.c"])?;
+    let late = told(alloc, &[4], Some("m"), &["good.c"])?;
     assert_eq!(rt; late, Some(Refusal::Unread("good.c")));
     Ok(())
 }
@@ -72,12 +72,12 @@ fn a_machine_file_comes_before_the_others(rt: HostRuntime) -> Result<(), Fail> {
 #[test]
 fn what_has_no_tokens_is_placed(rt: HostRuntime) -> Result<(), Fail> {
     let alloc = rt.alloc();
-    let odd = refusal(alloc, &[], None, &["odd.c"])?;
+    let odd = told(alloc, &[], None, &["odd.c"])?;
     assert_eq!(rt; odd, Some(Refusal::Lexical("odd.c", at(0, 2, 7))));
-    let open = refusal(alloc, &[], None, &["good.c", "good.c", "open.c"])?;
+    let open = told(alloc, &[], None, &["good.c", "good.c", "open.c"])?;
     assert_eq!(rt; open, Some(Refusal::Unbalanced("open.c", at(2, 2, 5))));
     // A place where nothing begins counts before a bracket, wherever they stand.
-    let both = refusal(alloc, &[], Some("m"), &["good.c", "both.c"])?;
+    let both = told(alloc, &[], Some("m"), &["good.c", "both.c"])?;
     assert_eq!(rt; both, Some(Refusal::Lexical("both.c", at(1, 2, 1))));
     Ok(())
 }
@@ -85,11 +85,11 @@ fn what_has_no_tokens_is_placed(rt: HostRuntime) -> Result<(), Fail> {
 #[test]
 fn the_first_refusal_is_told(rt: HostRuntime) -> Result<(), Fail> {
     let alloc = rt.alloc();
-    let odd = refusal(alloc, &[], None, &["odd.c", "none.c"])?;
+    let odd = told(alloc, &[], None, &["odd.c", "none.c"])?;
     assert_eq!(rt; odd, Some(Refusal::Lexical("odd.c", at(0, 2, 7))));
-    let open = refusal(alloc, &[], None, &["open.c", "odd.c"])?;
+    let open = told(alloc, &[], None, &["open.c", "odd.c"])?;
     assert_eq!(rt; open, Some(Refusal::Unbalanced("open.c", at(0, 2, 5))));
-    let missing = refusal(alloc, &[], None, &["none.c", "odd.c"])?;
+    let missing = told(alloc, &[], None, &["none.c", "odd.c"])?;
     assert_eq!(rt; missing, Some(Refusal::Unread("none.c")));
     Ok(())
 }
@@ -97,10 +97,10 @@ fn the_first_refusal_is_told(rt: HostRuntime) -> Result<(), Fail> {
 #[test]
 fn too_many_files_are_told_before_all(rt: HostRuntime) -> Result<(), Fail> {
     let named = ["none.c"; 65];
-    let many = refusal(rt.alloc(), &[], Some("none"), &named)?;
+    let many = told(rt.alloc(), &[], Some("none"), &named)?;
     assert_eq!(rt; many, Some(Refusal::Files(65)));
     let named = ["none.c"; 64];
-    let few = refusal(rt.alloc(), &[], Some("none"), &named)?;
+    let few = told(rt.alloc(), &[], Some("none"), &named)?;
     assert_eq!(rt; few, Some(Refusal::Unread("none")));
     Ok(())
 }

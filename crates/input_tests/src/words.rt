@@ -21,7 +21,7 @@ enum Outcome {
     Silent,
 }
 
-fn outcome(why: &NoWords) -> Result<Outcome, OutOfMemory> {
+fn ending_of(why: &NoWords) -> Result<Outcome, OutOfMemory> {
     match why {
         NoWords::Memory => Err(OutOfMemory),
         NoWords::Help(text) => Ok(if text.is_empty() {
@@ -41,7 +41,7 @@ fn check_outcome(alloc: Global, words: &[&str]) -> Result<Outcome, OutOfMemory> 
     let words = owned(alloc, words)?;
     match check_words(alloc, words.as_slice()) {
         Ok(_) => Ok(Outcome::Asked),
-        Err(why) => outcome(&why),
+        Err(why) => ending_of(&why),
     }
 }
 
@@ -49,7 +49,7 @@ fn run_outcome(alloc: Global, words: &[&str]) -> Result<Outcome, OutOfMemory> {
     let words = owned(alloc, words)?;
     match run_words(alloc, words.as_slice()) {
         Ok(_) => Ok(Outcome::Asked),
-        Err(why) => outcome(&why),
+        Err(why) => ending_of(&why),
     }
 }
 
@@ -57,7 +57,7 @@ fn bench_outcome(alloc: Global, words: &[&str]) -> Result<Outcome, OutOfMemory> 
     let words = owned(alloc, words)?;
     match bench_words(alloc, words.as_slice()) {
         Ok(_) => Ok(Outcome::Asked),
-        Err(why) => outcome(&why),
+        Err(why) => ending_of(&why),
     }
 }
 
