@@ -1,0 +1,157 @@
+// The verdict of a function.
+
+ghost use Rattle.std.specs.Prelude.{◌≡◌, IfOk, Ok, Some, slice_get};
+ghost use Rattle.sc_base.specs.declared.skip.Skip.TheVariants as skip;
+ghost use Rattle.sum_rows.specs.declared.report.Verdict.TheVariants as verdicts;
+ghost use Rattle.fsm_spec.specs.Table.{IsWhole};
+ghost use Rattle.sc_gather.specs.Seen as seen;
+ghost use Rattle.sc_world.specs.Verdict as spec;
+ghost use Rattle.sc_world.specs.Places.{places};
+ghost use Rattle.layout_base.specs.Seen as laid;
+ghost use Rattle.program_verdicts.specs.Verdicts.{texts, verdict_given};
+ghost use Rattle.fn_analysis.specs.Trying.{HasWholeMachine};
+
+use crate::trying::Trying;
+use fn_verdict::verdict;
+use fsm_spec::{MachineSpec, locks, whole_machines};
+use layout_base::{Ground, Places};
+use location_texts::Texts;
+use places::{PlaceAnswer, places};
+use run_laws::layouts_are_closed;
+use sc_base::{LimitKind, OutOfMemory, Skip};
+use sc_gather::{Context, Refused, gather};
+use sc_typed::{Function, Program, TBody};
+use std::alloc::Global;
+use sum_rows::Verdict;
+
+// The verdict of a function that passes a limit.
+fn beyond(kind: LimitKind) -> Verdict
+    ensures { result ≡ verdicts.Skipped (skip.Limit kind (spec.limit_count kind)) }
+{
+    let count = match kind {
+        LimitKind::Nodes => 4097,
+        LimitKind::Files
+        | LimitKind::Input
+        | LimitKind::Functions
+        | LimitKind::Edges
+        | LimitKind::Params
+        | LimitKind::Locations => 257,
+    };
+    Verdict::Skipped(Skip::Limit { kind, count })
+}
+
+// The verdict of the function at hand, which has this layout.
+fn tried<'p>(
+    alloc: Global,
+    here: &Context<'p, '_>,
+    function: &'p Function,
+    layout: &Places<'p>,
+) -> Result<Verdict, OutOfMemory>
+    requires whole { IsWhole (seen.source_of here.now).machine }
+    requires laid { places (seen.source_of here.now) ≡ Ok (laid.layout_of layout.now) }
+    ensures { IfOk result (λ v. v ≡ spec.done_with (seen.source_of here.now) (texts here.now.program.now function.now (laid.layout_of layout.now))
+        (spec.answers (seen.source_of here.now) (texts here.now.program.now function.now (laid.layout_of layout.now)))) }
+{
+    layouts_are_closed();
+    let found = match gather(alloc, here) {
+        Ok(found) => found,
+        Err(_) => return Err(OutOfMemory),
+    };
+    let given = Ground {
+        here,
+        found: &found,
+    };
+    let names = Texts {
+        program: here.program,
+        function,
+        places: layout,
+    };
+    let mut asks = Trying::new(alloc, given, names)?;
+    verdict(alloc, here, &names, &mut asks)
+}
+
+// The verdict of a function with a body, where this is the machine of states.
+fn of_body<'p>(
+    alloc: Global,
+    here: &Context<'p, '_>,
+    function: &'p Function,
+) -> Result<Verdict, OutOfMemory>
+    requires whole { IsWhole (seen.source_of here.now).machine }
+    ensures { IfOk result (λ v. v ≡ spec.verdict_of (seen.source_of here.now) (texts here.now.program.now function.now)) }
+{
+    match places(
+        alloc,
+        here.program,
+        here.function,
+        here.kept,
+        here.verdicts,
+        here.depth,
+        here.reach,
+    ) {
+        Ok(layout) => tried(alloc, here, function, &layout),
+        Err(PlaceAnswer::Limit(kind, _)) => Ok(beyond(kind)),
+        Err(PlaceAnswer::OutOfMemory) => Err(OutOfMemory),
+    }
+}
+
+/// The verdict of the function with that number, whose kept callees these are, ascending, with the verdict of each: its
+/// skip; or its summary and its reports, by trying every choice. A number that no function has is answered by a skip.
+pub fn analyse<'p>(
+    alloc: Global,
+    program: &'p Program,
+    function: u32,
+    kept: &'p [u32],
+    verdicts: &'p [Verdict],
+    depth: u32,
+    reach: u32,
+) -> Result<Verdict, OutOfMemory>
+    requires whole { HasWholeMachine program.now }
+    ensures { IfOk result (λ v. v ≡ verdict_given program.now depth reach function kept.now verdicts.now) }
+{
+    whole_machines();
+    let Some(found) = program.functions.as_slice().get(function as usize) else {
+        return Ok(Verdict::Skipped(Skip::Limit {
+            kind: LimitKind::Functions,
+            count: 0,
+        }));
+    };
+    if let TBody::Skipped(skip) = &found.body {
+        return Ok(Verdict::Skipped(*skip));
+    }
+    match &program.machine {
+        Some(machine) => of_body(
+            alloc,
+            &Context {
+                program,
+                machine,
+                tries: false,
+                function,
+                kept,
+                verdicts,
+                depth,
+                reach,
+            },
+            found,
+        ),
+        None => {
+            let machine = match locks(alloc) {
+                Ok(machine) => machine,
+                Err(_) => return Err(OutOfMemory),
+            };
+            of_body(
+                alloc,
+                &Context {
+                    program,
+                    machine: &machine,
+                    tries: true,
+                    function,
+                    kept,
+                    verdicts,
+                    depth,
+                    reach,
+                },
+                found,
+            )
+        }
+    }
+}
