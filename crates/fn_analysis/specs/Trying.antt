@@ -22,9 +22,9 @@ layout_of r = laid.layout_of r.machine.places.now
 abbrev pub texts_of : Runs → Texts
 texts_of r = texts r.program.now r.function.now (layout_of r)
 
--- whether the run on a list of choices answers yes
-unfoldable pub passing : Runs → Query → List Bool → Bool
-passing r asked choice = shows (source_of r) (texts_of r) asked choice
+-- which lists of choices have a run that answers yes
+unfoldable pub passing : Source → Texts → Query → List Bool → Bool
+passing s x asked = shows s x asked
 
 -- The same function, with the same layout.
 pub record AreOf (old new : Runs) : Type 0 where

@@ -6,20 +6,21 @@ ghost use Rattle.sum_rows.specs.declared.report.Verdict.TheVariants as verdicts;
 ghost use Rattle.fsm_spec.specs.Table.{IsWhole};
 ghost use Rattle.sc_gather.specs.Seen as seen;
 ghost use Rattle.sc_world.specs.Verdict as spec;
-ghost use Rattle.sc_world.specs.Places.{places};
+ghost use Rattle.sc_world.specs.Places as laying;
+ghost use Rattle.sc_world.specs.Programs.{source};
 ghost use Rattle.layout_base.specs.Seen as laid;
 ghost use Rattle.program_verdicts.specs.Verdicts.{texts, verdict_given};
 ghost use Rattle.fn_analysis.specs.Trying.{HasWholeMachine};
 
 use crate::trying::Trying;
 use fn_verdict::verdict;
-use fsm_spec::{MachineSpec, locks, whole_machines};
+use fsm_spec::{locks, whole_machines};
 use layout_base::{Ground, Places};
 use location_texts::Texts;
 use places::{PlaceAnswer, places};
 use run_laws::layouts_are_closed;
 use sc_base::{LimitKind, OutOfMemory, Skip};
-use sc_gather::{Context, Refused, gather};
+use sc_gather::{Context, gather};
 use sc_typed::{Function, Program, TBody};
 use std::alloc::Global;
 use sum_rows::Verdict;
@@ -41,6 +42,7 @@ fn beyond(kind: LimitKind) -> Verdict
 }
 
 // The verdict of the function at hand, which has this layout.
+#[tactic(auto, unfolding(layout_base::specs::Seen::ground_of))]
 fn tried<'p>(
     alloc: Global,
     here: &Context<'p, '_>,
@@ -48,7 +50,7 @@ fn tried<'p>(
     layout: &Places<'p>,
 ) -> Result<Verdict, OutOfMemory>
     requires whole { IsWhole (seen.source_of here.now).machine }
-    requires laid { places (seen.source_of here.now) ≡ Ok (laid.layout_of layout.now) }
+    requires laid { laying.places (seen.source_of here.now) ≡ Ok (laid.layout_of layout.now) }
     ensures { IfOk result (λ v. v ≡ spec.done_with (seen.source_of here.now) (texts here.now.program.now function.now (laid.layout_of layout.now))
         (spec.answers (seen.source_of here.now) (texts here.now.program.now function.now (laid.layout_of layout.now)))) }
 {
@@ -70,13 +72,15 @@ fn tried<'p>(
     verdict(alloc, here, &names, &mut asks)
 }
 
-// The verdict of a function with a body, where this is the machine of states.
+// The verdict of the function at hand, which has a body.
 fn of_body<'p>(
     alloc: Global,
     here: &Context<'p, '_>,
     function: &'p Function,
 ) -> Result<Verdict, OutOfMemory>
     requires whole { IsWhole (seen.source_of here.now).machine }
+    requires given { seen.source_of here.now ≡ source here.now.program.now here.now.function here.now.kept.now here.now.verdicts.now
+        here.now.depth here.now.reach }
     ensures { IfOk result (λ v. v ≡ spec.verdict_of (seen.source_of here.now) (texts here.now.program.now function.now)) }
 {
     match places(
@@ -96,6 +100,7 @@ fn of_body<'p>(
 
 /// The verdict of the function with that number, whose kept callees these are, ascending, with the verdict of each: its
 /// skip; or its summary and its reports, by trying every choice. A number that no function has is answered by a skip.
+#[tactic(auto, unfolding(sc_gather::specs::Seen::source_of, sc_world::specs::Programs::source_by))]
 pub fn analyse<'p>(
     alloc: Global,
     program: &'p Program,

@@ -30,7 +30,7 @@ impl<'p, 'f> Runs<'p, '_, 'f> {
     /// Whether the run on this choice answers yes.
     #[tactic(auto, unfolding(crate::specs::Trying::passing))]
     pub fn says(&mut self, asked: Query, choice: &[bool]) -> Result<bool, OutOfMemory>
-        ensures says { IfOk result (λ b. b ≡ passing self.old (query asked.entry) choice.now) }
+        ensures says { IfOk result (λ b. b ≡ passing (source_of self.old) (texts_of self.old) (query asked.entry) choice.now) }
         ensures same { AreOf self.old self.new }
     {
         let outcome = self.machine.run(choice);

@@ -79,10 +79,12 @@ impl<'p, 'm, 'f> Trying<'p, 'm, 'f> {
 impl Answerer for Trying<'_, '_, '_> {
     ghost answers = { λ t. spec.answers (source_of t.runs) (texts_of t.runs) };
 
+    #[tactic(auto, unfolding(crate::specs::Trying::passing))]
     fn some(&mut self, asked: Query) -> Result<bool, OutOfMemory> {
         first_choice(&mut self.runs, asked, self.choice.as_mut_slice())
     }
 
+    #[tactic(auto, unfolding(crate::specs::Trying::passing))]
     fn shown(&mut self, asked: Query) -> Result<Shown, OutOfMemory> {
         if first_choice(&mut self.runs, asked, self.choice.as_mut_slice())? {
             self.runs.show(self.choice.as_slice())
