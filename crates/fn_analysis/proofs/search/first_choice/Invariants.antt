@@ -10,8 +10,8 @@ abbrev pub invariant-loop-choice : goal.invariant-loop-choice
 invariant-loop-choice l =
     record {
       same : AreOf l.fn.runs l.runs;
-      length : length l.choice ≡ length l.fn.choice;
-      first : first_at_or_behind [] l.choice (passing (source_of l.fn.runs) (texts_of l.fn.runs) (query l.asked))
+      long : length l.choice ≡ length l.fn.choice;
+      rest : first_at_or_behind [] l.choice (passing (source_of l.fn.runs) (texts_of l.fn.runs) (query l.asked))
           ≡ first_choice (length l.fn.choice) (passing (source_of l.fn.runs) (texts_of l.fn.runs) (query l.asked));
     }
 
