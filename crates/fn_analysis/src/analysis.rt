@@ -10,7 +10,7 @@ ghost use Rattle.sc_world.specs.Places as laying;
 ghost use Rattle.sc_world.specs.Programs.{source};
 ghost use Rattle.layout_base.specs.Seen as laid;
 ghost use Rattle.program_verdicts.specs.Verdicts.{texts, verdict_given};
-ghost use Rattle.fn_analysis.specs.Trying.{HasWholeMachine};
+ghost use Rattle.fn_analysis.specs.Analysis.{HasWholeMachine};
 
 use crate::trying::Trying;
 use fn_verdict::verdict;
@@ -57,6 +57,7 @@ fn tried<'p>(
     layouts_are_closed();
     let found = match gather(alloc, here) {
         Ok(found) => found,
+        // The layout is made of the same walk over the text, so it is not the limit of nodes.
         Err(_) => return Err(OutOfMemory),
     };
     let given = Ground {

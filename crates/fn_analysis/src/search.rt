@@ -3,7 +3,7 @@
 ghost use Rattle.std.specs.Prelude.{◌≡◌, false, true, length, None, Ok, Some};
 ghost use Rattle.sc_world.specs.Choices as choices;
 ghost use Rattle.run_questions.specs.Seen.{query};
-ghost use Rattle.fn_analysis.specs.Trying.{passing, source_of, texts_of, AreOf};
+ghost use Rattle.fn_analysis.specs.Runs.{passing, source_of, texts_of, AreOf};
 
 use crate::runs::Runs;
 use choice_search::{every_list_is_tried, step};

@@ -5,7 +5,7 @@ ghost use Rattle.sc_world.specs.Verdict as spec;
 ghost use Rattle.location_texts.specs.Seen as named;
 ghost use Rattle.run_questions.specs.Seen.{query};
 ghost use Rattle.sc_interp.specs.Seen.{ended};
-ghost use Rattle.fn_analysis.specs.Trying.{passing, source_of, texts_of, layout_of, AreOf};
+ghost use Rattle.fn_analysis.specs.Runs.{passing, source_of, texts_of, layout_of, AreOf};
 
 use crate::runs::Runs;
 use location_texts::{Texts, text_at};
@@ -28,7 +28,7 @@ impl<'p, 'f> Runs<'p, '_, 'f> {
     }
 
     /// Whether the run on this choice answers yes.
-    #[tactic(auto, unfolding(crate::specs::Trying::passing))]
+    #[tactic(auto, unfolding(crate::specs::Runs::passing))]
     pub fn says(&mut self, asked: Query, choice: &[bool]) -> Result<bool, OutOfMemory>
         ensures says { IfOk result (λ b. b ≡ passing (source_of self.old) (texts_of self.old) (query asked.entry) choice.now) }
         ensures same { AreOf self.old self.new }

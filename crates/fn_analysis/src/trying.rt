@@ -1,95 +1,15 @@
 // Who answers questions about the runs of a function by trying every choice.
 
-ghost use Rattle.std.specs.Prelude.{◌≡◌, ◌<◌, ◌^◌, [], IfOk, length, replicate, false};
-ghost use Rattle.fsm_spec.specs.Table.{IsWhole};
-ghost use Rattle.sc_world.specs.Verdict as spec;
-ghost use Rattle.layout_base.specs.Seen as laid;
-ghost use Rattle.run_laws.specs.Proper.{IsClosed};
-ghost use Rattle.location_texts.specs.Seen as named;
-ghost use Rattle.fn_analysis.specs.Trying.{source_of, texts_of, layout_of};
+ghost use Rattle.std.specs.Prelude.{◌≡◌, length};
+ghost use Rattle.fn_analysis.specs.Runs.{layout_of};
 
 use crate::runs::Runs;
-use crate::search::first_choice;
-use layout_base::Ground;
-use location_texts::Texts;
-use run_questions::{Answerer, Query};
-use sc_base::{List, OutOfMemory};
-use sc_interp::Machine;
-use std::alloc::Global;
-use sum_rows::Shown;
 
 /// Who answers questions about the runs of a function by trying every choice.
 #[derive(Drop)]
 pub struct Trying<'p, 'm, 'f> {
-    runs: Runs<'p, 'm, 'f>,
+    pub(crate) runs: Runs<'p, 'm, 'f>,
     // room for one choice
-    choice: Vec<bool>,
+    pub(crate) choice: Vec<bool>,
     ghost long: { length choice.items ≡ (layout_of runs).bits },
-}
-
-// So many bits that are not set.
-fn blank(alloc: Global, bits: u32) -> Result<Vec<bool>, OutOfMemory>
-    ensures { IfOk result (λ choice. length choice.items ≡ bits) }
-{
-    let mut choice = Vec::new(alloc);
-    for _ in 0..bits {
-        choice.push(false)?;
-    }
-    Ok(choice)
-}
-
-// No run, as it is shown.
-fn nothing_shown(alloc: Global) -> Shown
-    ensures { result ≡ record { choice = []; trace = []; text = [] } }
-{
-    Shown {
-        choice: List::new(alloc),
-        trace: List::new(alloc),
-        text: List::new(alloc),
-    }
-}
-
-impl<'p, 'm, 'f> Trying<'p, 'm, 'f> {
-    /// Who answers about the function at hand. `given` has what is read of the program, and `texts` the layout.
-    #[tactic(auto, unfolding(layout_base::specs::Seen::layout_of))]
-    pub fn new(
-        alloc: Global,
-        given: Ground<'p, 'm, 'f>,
-        texts: Texts<'p, 'f>,
-    ) -> Result<Trying<'p, 'm, 'f>, OutOfMemory>
-        requires whole { IsWhole (laid.ground_of given).source.machine }
-        requires closed { IsClosed (laid.layout_of texts.places.now) }
-        ensures source { IfOk result (λ t. source_of t.runs ≡ (laid.ground_of given.entry).source) }
-        ensures texts { IfOk result (λ t. texts_of t.runs ≡ named.texts texts.entry) }
-    {
-        let machine = Machine::reserve(alloc, given, texts.places)?;
-        let choice = blank(alloc, texts.places.bits)?;
-        Ok(Trying {
-            runs: Runs {
-                alloc,
-                machine,
-                program: texts.program,
-                function: texts.function,
-            },
-            choice,
-        })
-    }
-}
-
-impl Answerer for Trying<'_, '_, '_> {
-    ghost answers = { λ t. spec.answers (source_of t.runs) (texts_of t.runs) };
-
-    #[tactic(auto, unfolding(crate::specs::Trying::passing))]
-    fn some(&mut self, asked: Query) -> Result<bool, OutOfMemory> {
-        first_choice(&mut self.runs, asked, self.choice.as_mut_slice())
-    }
-
-    #[tactic(auto, unfolding(crate::specs::Trying::passing))]
-    fn shown(&mut self, asked: Query) -> Result<Shown, OutOfMemory> {
-        if first_choice(&mut self.runs, asked, self.choice.as_mut_slice())? {
-            self.runs.show(self.choice.as_slice())
-        } else {
-            Ok(nothing_shown(self.runs.alloc))
-        }
-    }
 }

@@ -3,7 +3,7 @@ use Rattle.std.proofs.Common.{◌≡◌, [], length}
 use Rattle.sc_world.specs.Choices.{first_choice}
 use Rattle.run_questions.specs.Seen.{query}
 use Rattle.choice_search.specs.Behind.{first_at_or_behind, left}
-use Rattle.fn_analysis.specs.Trying.{passing, source_of, texts_of, AreOf}
+use Rattle.fn_analysis.specs.Runs.{passing, source_of, texts_of, AreOf}
 use Rattle.fn_analysis.proofs.search.first_choice.Given as goal
 
 abbrev pub invariant-loop-choice : goal.invariant-loop-choice
