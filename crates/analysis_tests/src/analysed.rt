@@ -53,22 +53,48 @@ fn verdict_of(
     }
 }
 
+// The verdict of the first function, which calls no other one.
+fn first_verdict(alloc: Global, program: &Program) -> Result<Verdict, OutOfMemory> {
+    verdict_of(alloc, program, 0, &[], &[])
+}
+
+// The verdict of the second function, which calls the first one.
+fn second_verdict(alloc: Global, program: &Program) -> Result<Verdict, OutOfMemory> {
+    let mut callees = Vec::new(alloc);
+    callees.push(first_verdict(alloc, program)?)?;
+    verdict_of(alloc, program, 1, &[0], callees.as_slice())
+}
+
+fn put(alloc: Global, list: &mut Vec<Arc<Verdict>>, verdict: Verdict) -> Result<(), OutOfMemory> {
+    list.push(Arc::new(alloc, verdict)?)?;
+    Ok(())
+}
+
+// The verdict of the only function.
+fn one_verdict(alloc: Global, program: &Program) -> Result<RowList<Verdict>, OutOfMemory> {
+    let mut list = Vec::new(alloc);
+    put(alloc, &mut list, first_verdict(alloc, program)?)?;
+    Ok(RowList { list })
+}
+
+// The verdicts of both functions.
+fn two_verdicts(alloc: Global, program: &Program) -> Result<RowList<Verdict>, OutOfMemory> {
+    let mut list = Vec::new(alloc);
+    put(alloc, &mut list, first_verdict(alloc, program)?)?;
+    put(alloc, &mut list, second_verdict(alloc, program)?)?;
+    Ok(RowList { list })
+}
+
 /// The text of the check of a file with one function.
 pub fn said(alloc: Global, file: &str) -> Result<Vec<u8>, Fail> {
     let program = checked(alloc, file)?;
-    let mut list = Vec::new(alloc);
-    list.push(Arc::new(alloc, verdict_of(alloc, &program, 0, &[], &[])?)?)?;
-    Ok(text(alloc, &program, &RowList { list })?)
+    let verdicts = one_verdict(alloc, &program)?;
+    Ok(text(alloc, &program, &verdicts)?)
 }
 
 /// The text of the check of a file with two functions, of which the second one calls the first one.
 pub fn said_of_two(alloc: Global, file: &str) -> Result<Vec<u8>, Fail> {
     let program = checked(alloc, file)?;
-    let mut callees = Vec::new(alloc);
-    callees.push(verdict_of(alloc, &program, 0, &[], &[])?)?;
-    let caller = verdict_of(alloc, &program, 1, &[0], callees.as_slice())?;
-    let mut list = Vec::new(alloc);
-    list.push(Arc::new(alloc, verdict_of(alloc, &program, 0, &[], &[])?)?)?;
-    list.push(Arc::new(alloc, caller)?)?;
-    Ok(text(alloc, &program, &RowList { list })?)
+    let verdicts = two_verdicts(alloc, &program)?;
+    Ok(text(alloc, &program, &verdicts)?)
 }
