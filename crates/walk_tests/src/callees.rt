@@ -7,23 +7,23 @@ use std::test::*;
 const LOCKS: [(&str, [Tally; 3]); 5] = [
     (
         "typedef struct{int v;}spinlock_t;void f(_Bool c,spinlock_t*l){spin_lock(l);if(c)spin_lock(l);spin_unlock(l);}",
-        [(8, 1), (8, 1), (8, 1)],
+        [(8, 1); 3],
     ),
     (
         "typedef struct{int v;}spinlock_t;_Bool f(spinlock_t*l,spinlock_t*m){if(spin_trylock(l)){spin_unlock(l);return 1;}spin_lock(m);return 0;}",
-        [(32, 7), (32, 7), (32, 7)],
+        [(32, 7); 3],
     ),
     (
         "typedef struct{int v;}spinlock_t;void f(spinlock_t*l,_Bool c){while(c){spin_lock(l);if(!c)break;spin_unlock(l);c=0;}}",
-        [(8, 5), (8, 5), (8, 5)],
+        [(8, 5); 3],
     ),
     (
         "typedef struct{int v;}spinlock_t;struct s{spinlock_t l;struct s*n;};void f(struct s*p){spin_lock(&p->l);spin_unlock(&p->n->l);}",
-        [(512, 32), (512, 32), (512, 32)],
+        [(512, 32); 3],
     ),
     (
         "typedef struct{int v;}spinlock_t;void f(_Bool c){spinlock_t s;spin_lock(&s);if(c)spin_lock(&s);}",
-        [(2, 1), (2, 1), (2, 1)],
+        [(2, 1); 3],
     ),
 ];
 
@@ -35,17 +35,11 @@ fn operations_of_locks(rt: HostRuntime) -> Result<(), Fail> {
 const OBJECTS: [(&str, [Tally; 3]); 4] = [
     (
         "void f(_Bool n){char*p=kmalloc(8,0);if(n)goto out;kfree(p);out:;}",
-        [(1024, 1024), (1024, 1024), (1024, 1024)],
+        [(1024, 1024); 3],
     ),
-    (
-        "char f(char*p){kfree(p);return*p;}",
-        [(1024, 0), (1024, 0), (1024, 0)],
-    ),
-    ("void f(_Bool n){if(n)exit(1);}", [(2, 1), (2, 1), (2, 1)]),
-    (
-        "void m(char**o,_Bool c){if(c)*o=0;}",
-        [(8192, 6144), (8192, 6144), (8192, 6144)],
-    ),
+    ("char f(char*p){kfree(p);return*p;}", [(1024, 0); 3]),
+    ("void f(_Bool n){if(n)exit(1);}", [(2, 1); 3]),
+    ("void m(char**o,_Bool c){if(c)*o=0;}", [(8192, 6144); 3]),
 ];
 
 #[test]
@@ -56,23 +50,23 @@ fn objects_made_and_freed(rt: HostRuntime) -> Result<(), Fail> {
 const UNKNOWN: [(&str, [Tally; 3]); 5] = [
     (
         "_Bool ask(_Bool*p);_Bool f(_Bool a){_Bool r=ask(&a);return r+a;}",
-        [(4, 4), (4, 4), (4, 4)],
+        [(4, 4); 3],
     ),
     (
         "_Bool f(_Bool(*g)(_Bool),_Bool a){return g(a)+(*g)(!a);}",
-        [(32, 16), (32, 16), (32, 16)],
+        [(32, 16); 3],
     ),
     (
         "_Bool ask(_Bool a,_Bool b);_Bool f(_Bool a){return ask(ask(a,0),a&&ask(1,a));}",
-        [(16, 16), (16, 16), (16, 16)],
+        [(16, 16); 3],
     ),
     (
         "_Bool*at(_Bool*p);_Bool f(_Bool a){_Bool*p=at(&a);*p=1;return a;}",
-        [(8, 4), (8, 4), (8, 4)],
+        [(8, 4); 3],
     ),
     (
         "typedef _Bool(*fn)(_Bool);fn pick(void);_Bool f(_Bool a){return pick()(a);}",
-        [(8, 8), (8, 8), (8, 8)],
+        [(8, 8); 3],
     ),
 ];
 
@@ -84,7 +78,7 @@ fn calls_of_which_nothing_is_known(rt: HostRuntime) -> Result<(), Fail> {
 const TAKERS: [(&str, [Tally; 3]); 3] = [
     (
         "typedef struct{int v;}spinlock_t;void g(spinlock_t*l){spin_lock(l);}void h(spinlock_t*l){g(l);g(l);}",
-        [(64, 0), (64, 0), (64, 0)],
+        [(64, 0); 3],
     ),
     (
         "typedef struct{int v;}spinlock_t;void g(spinlock_t*l){spin_lock(l);}void h(_Bool c,spinlock_t*l){while(c){g(l);c=0;}if(!c)g(l);}",
@@ -92,7 +86,7 @@ const TAKERS: [(&str, [Tally; 3]); 3] = [
     ),
     (
         "typedef struct{int v;}spinlock_t;void g(spinlock_t*l){spin_lock(l);}void h(_Bool c,spinlock_t*l,spinlock_t*m){g(c?l:m);g(l);}",
-        [(512, 1), (512, 1), (512, 1)],
+        [(512, 1); 3],
     ),
 ];
 
@@ -108,11 +102,11 @@ fn a_kept_callee_locks(rt: HostRuntime) -> Result<(), Fail> {
 const MAKERS: [(&str, [Tally; 3]); 2] = [
     (
         "void mk(char**o){*o=kmalloc(4,0);}void use(_Bool c){char*p;mk(&p);if(c)kfree(p);}",
-        [(2048, 1024), (2048, 1024), (2048, 1024)],
+        [(2048, 1024); 3],
     ),
     (
         "void mk(char**o){*o=kmalloc(4,0);}void use(_Bool c){char*p=0;char*q=0;mk(c?&p:&q);if(p==q)kfree(p);}",
-        [(2048, 1024), (2048, 1024), (2048, 1024)],
+        [(2048, 1024); 3],
     ),
 ];
 
@@ -128,7 +122,7 @@ fn a_kept_callee_gives_through_a_parameter(rt: HostRuntime) -> Result<(), Fail> 
 const NEGATIONS: [(&str, [Tally; 3]); 2] = [
     (
         "_Bool not(_Bool a){return!a;}_Bool f(_Bool a){return not(a)&&not(not(a));}",
-        [(16, 5), (16, 5), (16, 5)],
+        [(16, 5); 3],
     ),
     (
         "_Bool not(_Bool a){return!a;}char f(_Bool a){char r=0;do r+=not(a);while(not(r));return r;}",

@@ -30,7 +30,7 @@ fn breaks_and_continues(rt: HostRuntime) -> Result<(), Fail> {
 const GOTOS: [(&str, [Tally; 3]); 4] = [
     (
         "_Bool f(_Bool a){if(a)goto out;a=1;out:return a;}",
-        [(2, 2), (2, 2), (2, 2)],
+        [(2, 2); 3],
     ),
     (
         "_Bool ask(void);char f(_Bool a){char r=0;while(ask()){{if(a)goto next;}r=2;next:r++;if(ask())goto out;}r+=8;out:return r;}",
@@ -38,11 +38,11 @@ const GOTOS: [(&str, [Tally; 3]); 4] = [
     ),
     (
         "char f(_Bool a,_Bool b){char r=1;if(a)goto one;if(b)goto two;r=2;one:r+=4;two:three:r*=2;goto four;r=0;four:return r;}",
-        [(4, 4), (4, 4), (4, 4)],
+        [(4, 4); 3],
     ),
     (
         "char f(_Bool a){for(;;){switch(a){case 0:goto out;default:goto in;}in:break;}return 1;out:return 2;}",
-        [(2, 2), (2, 2), (2, 2)],
+        [(2, 2); 3],
     ),
 ];
 
@@ -51,10 +51,7 @@ fn gotos(rt: HostRuntime) -> Result<(), Fail> {
     all_beside(&rt, rt.alloc(), &GOTOS)
 }
 
-const BACKWARD: [(&str, [Tally; 3]); 1] = [(
-    "void f(_Bool a){l:if(a)goto l;}",
-    [(1, 1), (1, 1), (1, 1)],
-)];
+const BACKWARD: [(&str, [Tally; 3]); 1] = [("void f(_Bool a){l:if(a)goto l;}", [(1, 1); 3])];
 
 #[test]
 fn a_function_that_is_not_taken(rt: HostRuntime) -> Result<(), Fail> {
@@ -62,21 +59,12 @@ fn a_function_that_is_not_taken(rt: HostRuntime) -> Result<(), Fail> {
 }
 
 const RETURNS: [(&str, [Tally; 3]); 6] = [
-    (
-        "void f(_Bool a){if(a)return;a=1;}",
-        [(2, 2), (2, 2), (2, 2)],
-    ),
-    ("_Bool f(_Bool a){if(a)return a;}", [(2, 2), (2, 2), (2, 2)]),
-    (
-        "char*f(_Bool a,char*p){if(a)return p;}",
-        [(2048, 2048), (2048, 2048), (2048, 2048)],
-    ),
-    ("int f(_Bool a){return a?1:2;}", [(2, 2), (2, 2), (2, 2)]),
-    ("void f(void){}", [(1, 1), (1, 1), (1, 1)]),
-    (
-        "_Bool ask(void);_Bool f(void){return ask();}",
-        [(2, 2), (2, 2), (2, 2)],
-    ),
+    ("void f(_Bool a){if(a)return;a=1;}", [(2, 2); 3]),
+    ("_Bool f(_Bool a){if(a)return a;}", [(2, 2); 3]),
+    ("char*f(_Bool a,char*p){if(a)return p;}", [(2048, 2048); 3]),
+    ("int f(_Bool a){return a?1:2;}", [(2, 2); 3]),
+    ("void f(void){}", [(1, 1); 3]),
+    ("_Bool ask(void);_Bool f(void){return ask();}", [(2, 2); 3]),
 ];
 
 #[test]
