@@ -1,0 +1,6 @@
+void kfree(void *object);
+
+void drop(char *object)
+{
+        kfree(object);
+}
