@@ -1,9 +1,8 @@
 // A graph walked beside the interpreter.
 
-use crate::setting::{Given, checked, context, laid_out, machine, nothing};
+use crate::setting::{Given, checked, context, laid_out, machine, nothing, reserved};
 use crate::walk::{Stop, Walk};
 use choice_search::step;
-use layout_base::Ground;
 use run_world::{Ended, Value};
 use sc_base::OutOfMemory;
 use sc_flow::{Flow, unroll};
@@ -95,11 +94,7 @@ fn beside(rt: &impl Abort, alloc: Global, given: Given, depth: u32) -> Result<Ta
     let laid = laid_out(alloc, given, depth)?;
     let found = nothing(alloc);
     let flow = unroll(alloc, &here)?;
-    let ground = Ground {
-        here: &here,
-        found: &found,
-    };
-    let mut runs = Machine::reserve(alloc, ground, &laid)?;
+    let mut runs = reserved(alloc, &here, &found, &laid)?;
     Ok(all_agree(rt, alloc, &mut runs, &flow)?)
 }
 

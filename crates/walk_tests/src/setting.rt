@@ -6,12 +6,13 @@ ghost use Rattle.layout_base.specs.Seen as laid;
 ghost use Rattle.run_laws.specs.Proper.{IsClosed};
 
 use fsm_spec::{MachineSpec, locks, whole_machines};
-use layout_base::Places;
+use layout_base::{Ground, Places};
 use places::{PlaceAnswer, places};
 use run_laws::layouts_are_closed;
-use sc_base::{List, Names};
+use sc_base::{List, Names, OutOfMemory};
 use sc_check::check;
 use sc_gather::{Context, Found};
+use sc_interp::Machine;
 use sc_lexer::{LexAnswer, tokens};
 use sc_parse_unit::unit;
 use sc_tree::ctype::Widths;
@@ -101,4 +102,18 @@ pub fn nothing<'p>(alloc: Global) -> Found<'p> {
         literals: Vec::new(alloc),
         sites: Vec::new(alloc),
     }
+}
+
+/// The memory of the runs.
+#[tactic(auto, unfolding(layout_base::specs::Seen::ground_of, sc_gather::specs::Seen::source_of, sc_world::specs::Programs::source_by))]
+pub fn reserved<'p, 'm, 'f>(
+    alloc: Global,
+    here: &'f Context<'p, 'm>,
+    found: &'f Found<'p>,
+    places: &'f Places<'p>,
+) -> Result<Machine<'p, 'm, 'f>, OutOfMemory>
+    requires whole { IsWhole here.now.machine.now }
+    requires closed { IsClosed (laid.layout_of places.now) }
+{
+    Machine::reserve(alloc, Ground { here, found }, places)
 }
