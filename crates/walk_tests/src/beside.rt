@@ -147,3 +147,43 @@ pub fn second_beside(
     };
     agrees(rt, alloc, text, given, tallies)
 }
+
+// Sets these bits, as far as there are so many.
+fn set_bits(choice: &mut [bool], set: &[usize]) {
+    for at in set {
+        if *at < choice.len() {
+            choice[*at] = true;
+        }
+    }
+}
+
+// The same of one choice: whether the function comes to its end.
+fn beside_on(rt: &impl Abort, alloc: Global, given: Given, set: &[usize]) -> Result<bool, Fail> {
+    let table = machine(alloc)?;
+    let here = context(given, &table, 2);
+    let laid = laid_out(alloc, given, 2)?;
+    let found = nothing(alloc);
+    let flow = unroll(alloc, &here)?;
+    let mut runs = reserved(alloc, &here, &found, &laid)?;
+    let mut choice = none_set(alloc, laid.choice_len())?;
+    set_bits(choice.as_mut_slice(), set);
+    Ok(agree(rt, alloc, &mut runs, &flow, choice.as_slice(), 0)?)
+}
+
+/// On the choice with these bits walk and run of the first function of a text agree. Answers whether they come to its
+/// end.
+pub fn first_agrees_on(
+    rt: &impl Abort,
+    alloc: Global,
+    text: &str,
+    set: &[usize],
+) -> Result<bool, Fail> {
+    let program = checked(alloc, text)?;
+    let given = Given {
+        program: &program,
+        function: 0,
+        kept: &[],
+        verdicts: &[],
+    };
+    beside_on(rt, alloc, given, set)
+}

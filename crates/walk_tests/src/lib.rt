@@ -3,7 +3,7 @@
 //!
 //! `setting` reads a text and lays a function of it out, `summaries` has what kept callees do, `walk`, `expressions`,
 //! `objects` and `calls` are the walker, `beside` sets it beside the interpreter, and `statements`, `jumps`, `operators`,
-//! `declarations` and `callees` have the functions.
+//! `declarations` and `callees` have the functions; `driver` has one of a driver, on some of its choices.
 #![tactic(auto)]
 
 #[cfg(test)]
@@ -14,6 +14,8 @@ mod callees;
 mod calls;
 #[cfg(test)]
 mod declarations;
+#[cfg(test)]
+mod driver;
 #[cfg(test)]
 mod expressions;
 #[cfg(test)]
