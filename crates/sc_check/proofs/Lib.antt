@@ -4,3 +4,4 @@ pub mod Heres
 pub mod Walked
 pub mod Found
 pub mod Named
+pub mod Left
