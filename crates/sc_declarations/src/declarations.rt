@@ -463,7 +463,7 @@ fn declarators(
         (option_copied t.entry) parts.now walk.old) result walk.new }
     ensures tied { OnOk result (numbers.new ≡ keys_of walk.new.globals) }
 {
-    let mut made = List::new(alloc);
+    let mut made = List::from_vec(Vec::with_capacity(alloc, parts.len())?);
     for d in parts {
         let x = declarator_of(alloc, walk, numbers, here, at_file, words, t, d)?;
         made.push(x)?;
