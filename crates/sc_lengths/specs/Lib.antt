@@ -1,3 +1,4 @@
 pub mod Ways
+pub mod Given
 pub mod Designators
 pub mod Lengths

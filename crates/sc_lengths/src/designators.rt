@@ -8,59 +8,46 @@ ghost use Rattle.sc_unary.specs.Members.{body_at};
 ghost use Rattle.sc_typing.specs.Tables as tables;
 ghost use Rattle.sc_lengths.specs.Designators as spec;
 
+use crate::given::is_union;
 use crate::ways::part;
 use sc_base::{List, NameId, OutOfMemory};
 use sc_rules::Walk;
 use sc_tree::ctype::{CType, Widths};
 use sc_tree::decl::Designator;
 use sc_tree::expr::Expr;
-use sc_typed::{FieldDef, StructDef, TExpr};
+use sc_typed::TExpr;
 use sc_types::{constant_bits, copy_type, number};
 use sc_typing::{Tables, valued_expression};
-use sc_unary::fields_of;
 use std::alloc::Global;
-use struct_table::is_called;
+use struct_table::Structs;
 
-// The number of the member of that name, among those that take values. One of 2^32 - 1 is refused as too much for
-// memory.
-fn index_in(name: NameId, fields: &[FieldDef]) -> Result<Option<u32>, OutOfMemory>
-    ensures { IfOk result (λ k. k ≡ spec.index_in 0 name fields.now) }
+// The number of the member of that name, among those that take values. One of 2^32 - 1 and more is refused as too much
+// for memory.
+#[tactic(auto, using(crate::proofs::Places::place_is))]
+fn place_in(structs: &Structs, number: u32, name: NameId) -> Result<Option<u32>, OutOfMemory>
+    ensures { IfOk result (λ k. k ≡ spec.index_in 0 name (body_at structs.now number).fields) }
 {
-    let mut k: u32 = 0;
-    for field in fields {
-        if is_called(name, field.name) {
-            return Ok(Some(k));
-        }
-        if field.name.is_some() || field.bits.is_none() {
-            if k == u32::MAX {
+    match structs.place(number, name) {
+        None => Ok(None),
+        Some(k) => {
+            if k >= u32::MAX as usize {
                 return Err(OutOfMemory);
             }
-            k += 1;
+            Ok(Some(k as u32))
         }
-    }
-    Ok(None)
-}
-
-// Whether the struct with that number of the table is a union.
-fn is_union(structs: &[StructDef], number: u32) -> bool
-    ensures { result ≡ (body_at structs.now number).union }
-{
-    match structs.get(number as usize) {
-        None => false,
-        Some(definition) => definition.union,
     }
 }
 
 // The part that `. name` names: a member of a struct.
-fn field_part(structs: &[StructDef], t: &CType, name: NameId) -> Result<Option<u32>, OutOfMemory>
+fn field_part(structs: &Structs, t: &CType, name: NameId) -> Result<Option<u32>, OutOfMemory>
     ensures { IfOk result (λ k. k ≡ spec.field_part structs.now t.now name (out-CType t.now)) }
 {
     match t {
         CType::Struct(number) => {
-            if is_union(structs, *number) {
+            if is_union(structs.as_slice(), *number) {
                 Ok(None)
             } else {
-                index_in(name, fields_of(structs, t))
+                place_in(structs, *number, name)
             }
         }
         CType::Void
@@ -156,7 +143,7 @@ fn designated_part(
     ensures { Gives (spec.designated_part (tables.here_of here.now) t.now d.now walk.old) result walk.new }
 {
     match d {
-        Designator::Field(name) => field_part(walk.structs.as_slice(), t, *name),
+        Designator::Field(name) => field_part(&walk.structs, t, *name),
         Designator::Index(e) => {
             let number = number_now(alloc, walk, here, e.get())?;
             Ok(element_part(number, t))
@@ -181,7 +168,7 @@ pub fn designated(
         match designated_part(alloc, walk, here, &at, d)? {
             None => return Ok(None),
             Some(k) => {
-                at = part(alloc, walk.structs.as_slice(), &at, k)?;
+                at = part(alloc, &walk.structs, &at, k)?;
                 way.push(k)?;
             }
         }

@@ -69,7 +69,7 @@ fn next_of(
     ensures { Gives (spec.next_of (tables.here_of here.now) t.now designators.now way walk.old) result walk.new }
 {
     match designators {
-        [] => following(alloc, walk.structs.as_slice(), t, way),
+        [] => following(alloc, &walk.structs, t, way),
         [_, ..] => designated(alloc, walk, here, t, designators),
     }
 }
@@ -87,7 +87,7 @@ fn reached(
     match way {
         None => Ok(None),
         Some(way) => {
-            let first = to_first(alloc, item, walk.structs.as_slice(), t, way)?;
+            let first = to_first(alloc, item, &walk.structs, t, way)?;
             Ok(Some(first))
         }
     }
@@ -335,8 +335,7 @@ fn completed(
 /// and more is refused as too much for memory.
 ///
 /// The values are not typed. The expressions of designators are: what they declare stays, and their faults are not
-/// noted. The way to a part is found again for each item, so this takes the number of items times the members of the
-/// structs on such a way.
+/// noted. The way to a part is gone again for each item.
 pub fn completed_type(
     alloc: Global,
     walk: &mut Walk,

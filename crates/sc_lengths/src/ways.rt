@@ -4,12 +4,13 @@
 ghost use Rattle.std.specs.Prelude.{◌≡◌, ◌++◌, IfOk};
 ghost use Rattle.sc_lengths.specs.Ways as spec;
 
+use crate::given::{count_given, type_given};
 use sc_base::{List, OutOfMemory};
-use sc_fill::{is_char_array, members_given};
+use sc_fill::is_char_array;
 use sc_tree::ctype::CType;
-use sc_typed::StructDef;
 use sc_types::copy_type;
 use std::alloc::Global;
+use struct_table::Structs;
 
 /// What an item of an initialiser is.
 #[derive(Clone, Copy, Debug, PartialEq, Eq)]
@@ -22,77 +23,42 @@ pub enum Item {
     Braces,
 }
 
-// The number of members that values go to.
-fn count_members(
-    alloc: Global,
-    structs: &[StructDef],
-    t: &CType,
-) -> Result<Option<usize>, OutOfMemory>
-    ensures { IfOk result (λ n. n ≡ spec.struct_parts structs.now t.now) }
-{
-    let members = members_given(alloc, structs, t)?;
-    Ok(Some(members.len()))
-}
-
 // The number of parts of a type; `None` for no end.
-fn parts(alloc: Global, structs: &[StructDef], t: &CType) -> Result<Option<usize>, OutOfMemory>
-    ensures { IfOk result (λ n. n ≡ spec.parts structs.now t.now) }
+fn parts(structs: &Structs, t: &CType) -> Option<usize>
+    ensures { result ≡ spec.parts structs.now t.now }
 {
     match t {
-        CType::Array(_, None) => Ok(None),
-        CType::Array(_, Some(length)) => Ok(Some(*length as usize)),
-        CType::Struct(_) | CType::Union(_) => count_members(alloc, structs, t),
+        CType::Array(_, None) => None,
+        CType::Array(_, Some(length)) => Some(*length as usize),
+        CType::Struct(number) | CType::Union(number) => Some(count_given(structs, *number)),
         CType::Void
         | CType::Bool
         | CType::Int(_)
         | CType::Ptr(_)
         | CType::Func(_)
-        | CType::Opaque(_) => Ok(Some(0)),
-    }
-}
-
-// The type of the member with that number; `void` behind the last.
-fn member_type(alloc: Global, members: &[(u32, CType)], number: u32) -> Result<CType, OutOfMemory>
-    ensures { IfOk result (λ t. t ≡ spec.member_type members.now number) }
-{
-    match members.get(number as usize) {
-        None => Ok(CType::Void),
-        Some((_, t)) => copy_type(alloc, t),
+        | CType::Opaque(_) => Some(0),
     }
 }
 
 /// The type of the part with that number.
-pub fn part(
-    alloc: Global,
-    structs: &[StructDef],
-    t: &CType,
-    number: u32,
-) -> Result<CType, OutOfMemory>
+#[tactic(auto, using(crate::proofs::Numbers::no_member))]
+pub fn part(alloc: Global, structs: &Structs, t: &CType, number: u32) -> Result<CType, OutOfMemory>
     ensures { IfOk result (λ u. u ≡ spec.part structs.now t.now number) }
 {
     match t {
         CType::Array(element, _) => copy_type(alloc, element.get()),
+        CType::Struct(own) | CType::Union(own) => type_given(alloc, structs, *own, number),
         CType::Void
         | CType::Bool
         | CType::Int(_)
         | CType::Ptr(_)
         | CType::Func(_)
-        | CType::Struct(_)
-        | CType::Union(_)
-        | CType::Opaque(_) => {
-            let members = members_given(alloc, structs, t)?;
-            member_type(alloc, members.as_slice(), number)
-        }
+        | CType::Opaque(_) => Ok(CType::Void),
     }
 }
 
 // The type of the part to which a way leads.
-fn part_at(
-    alloc: Global,
-    structs: &[StructDef],
-    t: &CType,
-    way: &[u32],
-) -> Result<CType, OutOfMemory>
+fn part_at(alloc: Global, structs: &Structs, t: &CType, way: &[u32]) -> Result<CType, OutOfMemory>
     ensures { IfOk result (λ u. u ≡ spec.part_at structs.now t.now way.now) }
 {
     let mut at = copy_type(alloc, t)?;
@@ -130,7 +96,7 @@ fn beside(count: Option<usize>, number: u32) -> Result<Option<u32>, OutOfMemory>
 // The number of the part beside that one, at the level to which a way leads.
 fn beside_at(
     alloc: Global,
-    structs: &[StructDef],
+    structs: &Structs,
     t: &CType,
     way: &[u32],
     number: u32,
@@ -139,7 +105,7 @@ fn beside_at(
         spec.beside (spec.parts structs.now (spec.part_at structs.now t.now way.now)) number) }
 {
     let level = part_at(alloc, structs, t, way)?;
-    let count = parts(alloc, structs, &level)?;
+    let count = parts(structs, &level);
     beside(count, number)
 }
 
@@ -147,7 +113,7 @@ fn beside_at(
 #[tactic(auto, using(crate::proofs::Behind::next_beside, crate::proofs::Behind::next_outside))]
 fn next_way(
     alloc: Global,
-    structs: &[StructDef],
+    structs: &Structs,
     t: &CType,
     way: List<u32>,
 ) -> Result<Option<List<u32>>, OutOfMemory>
@@ -167,7 +133,7 @@ fn next_way(
 /// the last part.
 pub fn following(
     alloc: Global,
-    structs: &[StructDef],
+    structs: &Structs,
     t: &CType,
     way: Option<List<u32>>,
 ) -> Result<Option<List<u32>>, OutOfMemory>
@@ -193,24 +159,13 @@ fn has_parts(count: Option<usize>) -> bool
 }
 
 // Whether an item stands for all of a part.
-fn stands_for(
-    alloc: Global,
-    item: Item,
-    structs: &[StructDef],
-    t: &CType,
-) -> Result<bool, OutOfMemory>
-    ensures { IfOk result (λ all. all ≡ spec.stands_for item structs.now t.now) }
+fn stands_for(item: Item, structs: &Structs, t: &CType) -> bool
+    ensures { result ≡ spec.stands_for item structs.now t.now }
 {
     match item {
-        Item::Scalar => {
-            let count = parts(alloc, structs, t)?;
-            Ok(!has_parts(count))
-        }
-        Item::Text => {
-            let count = parts(alloc, structs, t)?;
-            Ok(is_char_array(t) || !has_parts(count))
-        }
-        Item::Braces => Ok(true),
+        Item::Scalar => !has_parts(parts(structs, t)),
+        Item::Text => is_char_array(t) || !has_parts(parts(structs, t)),
+        Item::Braces => true,
     }
 }
 
@@ -220,7 +175,7 @@ fn stands_for(
 fn down(
     alloc: Global,
     item: Item,
-    structs: &[StructDef],
+    structs: &Structs,
     t: &CType,
     deep: u32,
     mut way: List<u32>,
@@ -230,7 +185,7 @@ fn down(
     if deep == 0 {
         return Ok(way);
     }
-    if stands_for(alloc, item, structs, t)? {
+    if stands_for(item, structs, t) {
         return Ok(way);
     }
     way.push(0)?;
@@ -242,7 +197,7 @@ fn down(
 pub fn to_first(
     alloc: Global,
     item: Item,
-    structs: &[StructDef],
+    structs: &Structs,
     t: &CType,
     way: List<u32>,
 ) -> Result<List<u32>, OutOfMemory>
