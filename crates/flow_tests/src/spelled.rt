@@ -102,7 +102,8 @@ impl Reader {
     fn assign(&mut self, op: AssignOp) -> Result<(), OutOfMemory> {
         let b = self.operand()?;
         let a = self.operand()?;
-        self.put(What::Assign(op, CType::Int(IntKind::Int), a, b))
+        let works = Boxed::new(self.alloc, CType::Int(IntKind::Int))?;
+        self.put(What::Assign(op, works, a, b))
     }
 
     fn choice(&mut self) -> Result<(), OutOfMemory> {
@@ -162,10 +163,10 @@ impl Reader {
 
     fn for_loop(&mut self) -> Result<(), OutOfMemory> {
         let s = self.body()?;
-        let step = self.value();
-        let e = self.value();
-        let start = TForStart::Expr(self.value());
-        self.add(TStmt::For(start, Some(e), Some(step), s, pos()))
+        let step = Boxed::new(self.alloc, Some(self.value()))?;
+        let e = Boxed::new(self.alloc, Some(self.value()))?;
+        let start = Boxed::new(self.alloc, TForStart::Expr(self.value()))?;
+        self.add(TStmt::For(start, e, step, s, pos()))
     }
 
     fn case(&mut self) -> Result<(), OutOfMemory> {

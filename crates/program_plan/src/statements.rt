@@ -95,9 +95,9 @@ pub fn statement(marks: &mut [bool], here: &Context, s: &TStmt)
             expression(marks, here, e)
         }
         TStmt::For(first, e, step, x, _) => {
-            start(marks, here, first);
-            expression_if(marks, here, e);
-            expression_if(marks, here, step);
+            start(marks, here, first.get());
+            expression_if(marks, here, e.get());
+            expression_if(marks, here, step.get());
             statement(marks, here, x.get())
         }
         TStmt::Switch(e, xs, _, _) => {

@@ -71,7 +71,7 @@ pub fn eval<C: Calls>(
                 Some(op) => {
                     let old = world.load(place.place() as usize);
                     let value = eval(here, world, kept, calls, b.get(), Want::Value)?;
-                    assign_combined(here, world, want, op, works, t, place, old, value)
+                    assign_combined(here, world, want, op, works.get(), t, place, old, value)
                 }
             }
         }

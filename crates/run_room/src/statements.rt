@@ -52,9 +52,12 @@ pub fn statement_room(here: &Here, s: &TStmt) -> Result<usize, OutOfMemory>
             loop_room(depth(here), test, statement_room(here, x.get())?)
         }
         TStmt::For(first, e, step, x, _) => {
-            let before = start(here, first)?;
-            let test = plus(expression_if(here, e)?, 1)?;
-            let body = plus(statement_room(here, x.get())?, expression_if(here, step)?)?;
+            let before = start(here, first.get())?;
+            let test = plus(expression_if(here, e.get())?, 1)?;
+            let body = plus(
+                statement_room(here, x.get())?,
+                expression_if(here, step.get())?,
+            )?;
             plus(before, loop_room(depth(here), test, body)?)
         }
         TStmt::Switch(e, xs, _, _) => {

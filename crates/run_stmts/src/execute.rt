@@ -84,8 +84,16 @@ pub fn exec<C: Calls>(
             exec_loop(here, world, space, calls, x.get(), Loop::Do(e), *pos)
         },
         TStmt::For(first, e, step, x, pos) => {
-            begin(here, world, space, calls, first)?;
-            exec_loop(here, world, space, calls, x.get(), Loop::For(e, step), *pos)
+            begin(here, world, space, calls, first.get())?;
+            exec_loop(
+                here,
+                world,
+                space,
+                calls,
+                x.get(),
+                Loop::For(e.get(), step.get()),
+                *pos,
+            )
         }
         TStmt::Switch(e, xs, pos, _) => {
             let value = evaluate(here, world, space, calls, e, Want::Value)?;

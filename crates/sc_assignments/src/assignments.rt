@@ -255,7 +255,8 @@ fn assigned(
                 let t = copy_type(alloc, &a.ctype)?;
                 let a = Boxed::new(alloc, a)?;
                 let right = Boxed::new(alloc, right)?;
-                Ok(Some(node(What::Assign(op, ctype, a, right), t, p)))
+                let works = Boxed::new(alloc, ctype)?;
+                Ok(Some(node(What::Assign(op, works, a, right), t, p)))
             } else {
                 Ok(None)
             }

@@ -127,7 +127,7 @@ fn hard<'p>(
             Some(op) => {
                 let updating = Updating {
                     op,
-                    works,
+                    works: works.get(),
                     ctype: &e.ctype,
                 };
                 let s = update(g, here, updating, aim)?;

@@ -154,14 +154,14 @@ pub fn statement<'p>(
                 here,
                 depth,
                 labels,
-                lent(here, e),
-                lent(here, step),
+                lent(here, e.get()),
+                lent(here, step.get()),
                 x.get(),
                 turn,
                 *pos,
                 ways,
             )?;
-            start(g, here, first, turn, at)
+            start(g, here, first.get(), turn, at)
         }
         TStmt::Switch(e, xs, pos, _) => {
             let within = Ways {

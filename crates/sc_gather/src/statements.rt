@@ -178,9 +178,9 @@ pub fn statement<'p>(
             nodes(found, round.factor)?;
             let test = round.tested(here.depth())?;
             let body = round.within(here.depth())?;
-            start(found, here, first, round)?;
-            expression_if(found, here, e, test)?;
-            expression_if(found, here, step, body)?;
+            start(found, here, first.get(), round)?;
+            expression_if(found, here, e.get(), test)?;
+            expression_if(found, here, step.get(), body)?;
             statement(found, here, x.get(), body)
         }
         TStmt::Switch(e, xs, _, _) => {

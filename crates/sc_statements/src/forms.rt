@@ -172,7 +172,12 @@ pub fn for_of(
 {
     match start.zip(test).zip(step.zip(s)) {
         None => Ok(None),
-        Some(((start, test), (step, s))) => made(alloc, TStmt::For(start, test, step, s, at)),
+        Some(((start, test), (step, s))) => {
+            let start = Boxed::new(alloc, start)?;
+            let test = Boxed::new(alloc, test)?;
+            let step = Boxed::new(alloc, step)?;
+            made(alloc, TStmt::For(start, test, step, s, at))
+        }
     }
 }
 

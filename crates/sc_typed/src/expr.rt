@@ -25,8 +25,8 @@ pub enum What {
     Comma(Boxed<TExpr>, Boxed<TExpr>),
     /// `a = b` and its kin, with the type in which the operator works: for `=` that of `a`, for a
     /// shift the promoted type of `a`, else the common type of both sides. The right side is converted
-    /// to it, but for a shift, where it is promoted alone.
-    Assign(AssignOp, CType, Boxed<TExpr>, Boxed<TExpr>),
+    /// to it, but for a shift, where it is promoted alone. (The type is boxed, so that an expression is small.)
+    Assign(AssignOp, Boxed<CType>, Boxed<TExpr>, Boxed<TExpr>),
     /// `a ? b : c`
     Cond(Boxed<TExpr>, Boxed<TExpr>, Boxed<TExpr>),
     /// `a + b` and its kin.

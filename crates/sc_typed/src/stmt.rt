@@ -20,8 +20,8 @@ pub enum TStmt {
     While(TExpr, Boxed<TStmt>, Pos),
     /// `do s while ( e ) ;`
     Do(Boxed<TStmt>, TExpr, Pos),
-    /// `for ( .. ; e ; e ) s`
-    For(TForStart, Option<TExpr>, Option<TExpr>, Boxed<TStmt>, Pos),
+    /// `for ( .. ; e ; e ) s`. (The parts in the brackets are boxed, so that a statement is small.)
+    For(Boxed<TForStart>, Boxed<Option<TExpr>>, Boxed<Option<TExpr>>, Boxed<TStmt>, Pos),
     /// `switch ( e ) { items }`, with the places of its keyword and of its closing brace. `e` is
     /// promoted.
     Switch(TExpr, List<TStmt>, Pos, Pos),

@@ -123,7 +123,7 @@ impl Walk<'_, '_, '_> {
                 let right = self.plain(b.get(), wanted_right(*op, &e.ctype))?;
                 match operator(*op) {
                     None => self.set(want, &e.ctype, place, right),
-                    Some(op) => self.combine(want, op, works, &e.ctype, place, former, right),
+                    Some(op) => self.combine(want, op, works.get(), &e.ctype, place, former, right),
                 }
             }
             What::Binary(_, a, b) => {

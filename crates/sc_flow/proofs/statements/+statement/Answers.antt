@@ -31,15 +31,17 @@ pub statement-returns-in_ok-at-in-For-clause-made : goal.statement-returns-in_ok
 statement-returns-in_ok-at-in-For-clause-made t c =
     let structs = structs_of c.args.here.now in
     let is = ap (stm structs) c.in-For.is ∙ stm_for structs c.in-For.first c.in-For.e c.in-For.step c.in-For.x c.in-For.pos
-    ∙ (ap (λ a. For c.in-For.pos (start_of structs c.in-For.first) a (exp_if structs c.in-For.step) (stm structs c.in-For.x))
-    (sym c.lent-in-For.ensures)
-    ∙ (ap (λ a. For c.in-For.pos (start_of structs c.in-For.first) (expression_if structs c.lent-in-For.result) a (stm structs c.in-For.x))
-    (sym c.lent-in-For-2.ensures)
-    ∙ ap (λ y. For c.in-For.pos (start_of structs c.in-For.first) (expression_if structs c.lent-in-For.result)
-    (expression_if structs c.lent-in-For-2.result) (stm structs y)) (sym c.get-in-For.ensures))) in
+    ∙ (ap (λ a. For c.in-For.pos (start_of structs a) (exp_if structs c.in-For.e) (exp_if structs c.in-For.step) (stm structs c.in-For.x))
+    (sym c.get-in-For-4.ensures)
+    ∙ (ap (λ a. For c.in-For.pos (start_of structs c.get-in-For-4.result.now) a (exp_if structs c.in-For.step) (stm structs c.in-For.x))
+    (ap (exp_if structs) (sym c.get-in-For.ensures) ∙ sym c.lent-in-For.ensures)
+    ∙ (ap (λ a. For c.in-For.pos (start_of structs c.get-in-For-4.result.now) (expression_if structs c.lent-in-For.result) a (stm structs c.in-For.x))
+    (ap (exp_if structs) (sym c.get-in-For-2.ensures) ∙ sym c.lent-in-For-2.ensures)
+    ∙ ap (λ y. For c.in-For.pos (start_of structs c.get-in-For-4.result.now) (expression_if structs c.lent-in-For.result)
+    (expression_if structs c.lent-in-For-2.result) (stm structs y)) (sym c.get-in-For-3.ensures)))) in
     subst (λ (r : ℕ × Growing). IfOk c.start.result (λ at. (at, growing structs c.start.new.g) ≡ r))
-    (for_is c.args.depth c.args.turn (stm structs c.args.s.now) c.in-For.pos (start_of structs c.in-For.first)
-    (expression_if structs c.lent-in-For.result) (expression_if structs c.lent-in-For-2.result) (stm structs c.get-in-For.result.now)
+    (for_is c.args.depth c.args.turn (stm structs c.args.s.now) c.in-For.pos (start_of structs c.get-in-For-4.result.now)
+    (expression_if structs c.lent-in-For.result) (expression_if structs c.lent-in-For-2.result) (stm structs c.get-in-For-3.result.now)
     (targets c.args.ways c.args.labels.now) (growing structs c.args.g.now) (growing structs c.turns-in-For.new.g)
     c.in_ok-at-in-For.at is c.in_ok-at-in-For.ensures.made)
     c.start.ensures
