@@ -46,39 +46,17 @@ pub fn expression(
     ensures { Gives ((spec.typing (tables.here_of here.now) e.now).run walk.old) result walk.new }
 {
     match e {
-        Expr::Comma(a, b, p) => {
-            let x = valued_expression(alloc, walk, here, a.get())?;
-            comma_with(alloc, walk, here, b.get(), x, *p)
-        }
-        Expr::Assign(op, a, b, p) => {
-            let x = expression(alloc, walk, here, a.get())?;
-            assign_from(alloc, walk, here, b.get(), *op, x, *p)
-        }
-        Expr::Cond(a, b, c, p) => {
-            let x = valued_expression(alloc, walk, here, a.get())?;
-            let y = valued_expression(alloc, walk, here, b.get())?;
-            choose_with(alloc, walk, here, c.get(), x, y, *p)
-        }
-        Expr::Binary(op, a, b, p) => {
-            let x = valued_expression(alloc, walk, here, a.get())?;
-            operate_with(alloc, walk, here, b.get(), *op, x, *p)
-        }
-        Expr::Cast(t, a, p) => {
-            let t = type_named(alloc, walk, here, t.get())?;
-            cast_to(alloc, walk, here, a.get(), t, *p)
-        }
+        Expr::Comma(a, b, p) => sequence(alloc, walk, here, a.get(), b.get(), *p),
+        Expr::Assign(op, a, b, p) => assign(alloc, walk, here, a.get(), b.get(), *op, *p),
+        Expr::Cond(a, b, c, p) => choose(alloc, walk, here, a.get(), b.get(), c.get(), *p),
+        Expr::Binary(op, a, b, p) => operate(alloc, walk, here, a.get(), b.get(), *op, *p),
+        Expr::Cast(t, a, p) => cast_named(alloc, walk, here, t.get(), a.get(), *p),
         Expr::Unary(op, a, p) => apply(alloc, walk, here, a.get(), *op, *p),
         Expr::PreInc(step, a, p) => step_first(alloc, walk, here, a.get(), *step, *p),
         Expr::SizeofExpr(a, p) => size_of(alloc, walk, here, a.get(), *p),
         Expr::SizeofType(t, p) => size_of_named(alloc, walk, here, t.get(), *p),
-        Expr::Index(a, b, p) => {
-            let y = before_bracket(alloc, walk, here, a.get())?;
-            element_at(alloc, walk, here, b.get(), y, *p)
-        }
-        Expr::Call(f, es, p) => {
-            let f = callee(alloc, walk, here, f.get())?;
-            call_with(alloc, walk, here, es, f, *p)
-        }
+        Expr::Index(a, b, p) => element(alloc, walk, here, a.get(), b.get(), *p),
+        Expr::Call(f, es, p) => call_of(alloc, walk, here, f.get(), es, *p),
         Expr::Field(a, name, arrow, p) => part_named(alloc, walk, here, a.get(), *name, *arrow, *p),
         Expr::PostInc(step, a, p) => step_later(alloc, walk, here, a.get(), *step, *p),
         Expr::Name(name, p) => a_name(alloc, walk, here.settled(), here.body(*name), *name, *p),
@@ -101,6 +79,130 @@ pub fn valued_expression(
 {
     let x = expression(alloc, walk, here, e)?;
     valued(alloc, walk, x)
+}
+
+// `a , b`
+#[cycle(typing)]
+fn sequence(
+    alloc: Global,
+    walk: &mut Walk,
+    here: &Tables,
+    a: &Expr,
+    b: &Expr,
+    p: Place,
+) -> Result<Option<TExpr>, OutOfMemory>
+    ensures { Gives (spec.comma_step (spec.typing (tables.here_of here.now) a.now)
+        (spec.typing (tables.here_of here.now) b.now) p walk.old) result walk.new }
+{
+    let x = valued_expression(alloc, walk, here, a)?;
+    comma_with(alloc, walk, here, b, x, p)
+}
+
+// `a = b` and its kin
+#[cycle(typing)]
+fn assign(
+    alloc: Global,
+    walk: &mut Walk,
+    here: &Tables,
+    a: &Expr,
+    b: &Expr,
+    op: AssignOp,
+    p: Place,
+) -> Result<Option<TExpr>, OutOfMemory>
+    ensures { Gives (spec.assign_step (tables.here_of here.now) op (spec.typing (tables.here_of here.now) a.now)
+        (spec.typing (tables.here_of here.now) b.now) p walk.old) result walk.new }
+{
+    let x = expression(alloc, walk, here, a)?;
+    assign_from(alloc, walk, here, b, op, x, p)
+}
+
+// `a ? b : c`
+#[cycle(typing)]
+fn choose(
+    alloc: Global,
+    walk: &mut Walk,
+    here: &Tables,
+    a: &Expr,
+    b: &Expr,
+    c: &Expr,
+    p: Place,
+) -> Result<Option<TExpr>, OutOfMemory>
+    ensures { Gives (spec.conditional_step (tables.here_of here.now) (spec.typing (tables.here_of here.now) a.now)
+        (spec.typing (tables.here_of here.now) b.now) (spec.typing (tables.here_of here.now) c.now) p walk.old)
+        result walk.new }
+{
+    let x = valued_expression(alloc, walk, here, a)?;
+    let y = valued_expression(alloc, walk, here, b)?;
+    choose_with(alloc, walk, here, c, x, y, p)
+}
+
+// `a op b`
+#[cycle(typing)]
+fn operate(
+    alloc: Global,
+    walk: &mut Walk,
+    here: &Tables,
+    a: &Expr,
+    b: &Expr,
+    op: BinaryOp,
+    p: Place,
+) -> Result<Option<TExpr>, OutOfMemory>
+    ensures { Gives (spec.binary_step (tables.here_of here.now) op (spec.typing (tables.here_of here.now) a.now)
+        (spec.typing (tables.here_of here.now) b.now) p walk.old) result walk.new }
+{
+    let x = valued_expression(alloc, walk, here, a)?;
+    operate_with(alloc, walk, here, b, op, x, p)
+}
+
+// `( h ) a`
+#[cycle(typing)]
+fn cast_named(
+    alloc: Global,
+    walk: &mut Walk,
+    here: &Tables,
+    h: &Head,
+    a: &Expr,
+    p: Place,
+) -> Result<Option<TExpr>, OutOfMemory>
+    ensures { Gives (spec.cast_step (tables.here_of here.now) (spec.heading (tables.here_of here.now) h.now)
+        (spec.typing (tables.here_of here.now) a.now) p walk.old) result walk.new }
+{
+    let t = type_named(alloc, walk, here, h)?;
+    cast_to(alloc, walk, here, a, t, p)
+}
+
+// `a [ b ]`
+#[cycle(typing)]
+fn element(
+    alloc: Global,
+    walk: &mut Walk,
+    here: &Tables,
+    a: &Expr,
+    b: &Expr,
+    p: Place,
+) -> Result<Option<TExpr>, OutOfMemory>
+    ensures { Gives (spec.index_step (spec.typing (tables.here_of here.now) a.now)
+        (spec.typing (tables.here_of here.now) b.now) p walk.old) result walk.new }
+{
+    let y = before_bracket(alloc, walk, here, a)?;
+    element_at(alloc, walk, here, b, y, p)
+}
+
+// `f ( es )`
+#[cycle(typing)]
+fn call_of(
+    alloc: Global,
+    walk: &mut Walk,
+    here: &Tables,
+    f: &Expr,
+    es: &List<Expr>,
+    p: Place,
+) -> Result<Option<TExpr>, OutOfMemory>
+    ensures { Gives (spec.called (tables.here_of here.now) p (spec.typing (tables.here_of here.now) f.now)
+        (map (spec.typing (tables.here_of here.now)) es.now) walk.old) result walk.new }
+{
+    let f = callee(alloc, walk, here, f)?;
+    call_with(alloc, walk, here, es, f, p)
 }
 
 // `x , b`
