@@ -1,0 +1,2 @@
+pub mod TypeKinds
+mod Making
