@@ -77,12 +77,12 @@ first_meets s p v array made bits temps turn (Pointer target) points m = points 
 first_meets s p v array made bits temps turn (Number w n) points m = absurd m
 first_meets s p v array made bits temps turn Nothing points m = absurd m
 
-pub is_first : (s : Source) (p : Layout) (ns : List Node) (array made : Sets) → IsPart ns p way.First array.pairs.items made.pairs.items
-    → IsFirstElement s p ns array made
-is_first s p ns array made is =
+pub is_first : (ns : List Node) (p : Layout) (array made : Sets) → IsPart ns p way.First array.pairs.items made.pairs.items
+    → IsFirstElement ns p array made
+is_first ns p array made is =
     record {
       below = is.below;
-      value = λ choice v runs bits temps turn q m.
+      value = λ choice v runs s bits temps turn q m.
           first_meets s p v array made bits temps turn q (λ target points. is.points choice v runs target points) m;
     }
 

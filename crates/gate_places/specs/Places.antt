@@ -88,9 +88,9 @@ pub record IsPart (ns : List Node) (p : Layout) (w : Way) (pointer made : List P
   pub points : (choice v : ℕ → Bool) → Runs ns choice v → (target : ℕ) → Points v pointer target → Points v made (part_target p w target)
 
 -- the pointer to the first element of an array
-pub record IsFirstElement (s : Source) (p : Layout) (ns : List Node) (array made : Sets) : Type 0 where
+pub record IsFirstElement (ns : List Node) (p : Layout) (array made : Sets) : Type 0 where
   pub below : guards_top made.pairs.items ≤ length ns
-  pub value : (choice v : ℕ → Bool) → Runs ns choice v → (bits : List Bool) (temps : List Cell) (turn : ℕ) (q : Cell) → Meets v (Set array) q
+  pub value : (choice v : ℕ → Bool) → Runs ns choice v → (s : Source) (bits : List Bool) (temps : List Cell) (turn : ℕ) (q : Cell) → Meets v (Set array) q
       → Meets v (Set made) (first_element (env_of s p bits temps turn) q)
 
 -- the member of that name of the location to which a pointer leads

@@ -15,6 +15,7 @@ use gate_runs::Ends;
 use gl_sets::{Pair, Set, where_target};
 use gl_store::{Flag, Store};
 use layout_base::{Kind, Places};
+use layout_lookup::is_stub;
 use run_world::same_type;
 use sc_tree::ctype::CType;
 use sc_world::Reason;
@@ -49,10 +50,10 @@ fn is_null_check(check: Check) -> bool
     matches!(check, Check::Null)
 }
 
-fn is_stub(places: &Places, at: u32) -> bool
+fn is_stub_at(places: &Places, at: u32) -> bool
     ensures { result ≡ layouts.is_stub (layouts.location (laid.layout_of places.now) at) }
 {
-    matches!(places.location(at).kind, Kind::Stub)
+    is_stub(places.location(at))
 }
 
 fn has_type(places: &Places, at: u32, t: &CType) -> bool
@@ -85,7 +86,7 @@ fn location_fails(
 {
     match check {
         Check::Null => net.constant(false),
-        Check::Reach => net.constant(is_stub(places, at)),
+        Check::Reach => net.constant(is_stub_at(places, at)),
         Check::Freed => store.flag_anywhere(net, root_of(places, at), Flag::Freed),
         Check::Type => net.constant(!has_type(places, at, t)),
     }

@@ -96,16 +96,14 @@ pub fn part(layout: &Lookup, net: &mut Net, way: Way, pointer: &Set) -> Result<S
 /// The pointer to the first element of an array (C11 6.3.2.1); to the array itself where it has no element.
 #[tactic(auto, using(crate::proofs::Membering::is_first))]
 pub fn first_element(
-    here: &Here,
     layout: &Lookup,
     net: &mut Net,
     array: &Set,
 ) -> Result<Set, OutOfMemory>
     requires few { length (laid.layout_of layout.now.places.now).locations < 2 ^ 32 }
-    requires same { laid.layout_of layout.now.places.now ≡ (seen.env here.now).layout }
     requires array { guards_top array.now.pairs.items ≤ length net.old }
     ensures grown { Grown net.old net.new }
-    ensures ok { IfOk result (λ r. IsFirstElement (seen.env here.now).source (seen.env here.now).layout net.new array.now r) }
+    ensures ok { IfOk result (λ r. IsFirstElement net.new (laid.layout_of layout.now.places.now) array.now r) }
 {
     let made = part(layout, net, Way::First, array)?;
     Ok(made)

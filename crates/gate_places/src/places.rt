@@ -21,28 +21,23 @@ use gate_runs::Ends;
 use gate_steps::{load, store, unless};
 use gl_sets::Set;
 use gl_store::{Store, Val};
+use layout_base::is_cell;
 use run_entry::integer_bits;
 use run_values::Want;
 use run_world::Here;
-use sc_gather::{is_integer, is_pointer};
+use sc_gather::is_pointer;
 use sc_tree::ctype::CType;
 use sc_world::Reason;
 
 // The width of a pointer's cell.
 const POINTER: u32 = 255;
 
-fn is_scalar(t: &CType) -> bool
-    ensures { result ≡ fits.is_scalar (type t.now) }
-{
-    is_integer(t) || is_pointer(t)
-}
-
 // Whether the cell at a place is wanted; else the place itself is.
 fn reads_cell(want: Want, t: &CType) -> bool
     ensures { result ≡ reads_cell (want_of want) (type t.now) }
 {
     match want {
-        Want::Value => is_scalar(t),
+        Want::Value => is_cell(t),
         Want::Place => false,
     }
 }

@@ -26,6 +26,12 @@ use Rattle.tr_expr.specs.Plain.{AreAlike, Integers, PointersBoth, BinaryFits, Co
 use Rattle.tr_expr.specs.Evals.{IsConverted, IsOfUnary, Operates, env_of, is_sign, of_unary}
 use Rattle.tr_expr.proofs.TypeKinds.{integer_kind, pointer_kind, bool_kind, numbers_integer, numbers_width, pointers_pointer, converts_some, to_pointer, stays_pointer, bits_some, bits_few}
 
+-- a number has a bit at least
+pub word_some : (s : Source) (t : Ty) (w : Words) → val_kind (Word w) ≡ kind_of_type s (Some t) → 0 < length w.bits.items
+word_some s t w kind =
+    let wide : int_bits s.widths t ≡ length w.bits.items = numbers_width s t (length w.bits.items) (sym kind) in
+    subst (λ k. 0 < k) wide (bits_some s.widths t (numbers_integer s t (length w.bits.items) (sym kind)))
+
 -- Conversions.
 
 to_bool : (s : Source) (v : ℕ → Bool) (from to : Ty) (x r : Val) (p : Layout) (bits : List Bool) (temps : List Cell) (turn : ℕ) (c : Cell) → is_bool to ≡ true
@@ -190,9 +196,9 @@ operands_are s o u w t (Word a) (Word b) fits left right =
     let wide : int_bits s.widths u ≡ length a.bits.items = numbers_width s u (length a.bits.items) (sym left) in
     let other : int_bits s.widths w ≡ length b.bits.items = numbers_width s w (length b.bits.items) (sym right) in
     record {
-      some = subst (λ k. 0 < k) wide (bits_some s.widths u (numbers_integer s u (length a.bits.items) (sym left)));
+      some = word_some s u a left;
       small = subst (λ k. k ≤ 64) wide (bits_few s.widths u);
-      counts = subst (λ k. 0 < k) other (bits_some s.widths w (numbers_integer s w (length b.bits.items) (sym right)));
+      counts = word_some s w b right;
       count = subst (λ k. k ≤ 64) other (bits_few s.widths w);
       same = λ plain. sym wide ∙ fits.same plain ∙ other;
       keeps = λ plain. fits.keeps plain ∙ wide;
