@@ -72,7 +72,8 @@ pub fn combined(
     ensures grown { Grown net.old net.new }
     ensures ready { IfOk result (λ r. AreEnds net.new ends.new) }
     ensures locations { length ends.new.bads.items ≡ length ends.old.bads.items }
-    ensures ok { IfOk result (λ r. Combines (seen.env here.now).source net.new op (type works.now) (type t.now) x.now y.now ends.old ends.new r) }
+    ensures ok { IfOk result (λ r. Combines (seen.env here.now).source
+        net.new op (type works.now) (type t.now) x.now y.now ends.old ends.new r) }
 {
     let left = converted(here, net, t, works, x)?;
     let made = operation(here, net, ends, op, works, u, works, &left, y)?;

@@ -99,7 +99,8 @@ fn is_indexed(net: &mut Net, array: &Set, index: &Word, element: Entry) -> Resul
     requires array { guards_top array.now.pairs.items ≤ length net.old }
     requires index { top index.now.bits.items ≤ length net.old }
     ensures grown { Grown net.old net.new }
-    ensures ok { IfOk result (λ r. Gives net.new r.at (λ choice v. guard v array.now.pairs.items (element.array + 1) && nat_eq (number v index.now.bits.items) element.number)) }
+    ensures ok { IfOk result (λ r. Gives net.new r.at
+        (λ choice v. guard v array.now.pairs.items (element.array + 1) && nat_eq (number v index.now.bits.items) element.number)) }
 {
     let same = is_index(net, index, element.number)?;
     let there = points(net, array, element.array + 1);
@@ -121,7 +122,8 @@ fn leads_here(
     requires array { guards_top array.now.pairs.items ≤ length net.old }
     requires index { top index.now.bits.items ≤ length net.old }
     ensures grown { Grown net.old net.new }
-    ensures ok { IfOk result (λ r. LeadsHere net.new (laid.layout_of layout.now.places.now) array.now.pairs.items index.now.bits.items at r.at) }
+    ensures ok { IfOk result (λ r. LeadsHere net.new
+        (laid.layout_of layout.now.places.now) array.now.pairs.items index.now.bits.items at r.at) }
 {
     match element_origin(layout.places, at) {
         None => Ok(net.constant(false)),
@@ -167,7 +169,8 @@ fn add_element(
     requires index { top index.now.bits.items ≤ length net.old }
     requires elements { HasElements net.old (laid.layout_of layout.now.places.now) array.now.pairs.items index.now.bits.items at pairs.old.items found.at }
     ensures grown { Grown net.old net.new }
-    ensures ok { IfOk result (λ r. HasElements net.new (laid.layout_of layout.now.places.now) array.now.pairs.items index.now.bits.items (at + 1) pairs.new.items r.at) }
+    ensures ok { IfOk result (λ r. HasElements net.new
+        (laid.layout_of layout.now.places.now) array.now.pairs.items index.now.bits.items (at + 1) pairs.new.items r.at) }
 {
     let guard = leads_here(layout, net, array, index, at)?;
     let target = at + 1;
@@ -189,7 +192,8 @@ pub fn element(
     requires array { guards_top array.now.pairs.items ≤ length net.old }
     requires index { top index.now.bits.items ≤ length net.old }
     ensures grown { Grown net.old net.new }
-    ensures ok { IfOk result (λ r. IsElement net.new (laid.layout_of layout.now.places.now) array.now.pairs.items index.now.bits.items r.pointer.pairs.items r.missing.at) }
+    ensures ok { IfOk result (λ r. IsElement net.new
+        (laid.layout_of layout.now.places.now) array.now.pairs.items index.now.bits.items r.pointer.pairs.items r.missing.at) }
 {
     let mut pairs = SmallVec::new(net.alloc());
     let mut found = net.constant(false);
@@ -235,7 +239,8 @@ pub fn array_index(
     ensures grown { Grown net.old net.new }
     ensures ready { IfOk result (λ r. AreEnds net.new ends.new) }
     ensures locations { length ends.new.bads.items ≡ length ends.old.bads.items }
-    ensures ok { IfOk result (λ r. DoesElement (seen.env here.now).source (seen.env here.now).layout net.new store.now.locations.items (want_of want) (type t.now) array.now index.now ends.old ends.new r) }
+    ensures ok { IfOk result (λ r. DoesElement (seen.env here.now).source (seen.env here.now).layout
+        net.new store.now.locations.items (want_of want) (type t.now) array.now index.now ends.old ends.new r) }
 {
     let made = element(layout, net, array, index)?;
     ends.end_where(net, made.missing, Reason::Index)?;

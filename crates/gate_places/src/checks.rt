@@ -82,7 +82,8 @@ fn location_fails(
     at: u32,
 ) -> Gate
     requires store { locations_top store.now.locations.items ≤ length net.now }
-    ensures { IsTest net.now store.now.locations.items (λ ps. fails_at check (laid.layout_of places.now) (type t.now) ps at) result.at }
+    ensures { IsTest net.now store.now.locations.items
+        (λ ps. fails_at check (laid.layout_of places.now) (type t.now) ps at) result.at }
 {
     match check {
         Check::Null => net.constant(false),
@@ -102,7 +103,8 @@ fn target_fails(
     target: u32,
 ) -> Gate
     requires store { locations_top store.now.locations.items ≤ length net.now }
-    ensures { IsTest net.now store.now.locations.items (λ ps. fails check (laid.layout_of places.now) (type t.now) ps target) result.at }
+    ensures { IsTest net.now store.now.locations.items
+        (λ ps. fails check (laid.layout_of places.now) (type t.now) ps target) result.at }
 {
     if target == 0 {
         net.constant(is_null_check(check))
@@ -121,7 +123,8 @@ fn tests_of(
     pairs: &[Pair],
 ) -> Result<Vec<Gate>, OutOfMemory>
     requires store { locations_top store.now.locations.items ≤ length net.now }
-    ensures { IfOk result (λ r. HaveTests net.now store.now.locations.items (λ ps target. fails check (laid.layout_of places.now) (type t.now) ps target) pairs.now r.items) }
+    ensures { IfOk result (λ r. HaveTests net.now store.now.locations.items
+        (λ ps target. fails check (laid.layout_of places.now) (type t.now) ps target) pairs.now r.items) }
 {
     let mut tests = Vec::new(net.alloc());
     for pair in pairs {
@@ -147,7 +150,8 @@ pub fn check_target(
     ensures grown { Grown net.old net.new }
     ensures ready { OnOk result (AreEnds net.new ends.new) }
     ensures locations { length ends.new.bads.items ≡ length ends.old.bads.items }
-    ensures ok { OnOk result (DoesCheck net.new (laid.layout_of places.now) (type t.now) store.now.locations.items check pointer.now.pairs.items ends.old ends.new) }
+    ensures ok { OnOk result (DoesCheck net.new (laid.layout_of places.now) (type t.now)
+        store.now.locations.items check pointer.now.pairs.items ends.old ends.new) }
 {
     let tests = tests_of(places, net, store, check, t, pointer.pairs.as_slice())?;
     let when = where_target(net, pointer, tests.as_slice())?;

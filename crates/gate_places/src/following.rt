@@ -33,7 +33,8 @@ pub fn dereference(
     ensures grown { Grown net.old net.new }
     ensures ready { OnOk result (AreEnds net.new ends.new) }
     ensures locations { length ends.new.bads.items ≡ length ends.old.bads.items }
-    ensures ok { OnOk result (DoesFollow net.new (laid.layout_of places.now) (type t.now) store.now.locations.items pointer.now.pairs.items ends.old ends.new) }
+    ensures ok { OnOk result (DoesFollow net.new (laid.layout_of places.now) (type t.now)
+        store.now.locations.items pointer.now.pairs.items ends.old ends.new) }
 {
     check_target(places, net, store, ends, Check::Null, t, pointer)?;
     check_target(places, net, store, ends, Check::Reach, t, pointer)?;

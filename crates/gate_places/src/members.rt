@@ -71,7 +71,8 @@ fn targets(
     pairs: &[Pair],
 ) -> Result<Vec<u32>, OutOfMemory>
     requires few { length (laid.layout_of layout.now.places.now).locations < 2 ^ 32 }
-    ensures { IfOk result (λ r. map (λ t. part_target (laid.layout_of layout.now.places.now) way t) (targets_of pairs.now) ≡ r.items) }
+    ensures { IfOk result (λ r. map (λ t. part_target (laid.layout_of layout.now.places.now) way t)
+        (targets_of pairs.now) ≡ r.items) }
 {
     let mut made = Vec::new(alloc);
     for pair in pairs {
@@ -95,11 +96,7 @@ pub fn part(layout: &Lookup, net: &mut Net, way: Way, pointer: &Set) -> Result<S
 
 /// The pointer to the first element of an array (C11 6.3.2.1); to the array itself where it has no element.
 #[tactic(auto, using(crate::proofs::Membering::is_first))]
-pub fn first_element(
-    layout: &Lookup,
-    net: &mut Net,
-    array: &Set,
-) -> Result<Set, OutOfMemory>
+pub fn first_element(layout: &Lookup, net: &mut Net, array: &Set) -> Result<Set, OutOfMemory>
     requires few { length (laid.layout_of layout.now.places.now).locations < 2 ^ 32 }
     requires array { guards_top array.now.pairs.items ≤ length net.old }
     ensures grown { Grown net.old net.new }
@@ -128,7 +125,8 @@ pub fn member_of(
     requires store { locations_top store.now.locations.items ≤ length net.old }
     requires object { guards_top object.now.pairs.items ≤ length net.old }
     ensures grown { Grown net.old net.new }
-    ensures ok { IfOk result (λ r. DoesMember (seen.env here.now).source (seen.env here.now).layout net.new store.now.locations.items ends.now (want_of want) (type t.now) name object.now r) }
+    ensures ok { IfOk result (λ r. DoesMember (seen.env here.now).source (seen.env here.now).layout
+        net.new store.now.locations.items ends.now (want_of want) (type t.now) name object.now r) }
 {
     let made = part(layout, net, Way::Member(name), object)?;
     let val = wanted(here, net, store, want, t, &made)?;
@@ -151,7 +149,8 @@ fn pointed(
     ensures grown { Grown net.old net.new }
     ensures ready { IfOk result (λ r. AreEnds net.new ends.new) }
     ensures locations { length ends.new.bads.items ≡ length ends.old.bads.items }
-    ensures ok { IfOk result (λ r. DoesFollow net.new (seen.env here.now).layout (target_or_void (type pointer_type.now)) store.now.locations.items pointer.now.pairs.items ends.old ends.new) }
+    ensures ok { IfOk result (λ r. DoesFollow net.new (seen.env here.now).layout
+        (target_or_void (type pointer_type.now)) store.now.locations.items pointer.now.pairs.items ends.old ends.new) }
 {
     match pointer_type {
         CType::Ptr(target) => dereference(here.places, net, store, ends, target.get(), pointer),
@@ -192,7 +191,8 @@ pub fn member_behind(
     ensures grown { Grown net.old net.new }
     ensures ready { IfOk result (λ r. AreEnds net.new ends.new) }
     ensures locations { length ends.new.bads.items ≡ length ends.old.bads.items }
-    ensures ok { IfOk result (λ r. DoesMemberBehind (seen.env here.now).source (seen.env here.now).layout net.new store.now.locations.items (want_of want) (type pointer_type.now) (type t.now) name pointer.now.pairs.items ends.old ends.new r) }
+    ensures ok { IfOk result (λ r. DoesMemberBehind (seen.env here.now).source (seen.env here.now).layout
+        net.new store.now.locations.items (want_of want) (type pointer_type.now) (type t.now) name pointer.now.pairs.items ends.old ends.new r) }
 {
     pointed(here, net, store, ends, pointer_type, pointer)?;
     let made = part(layout, net, Way::Member(name), pointer)?;

@@ -71,7 +71,8 @@ fn cell_at(
     requires store { locations_top store.now.locations.items ≤ length net.old }
     requires pointer { guards_top pointer.now.pairs.items ≤ length net.old }
     ensures grown { Grown net.old net.new }
-    ensures ok { IfOk result (λ r. DoesFind (seen.env here.now).source (seen.env here.now).layout net.new store.now.locations.items (want_of want) (type t.now) pointer.now.pairs.items r) }
+    ensures ok { IfOk result (λ r. DoesFind (seen.env here.now).source (seen.env here.now).layout
+        net.new store.now.locations.items (want_of want) (type t.now) pointer.now.pairs.items r) }
 {
     let width = cell_width(here, t);
     let val = load(net, store, pointer, width)?;
@@ -90,7 +91,8 @@ fn place_at(
 ) -> Result<Val, OutOfMemory>
     requires reads { reads_cell (want_of want) (type t.now) ≡ false }
     requires pointer { guards_top pointer.now.pairs.items ≤ length net.now }
-    ensures { IfOk result (λ r. DoesFind (seen.env here.now).source (seen.env here.now).layout net.now store.now.locations.items (want_of want) (type t.now) pointer.now.pairs.items r) }
+    ensures { IfOk result (λ r. DoesFind (seen.env here.now).source (seen.env here.now).layout
+        net.now store.now.locations.items (want_of want) (type t.now) pointer.now.pairs.items r) }
 {
     let place = pointer.try_clone(net)?;
     Ok(Val::Set(place))
@@ -110,7 +112,8 @@ pub fn wanted(
     requires store { locations_top store.now.locations.items ≤ length net.old }
     requires pointer { guards_top pointer.now.pairs.items ≤ length net.old }
     ensures grown { Grown net.old net.new }
-    ensures ok { IfOk result (λ r. DoesFind (seen.env here.now).source (seen.env here.now).layout net.new store.now.locations.items (want_of want) (type t.now) pointer.now.pairs.items r) }
+    ensures ok { IfOk result (λ r. DoesFind (seen.env here.now).source (seen.env here.now).layout
+        net.new store.now.locations.items (want_of want) (type t.now) pointer.now.pairs.items r) }
 {
     if reads_cell(want, t) {
         cell_at(here, net, store, want, t, pointer)
@@ -137,7 +140,8 @@ pub fn indirection(
     ensures grown { Grown net.old net.new }
     ensures ready { IfOk result (λ r. AreEnds net.new ends.new) }
     ensures locations { length ends.new.bads.items ≡ length ends.old.bads.items }
-    ensures ok { IfOk result (λ r. DoesIndirect (seen.env here.now).source (seen.env here.now).layout net.new store.now.locations.items (want_of want) (type t.now) pointer.now.pairs.items ends.old ends.new r) }
+    ensures ok { IfOk result (λ r. DoesIndirect (seen.env here.now).source (seen.env here.now).layout
+        net.new store.now.locations.items (want_of want) (type t.now) pointer.now.pairs.items ends.old ends.new r) }
 {
     dereference(here.places, net, store, ends, t, pointer)?;
     let val = wanted(here, net, store, want, t, pointer)?;
@@ -164,7 +168,8 @@ pub fn pointer_index(
     ensures grown { Grown net.old net.new }
     ensures ready { IfOk result (λ r. AreEnds net.new ends.new) }
     ensures locations { length ends.new.bads.items ≡ length ends.old.bads.items }
-    ensures ok { IfOk result (λ r. DoesIndex (seen.env here.now).source (seen.env here.now).layout net.new store.now.locations.items (want_of want) (type t.now) pointer.now.pairs.items index.now ends.old ends.new r) }
+    ensures ok { IfOk result (λ r. DoesIndex (seen.env here.now).source (seen.env here.now).layout
+        net.new store.now.locations.items (want_of want) (type t.now) pointer.now.pairs.items index.now ends.old ends.new r) }
 {
     dereference(here.places, net, store, ends, t, pointer)?;
     let zero = is_zero(net, index)?;
@@ -191,7 +196,8 @@ pub fn assign(
     requires place { guards_top place.now.pairs.items ≤ length net.old }
     requires val { val_top val.now ≤ length net.old }
     ensures grown { Grown net.old net.new }
-    ensures ok { IfOk result (λ r. DoesAssign (seen.env here.now).source (seen.env here.now).layout net.new ends.now (want_of want) (type t.now) place.now val.now stored.old.locations.items stored.new.locations.items r) }
+    ensures ok { IfOk result (λ r. DoesAssign (seen.env here.now).source (seen.env here.now).layout
+        net.new ends.now (want_of want) (type t.now) place.now val.now stored.old.locations.items stored.new.locations.items r) }
 {
     store(net, stored, ends, place, val)?;
     let made = wanted(here, net, stored, want, t, place)?;

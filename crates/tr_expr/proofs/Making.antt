@@ -190,6 +190,9 @@ signed_none s ns o from t fits kind = let no : NoCell ≡ Numbers (int_bits s.wi
 
 -- Operators on two values.
 
+pub gives_some : (s : Source) (o : BinaryOp) (u w t : Ty) → BinaryFits s o u w t → 0 < int_bits s.widths t
+gives_some s o u w t fits = bits_some s.widths t fits.gives
+
 pub operands_are : (s : Source) (o : BinaryOp) (u w t : Ty) (x y : Val) → BinaryFits s o u w t → val_kind x ≡ kind_of_type s (Some u)
     → val_kind y ≡ kind_of_type s (Some w) → AreOperands o (int_bits s.widths t) x y
 operands_are s o u w t (Word a) (Word b) fits left right =

@@ -73,7 +73,7 @@ pub fn converted(
 }
 
 // A number of one type in another type, which is not `_Bool`; a number that becomes a pointer is null.
-#[tactic(auto, using(crate::proofs::Making::converted_number, crate::proofs::Making::converted_null))]
+#[tactic(auto, using(crate::proofs::Making::word_some, crate::proofs::Making::converted_number, crate::proofs::Making::converted_null))]
 fn number_to(
     here: &Here,
     net: &mut Net,
@@ -118,7 +118,7 @@ fn pointer_as(
 }
 
 // `!` of a value.
-#[tactic(auto, using(crate::proofs::Making::not_value))]
+#[tactic(auto, using(crate::proofs::TypeKinds::bits_some, crate::proofs::Making::not_value))]
 fn negated(here: &Here, net: &mut Net, t: &CType, x: &Val) -> Result<Val, OutOfMemory>
     requires t { tree.is_integer (type t.now) ≡ true }
     requires x { val_top x.now ≤ length net.old }
@@ -132,7 +132,7 @@ fn negated(here: &Here, net: &mut Net, t: &CType, x: &Val) -> Result<Val, OutOfM
 }
 
 // `+`, `-` or `~` of a value.
-#[tactic(auto, using(crate::proofs::Making::signed_value, crate::proofs::Making::signed_set, crate::proofs::Making::signed_none))]
+#[tactic(auto, using(crate::proofs::Making::word_some, crate::proofs::Making::signed_value, crate::proofs::Making::signed_set, crate::proofs::Making::signed_none))]
 fn signed(
     here: &Here,
     net: &mut Net,
@@ -183,7 +183,7 @@ pub fn unary(
 }
 
 /// An operator on two values (C11 6.5.5 to 6.5.14); what it does not take sets the run aside.
-#[tactic(auto, using(crate::proofs::Making::operands_are, crate::proofs::Making::operation_does))]
+#[tactic(auto, using(crate::proofs::Making::gives_some, crate::proofs::Making::operands_are, crate::proofs::Making::operation_does))]
 pub fn operation(
     here: &Here,
     net: &mut Net,
@@ -204,7 +204,8 @@ pub fn operation(
     ensures grown { Grown net.old net.new }
     ensures ready { IfOk result (λ r. AreEnds net.new ends.new) }
     ensures locations { length ends.new.bads.items ≡ length ends.old.bads.items }
-    ensures ok { IfOk result (λ r. Operates (seen.env here.now).source net.new op (type left.now) (type t.now) x.now y.now ends.old ends.new r) }
+    ensures ok { IfOk result (λ r. Operates (seen.env here.now).source
+        net.new op (type left.now) (type t.now) x.now y.now ends.old ends.new r) }
 {
     let bits = integer_bits(here, t);
     let sign = has_sign(left);
