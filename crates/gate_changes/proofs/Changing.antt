@@ -18,7 +18,8 @@ use Rattle.sc_world.specs.World.{done}
 use Rattle.sc_world.specs.Eval.{convert, operated, one_step, is_logical}
 use Rattle.gate_values.specs.Values.{IsNumber}
 use Rattle.tr_expr.specs.Plain.{Integers, BinaryFits, ConvertFits}
-use Rattle.tr_expr.specs.Evals.{IsConverted, Operates, env_of}
+use Rattle.gate_places.specs.Places.{env_of}
+use Rattle.tr_expr.specs.Evals.{IsConverted, Operates}
 use Rattle.gate_changes.specs.Changes.{CombineFits, Combines, Counts}
 use Rattle.tr_expr.proofs.TypeKinds.{bits_some}
 

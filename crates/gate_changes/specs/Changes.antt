@@ -16,7 +16,7 @@ use Rattle.sc_world.specs.Layout.{Layout}
 use Rattle.sc_world.specs.World.{kind_of_type}
 use Rattle.sc_world.specs.Eval as eval
 use Rattle.tr_expr.specs.Plain.{BinaryFits, ConvertFits}
-use Rattle.tr_expr.specs.Evals.{env_of}
+use Rattle.gate_places.specs.Places.{env_of}
 
 -- `+=` and its kin: the value on the left is converted to the type in which the operator works, and the result back
 pub record CombineFits (s : Source) (o : BinaryOp) (works t right : Ty) : Type 0 where

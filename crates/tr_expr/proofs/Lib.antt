@@ -1,2 +1,3 @@
 pub mod TypeKinds
 mod Making
+mod Naming

@@ -20,10 +20,11 @@ use Rattle.sc_world.specs.Source.{Source}
 use Rattle.sc_world.specs.Layout.{Layout}
 use Rattle.sc_world.specs.World.{kind_of_type, is_true, null}
 use Rattle.sc_world.specs.Eval.{convert, signed_as, truth_cell}
+use Rattle.gate_places.specs.Places.{env_of}
 use Rattle.gate_values.specs.Values.{IsTruth, IsTruthOf, IsResized, IsOfOne, IsPointer}
 use Rattle.gate_values.specs.Operated.{AreOperands, AreWords, DoesOperate, HasTypes, are_alike}
 use Rattle.tr_expr.specs.Plain.{AreAlike, Integers, PointersBoth, BinaryFits, ConvertFits, SignFits, converts}
-use Rattle.tr_expr.specs.Evals.{IsConverted, IsOfUnary, Operates, env_of, is_sign, of_unary}
+use Rattle.tr_expr.specs.Evals.{IsConverted, IsOfUnary, Operates, is_sign, of_unary}
 use Rattle.tr_expr.proofs.TypeKinds.{integer_kind, pointer_kind, bool_kind, numbers_integer, numbers_width, pointers_pointer, converts_some, to_pointer, stays_pointer, bits_some, bits_few}
 
 -- a number has a bit at least

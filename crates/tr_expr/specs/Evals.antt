@@ -16,10 +16,7 @@ use Rattle.sc_world.specs.Source.{Source}
 use Rattle.sc_world.specs.Layout.{Layout}
 use Rattle.sc_world.specs.World.{Env, kind_of_type, is_true}
 use Rattle.sc_world.specs.Eval as eval
-
--- what a run reads
-abbrev pub env_of : Source → Layout → (choice : List Bool) → (temps : List Cell) → (turn : ℕ) → Env
-env_of s p choice temps turn = record { source = s; layout = p; choice = choice; temps = temps; turn = turn }
+use Rattle.gate_places.specs.Places.{env_of}
 
 -- the value of a conversion
 pub record IsConverted (s : Source) (ns : List Node) (from to : Ty) (x r : Val) : Type 0 where

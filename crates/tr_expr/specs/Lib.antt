@@ -1,2 +1,3 @@
 pub mod Evals
+pub mod Names
 pub mod Plain

@@ -1,18 +1,16 @@
 //! What expressions do once the expressions in them have their values.
 
-ghost use Rattle.std.specs.Prelude.{◌≡◌, ℕ, ◌<◌, ◌≤◌, ◌^◌, true, false, Some, length, IfOk};
+ghost use Rattle.std.specs.Prelude.{◌≡◌, ℕ, ◌≤◌, true, false, Some, length, IfOk};
 ghost use Rattle.bit_net.specs.Runs.{Grown};
 ghost use Rattle.bit_words.specs.Number.{top};
 ghost use Rattle.gl_sets.specs.Guards.{guards_top};
 ghost use Rattle.gl_store.specs.declared.values.Val.TheVariants.{Word as word, Set as set};
-ghost use Rattle.gl_store.specs.Meets.{val_kind, val_top, locations_top};
+ghost use Rattle.gl_store.specs.Meets.{val_kind, val_top};
 ghost use Rattle.gate_runs.specs.Stands.{AreEnds};
 ghost use Rattle.sc_world.specs.Tree as tree;
-ghost use Rattle.sc_world.specs.Layout.{location_of};
 ghost use Rattle.sc_world.specs.View.{type};
 ghost use Rattle.sc_world.specs.World.{kind_of_type};
 ghost use Rattle.run_world.specs.Seen as seen;
-ghost use Rattle.gate_steps.specs.Steps.{DoesRead};
 ghost use Rattle.tr_expr.specs.Plain.{BinaryFits, ConvertFits, SignFits, UnaryFits};
 ghost use Rattle.tr_expr.specs.Evals.{IsConverted, IsOfUnary, Operates, is_sign};
 ghost use Rattle.sc_tree.specs.declared.op.UnaryOp.TheVariants as sign;
@@ -21,28 +19,15 @@ use crate::types::is_bool;
 use bit_net::{Net, OutOfMemory};
 use bit_words::Word;
 use gate_runs::Ends;
-use gate_steps::read;
 use gate_values::{null, of_truth, operated, resized, signed_as, truth};
 use gl_sets::Set;
-use gl_store::{Store, Val};
+use gl_store::Val;
 use run_entry::integer_bits;
-use run_values::{has_sign, location_of};
+use run_values::has_sign;
 use run_world::Here;
 use sc_gather::is_integer;
 use sc_tree::ctype::CType;
 use sc_tree::op::{BinaryOp, UnaryOp};
-use sc_world::Origin;
-
-/// What a parameter, a local or a global has.
-pub fn named(here: &Here, net: &Net, store: &Store, origin: Origin) -> Result<Val, OutOfMemory>
-    requires few { length here.now.places.now.locations.items < 2 ^ 32 }
-    requires store { locations_top store.now.locations.items ≤ length net.now }
-    ensures { IfOk result (λ r. DoesRead net.now store.now.locations.items (location_of (seen.env here.now).layout origin) r) }
-{
-    let at = location_of(here, origin);
-    let val = read(net, store, at)?;
-    Ok(val)
-}
 
 /// A value of one type in another type (C11 6.3).
 #[tactic(auto, using(crate::proofs::Making::converted_bool, crate::proofs::Making::converted_none))]
