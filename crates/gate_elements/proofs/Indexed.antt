@@ -141,13 +141,15 @@ indexed s p n1 n2 n3 l want t array index made missing g0 g1 r grown12 grown23 i
 indexed s p n1 n2 n3 l want t array index made missing g0 g1 r grown12 grown23 is ended finds choice v runs u fits bits temps turn (Number w m) k good meets = absurd good.0
 indexed s p n1 n2 n3 l want t array index made missing g0 g1 r grown12 grown23 is ended finds choice v runs u fits bits temps turn Nothing k good meets = absurd good.0
 
-pub does_element : (s : Source) (p : Layout) (n1 n2 n3 : List Node) (l : List Location) (want : Want) (t : Ty) (array : Sets) (index : Words) (made : List Pair)
-    (missing : ℕ) (g0 g1 : Ends) (r : Val) → Grown n1 n2 → Grown n2 n3 → IsElement n1 p array.pairs.items index.bits.items made missing
+-- q is the layout as the look-ups have it
+pub does_element : (s : Source) (q p : Layout) (n1 n2 n3 : List Node) (l : List Location) (want : Want) (t : Ty) (array : Sets) (index : Words) (made : List Pair)
+    (missing : ℕ) (g0 g1 : Ends) (r : Val) → q ≡ p → Grown n1 n2 → Grown n2 n3 → IsElement n1 q array.pairs.items index.bits.items made missing
     → IsEndedWhere n2 missing reason.Index g0 g1 → DoesFind s p n3 l want t made r → DoesElement s p n3 l want t array index g0 g1 r
-does_element s p n1 n2 n3 l want t array index made missing g0 g1 r grown12 grown23 is ended finds =
+does_element s q p n1 n2 n3 l want t array index made missing g0 g1 r same grown12 grown23 is ended finds =
+    let here = subst (λ x. IsElement n1 x array.pairs.items index.bits.items made missing) same is in
     record {
       below = finds.below;
       kind = finds.kind;
-      does = λ choice v runs u fits bits temps turn q k good meets.
-          indexed s p n1 n2 n3 l want t array index made missing g0 g1 r grown12 grown23 is ended finds choice v runs u fits bits temps turn q k good meets;
+      does = λ choice v runs u fits bits temps turn c k good meets.
+          indexed s p n1 n2 n3 l want t array index made missing g0 g1 r grown12 grown23 here ended finds choice v runs u fits bits temps turn c k good meets;
     }

@@ -127,14 +127,16 @@ member_of_does s p n1 ns l g want t n object made r grown is found choice v runs
 member_of_does s p n1 ns l g want t n object made r grown is found choice v runs u fits bits temps turn (Number w k) good = absurd good.0
 member_of_does s p n1 ns l g want t n object made r grown is found choice v runs u fits bits temps turn Nothing good = absurd good.0
 
-pub does_member : (s : Source) (p : Layout) (n1 ns : List Node) (l : List Location) (g : Ends) (want : Want) (t : Ty) (n : NameId) (object : Sets) (made : List Pair)
-    (r : Val) → Grown n1 ns → IsPart n1 p (way.Member n) object.pairs.items made → DoesFind s p ns l want t made r → DoesMember s p ns l g want t n object r
-does_member s p n1 ns l g want t n object made r grown is found =
+-- q is the layout as the look-ups have it
+pub does_member : (s : Source) (q p : Layout) (n1 ns : List Node) (l : List Location) (g : Ends) (want : Want) (t : Ty) (n : NameId) (object : Sets) (made : List Pair)
+    (r : Val) → q ≡ p → Grown n1 ns → IsPart n1 q (way.Member n) object.pairs.items made → DoesFind s p ns l want t made r → DoesMember s p ns l g want t n object r
+does_member s q p n1 ns l g want t n object made r same grown is found =
+    let here = subst (λ k. IsPart n1 k (way.Member n) object.pairs.items made) same is in
     record {
       below = found.below;
       kind = found.kind;
-      does = λ choice v runs u fits bits temps turn q good.
-          member_of_does s p n1 ns l g want t n object made r grown is found choice v runs u fits bits temps turn q good;
+      does = λ choice v runs u fits bits temps turn c good.
+          member_of_does s p n1 ns l g want t n object made r grown here found choice v runs u fits bits temps turn c good;
     }
 
 member_leads : (v : ℕ → Bool) (g : Ends) (p : Layout) (n : NameId) (pointer made : List Pair) (at : ℕ) → LeadsTo v g pointer at
@@ -151,10 +153,11 @@ member_leads v g p n pointer made at leads points =
     minus_one : (target at : ℕ) → target ≡ suc at → target - 1 ≡ at
     minus_one target at e = omega (arith, e)
 
-pub does_member_behind : (s : Source) (p : Layout) (n1 n2 n3 : List Node) (l : List Location) (want : Want) (u t : Ty) (n : NameId) (pointer made : List Pair)
-    (old new : Ends) (r : Val) → Grown n1 n2 → Grown n2 n3 → DoesFollow n1 p (target_or_void u) l pointer old new → IsPart n2 p (way.Member n) pointer made
+pub does_member_behind : (s : Source) (q p : Layout) (n1 n2 n3 : List Node) (l : List Location) (want : Want) (u t : Ty) (n : NameId) (pointer made : List Pair)
+    (old new : Ends) (r : Val) → q ≡ p → Grown n1 n2 → Grown n2 n3 → DoesFollow n1 p (target_or_void u) l pointer old new → IsPart n2 q (way.Member n) pointer made
     → DoesFind s p n3 l want t made r → DoesMemberBehind s p n3 l want u t n pointer old new r
-does_member_behind s p n1 n2 n3 l want u t n pointer made old new r grown12 grown23 follows is found =
+does_member_behind s q p n1 n2 n3 l want u t n pointer made old new r same grown12 grown23 follows is found =
+    let here = subst (λ k. IsPart n2 k (way.Member n) pointer made) same is in
     record {
       below = found.below;
       kind = found.kind;
@@ -166,6 +169,6 @@ does_member_behind s p n1 n2 n3 l want u t n pointer made old new r grown12 grow
           (follows.does choice v (grown12.runs choice v r2) s bits temps turn target points)
           (λ at reached.
           member_does s p n3 l new want t n made r found choice v runs bits temps turn at
-          (member_leads v new p n pointer made at reached.leads (λ k h. is.points choice v r2 k h))
+          (member_leads v new p n pointer made at reached.leads (λ k h. here.points choice v r2 k h))
           (λ on. member_stands p (target_or_void u) t n at fits (inl (reached.typed on))));
     }

@@ -39,14 +39,16 @@ is_named ns p o place target e good points =
 leads : (v : ℕ → Bool) (g : Ends) (place : List Pair) (at : ℕ) → Points v place (at + 1) → LeadsTo v g place at
 leads v g place at points = record { target = at + 1; points = points; there = λ on. omega arith }
 
-pub does_name : (s : Source) (p : Layout) (n1 n2 : List Node) (l : List Location) (want : Want) (t : Ty) (o : Origin) (place : List Pair) (r : Val)
-    → Grown n1 n2 → IsNamed n1 p o place → DoesFind s p n2 l want t place r → DoesName s p n2 l want t o r
-does_name s p n1 n2 l want t o place r grown named found =
+-- q is the layout as the look-ups have it
+pub does_name : (s : Source) (q p : Layout) (n1 n2 : List Node) (l : List Location) (want : Want) (t : Ty) (o : Origin) (place : List Pair) (r : Val)
+    → q ≡ p → Grown n1 n2 → IsNamed n1 q o place → DoesFind s p n2 l want t place r → DoesName s p n2 l want t o r
+does_name s q p n1 n2 l want t o place r same grown named found =
+    let here = subst (λ k. IsNamed n1 k o place) same named in
     record {
       below = found.below;
       kind = found.kind;
       does = λ choice v runs there g.
-          found.does choice v runs g (location_of p o) (leads v g place (location_of p o) (named.points choice v (grown.runs choice v runs)))
+          found.does choice v runs g (location_of p o) (leads v g place (location_of p o) (here.points choice v (grown.runs choice v runs)))
           (λ on. inl there.1);
     }
 
