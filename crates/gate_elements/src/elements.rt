@@ -109,6 +109,7 @@ fn is_indexed(net: &mut Net, array: &Set, index: &Word, element: Entry) -> Resul
 }
 
 // Holds where the array and the index lead to that location.
+#[tactic(auto, using(crate::proofs::Leading::not_first))]
 fn leads_here(
     layout: &Lookup,
     net: &mut Net,
