@@ -1,25 +1,25 @@
 -- A value is stored at a place. And gates that tell where a run goes on hold for fewer choices behind a step.
-use Rattle.std.proofs.Common.{◌≡◌, ℕ, ◌≤◌, Bool, true, false, List, Result, Ok, Err, length, ◌∙◌, ap, arith}
+use Rattle.std.proofs.Common.{◌≡◌, ℕ, Bool, true, false, List, Result, Ok, Err, ◌∙◌, ap, arith}
 use Rattle.std.specs.Prelude.{slice_index_or}
 use Rattle.bit_net.specs.declared.nodes.Node.{Node}
-use Rattle.bit_net.specs.Runs.{Runs, Grown}
+use Rattle.bit_net.specs.Runs.{Grown}
 use Rattle.gl_sets.specs.declared.sets.Set.{Set as Sets}
 use Rattle.gl_store.specs.declared.values.Val.{Val}
 use Rattle.gl_store.specs.declared.values.Val.TheVariants.{Set}
 use Rattle.gl_store.specs.declared.stores.Location.{Location}
-use Rattle.gl_store.specs.Meets.{Meets, kinds, locations_top}
+use Rattle.gl_store.specs.Meets.{kinds}
 use Rattle.run_store.specs.Concrete.{Cell, Number, Pointer, Nothing, NoCell}
 use Rattle.sc_world.specs.Tree.{Ty}
 use Rattle.sc_world.specs.Source.{Source}
 use Rattle.sc_world.specs.Layout.{Layout}
-use Rattle.sc_world.specs.World.{World, Ended, Run, ◌>>=◌, store, target_of}
-use Rattle.sc_world.specs.Eval.{Want, Place', place_of, wanted, assign_value}
+use Rattle.sc_world.specs.World.{World, Ended, Run, store, target_of}
+use Rattle.sc_world.specs.Eval.{Want, Place', place_of, wanted}
 use Rattle.gate_runs.specs.declared.ends.Ends.{Ends}
 use Rattle.gate_runs.specs.Standing.{Standing, On, Over, stand, after}
 use Rattle.gate_runs.specs.Stands.{Stands, Does, Any}
 use Rattle.gate_runs.proofs.Bind.{bind}
 use Rattle.gate_steps.specs.Steps.{LeadsTo, DoesStore}
-use Rattle.gate_places.specs.Places.{GoodFor, DoesAssign, DoesFind, IsLaid, env_of}
+use Rattle.gate_places.specs.Places.{GoodFor, DoesAssign, DoesFind, IsLaid}
 
 -- a location keeps the kind that it has
 pub stays_laid : (s : Source) (p : Layout) (old new : List Location) → kinds new ≡ kinds old → IsLaid s p old → IsLaid s p new

@@ -1,7 +1,7 @@
 -- A pointer is followed: its checks, one after the other, are what a run does.
 use Rattle.std.proofs.Common.{◌≡◌, ℕ, zero, suc, Bool, true, false, not, List, Result, Ok, Err, refl, sym, ap, subst}
 use Rattle.bit_net.specs.declared.nodes.Node.{Node}
-use Rattle.bit_net.specs.Runs.{Runs, Grown}
+use Rattle.bit_net.specs.Runs.{Grown}
 use Rattle.gl_sets.specs.declared.pairs.Pair.{Pair}
 use Rattle.gl_sets.specs.Guards.{Points}
 use Rattle.gl_store.specs.declared.stores.Location.{Location}
@@ -15,7 +15,6 @@ use Rattle.sc_world.specs.World.{World, Ended, Run, ◌>>=◌, goes_on, done, un
 use Rattle.gate_runs.specs.declared.ends.Ends.{Ends}
 use Rattle.gate_runs.specs.Stands.{Does, Any, aside_where}
 use Rattle.gate_runs.proofs.Bind.{bind, does_done}
-use Rattle.gate_steps.specs.Steps.{LeadsTo}
 use Rattle.gate_steps.proofs.Known.{does_same, does_tell}
 use Rattle.gate_places.specs.declared.checks.Check.{Check}
 use Rattle.gate_places.specs.declared.checks.Check.TheVariants as check

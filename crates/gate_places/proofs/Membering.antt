@@ -21,7 +21,7 @@ use Rattle.sc_world.specs.Source.{Source}
 use Rattle.sc_world.specs.Layout.{Layout, location, has_type, part, or_zero}
 use Rattle.sc_world.specs.World.{World, ◌>>=◌, done, dereference}
 use Rattle.sc_world.specs.Eval.{Want, Place', place_of, wanted, member, part_or, first_element}
-use Rattle.run_laws.specs.Fits.{StandsAt, IsPlaceOf, MemberFits}
+use Rattle.run_laws.specs.Fits.{StandsAt, MemberFits}
 use Rattle.run_laws.proofs.Places.{IfPlace, part_place}
 use Rattle.gate_runs.specs.declared.ends.Ends.{Ends}
 use Rattle.gate_runs.specs.Stands.{Does}

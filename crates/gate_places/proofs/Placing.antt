@@ -2,7 +2,7 @@
 use Rattle.std.proofs.Common.{◌≡◌, ℕ, ◌+◌, ◌<◌, ◌≤◌, Bool, true, false, nat_eq, Some, List, length, if◌then◌else◌, inl, refl, sym, ◌∙◌, ap, subst, arith}
 use Rattle.std.proofs.lemmas.Bool.{ne_eqb}
 use Rattle.bit_net.specs.declared.nodes.Node.{Node}
-use Rattle.bit_net.specs.Runs.{Runs, Grown}
+use Rattle.bit_net.specs.Runs.{Grown}
 use Rattle.gl_sets.specs.declared.pairs.Pair.{Pair}
 use Rattle.gl_sets.specs.declared.sets.Set.{Set as Sets}
 use Rattle.gl_sets.specs.Guards.{Points, guards_top}
@@ -10,7 +10,7 @@ use Rattle.gl_store.specs.declared.values.Val.{Val}
 use Rattle.gl_store.specs.declared.values.Val.TheVariants.{Set}
 use Rattle.gl_store.specs.declared.stores.Location.{Location}
 use Rattle.gl_store.specs.Meets.{Meets}
-use Rattle.run_store.specs.Concrete.{Cell, Pointer, Kind, Numbers, Pointers, NoCell, width_kind}
+use Rattle.run_store.specs.Concrete.{Cell, Pointer, Numbers, Pointers, NoCell, width_kind}
 use Rattle.sc_tree.specs.declared.ctype.IntKind.{IntKind}
 use Rattle.sc_tree.specs.declared.ctype.IntKind.TheVariants as kind
 use Rattle.sc_tree.specs.declared.ctype.Widths.{Widths}
@@ -19,7 +19,7 @@ use Rattle.sc_typed.specs.Kinds.{kind_bytes}
 use Rattle.sc_world.specs.Tree.{Ty, Void, Bool', Int, Ptr, Array, Struct, Union, Func, Opaque, is_integer, is_pointer, int_bits}
 use Rattle.sc_world.specs.Source.{Source}
 use Rattle.sc_world.specs.Layout.{Layout, location, has_type}
-use Rattle.sc_world.specs.World.{Run, World, ◌>>=◌, done, load, pointer_to, dereference, kind_of_type}
+use Rattle.sc_world.specs.World.{World, done, load, pointer_to, dereference, kind_of_type}
 use Rattle.sc_world.specs.Eval.{Want, Value, Place', wanted}
 use Rattle.run_laws.specs.Fits.{is_scalar, StandsAt, IsPlaceOf}
 use Rattle.run_laws.proofs.Types.{cell_kind, own_kind_of, typed_there, scalar_typed, place_of_pointer}

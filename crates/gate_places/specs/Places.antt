@@ -16,7 +16,7 @@ use Rattle.sum_rows.specs.declared.path.Step.TheVariants as step
 use Rattle.sc_world.specs.Tree.{Ty, target_or_void}
 use Rattle.sc_world.specs.Source.{Source}
 use Rattle.sc_world.specs.Layout.{Layout, location, has_type, part, or_zero}
-use Rattle.sc_world.specs.World.{Env, Run, ◌>>=◌, dereference, kind_of_type}
+use Rattle.sc_world.specs.World.{Env, ◌>>=◌, dereference, kind_of_type}
 use Rattle.sc_world.specs.Eval.{Want, Value, Place', place_of, wanted, assign_value, member, or_itself, first_element}
 use Rattle.run_laws.specs.Fits.{is_scalar, StandsAt, IsPlaceOf, MemberFits}
 use Rattle.run_values.specs.Steps.{member_behind, pointer_index}

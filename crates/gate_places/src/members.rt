@@ -107,7 +107,6 @@ pub fn first_element(layout: &Lookup, net: &mut Net, array: &Set) -> Result<Set,
 }
 
 /// `s . m`: what is wanted of a member of an object.
-#[tactic(auto, using(crate::proofs::Membering::does_member))]
 pub fn member_of(
     here: &Here,
     layout: &Lookup,
@@ -169,7 +168,6 @@ fn pointed(
 }
 
 /// `p -> m`: what is wanted of a member of what a pointer of that type points to.
-#[tactic(auto, using(crate::proofs::Membering::does_member_behind))]
 pub fn member_behind(
     here: &Here,
     layout: &Lookup,

@@ -56,7 +56,6 @@ fn cell_width(here: &Here, t: &CType) -> u32
 }
 
 // The value of the cell at a place.
-#[tactic(auto, using(crate::proofs::Placing::find_cell))]
 fn cell_at(
     here: &Here,
     net: &mut Net,
@@ -80,7 +79,6 @@ fn cell_at(
 }
 
 // The place itself.
-#[tactic(auto, using(crate::proofs::Placing::find_place))]
 fn place_at(
     here: &Here,
     net: &Net,
@@ -149,7 +147,7 @@ pub fn indirection(
 }
 
 /// `p [ k ]` of a pointer (C11 6.5.2.1): only `p [ 0 ]` is there, any other index sets the run aside.
-#[tactic(auto, using(crate::proofs::Indexing::does_index), unfolding(run_world::specs::Seen::env))]
+#[tactic(auto, unfolding(run_world::specs::Seen::env))]
 pub fn pointer_index(
     here: &Here,
     net: &mut Net,
