@@ -1,11 +1,10 @@
 -- An element of an array in a run, where the array and the index lead to it.
-use Rattle.std.proofs.Common.{◌≡◌, ℕ, zero, suc, ◌+◌, ◌-◌, ◌<◌, ◌≤◌, nat_lt, Bool, true, false, not, List, Result, Ok, Err, length, if◌then◌else◌, inl, inr, refl, sym, ◌∙◌, ap, subst, arith}
+use Rattle.std.proofs.Common.{◌≡◌, ℕ, suc, ◌-◌, ◌<◌, Bool, true, false, not, List, Result, Ok, Err, length, if◌then◌else◌, inl, inr, refl, sym, ◌∙◌, ap, subst, arith}
 use Rattle.std.specs.Prelude.{Option, Some, None}
 use Rattle.std.proofs.lemmas.Bool.{lt-ltb}
 use Rattle.bit_net.specs.declared.nodes.Node.{Node}
 use Rattle.bit_net.specs.Runs.{Runs, Grown}
 use Rattle.bit_words.specs.declared.Word.{Word as Words}
-use Rattle.bit_words.specs.Number.{number}
 use Rattle.gl_sets.specs.declared.pairs.Pair.{Pair}
 use Rattle.gl_sets.specs.declared.sets.Set.{Set as Sets}
 use Rattle.gl_sets.specs.Guards.{Points}
@@ -18,10 +17,10 @@ use Rattle.sum_rows.specs.declared.path.Step.TheVariants as step
 use Rattle.sc_world.specs.declared.run.Reason.TheVariants as reason
 use Rattle.sc_world.specs.Tree.{Ty}
 use Rattle.sc_world.specs.Source.{Source}
-use Rattle.sc_world.specs.Layout.{Layout, location, part, is_there, has_type, or_zero}
+use Rattle.sc_world.specs.Layout.{Layout, part, is_there, or_zero}
 use Rattle.sc_world.specs.World.{World, Ended, Run, ◌>>=◌, done, target_of as target_in, number_of}
 use Rattle.sc_world.specs.Eval.{Want, Place', place_of, wanted, element, element_or}
-use Rattle.run_laws.specs.Fits.{StandsAt, IsPlaceOf, ElementsFit}
+use Rattle.run_laws.specs.Fits.{StandsAt, ElementsFit}
 use Rattle.run_laws.proofs.Types.{typed_there}
 use Rattle.gate_runs.specs.declared.ends.Ends.{Ends}
 use Rattle.gate_runs.specs.Standing.{Standing, On, Over, stand, after}

@@ -11,7 +11,8 @@ use Rattle.bit_words.specs.Number.{number, converted}
 use Rattle.bit_words.specs.Spells.{Spells}
 use Rattle.bit_words.proofs.NumberLemmas.{number-below}
 use Rattle.gl_sets.specs.declared.pairs.Pair.{Pair}
-use Rattle.gl_sets.specs.Guards.{Points, held, guard, guards_top}
+use Rattle.gl_sets.specs.Guards.{Points, held, guard, has_target, targets_differ, guards_top}
+use Rattle.gl_sets.proofs.GuardLemmas.{targets_differ-push}
 use Rattle.gl_sets.proofs.PointLemmas.{guard-points}
 use Rattle.sum_rows.specs.declared.path.Step.TheVariants as step
 use Rattle.sc_world.specs.declared.run.Origin.{Origin}
@@ -43,15 +44,16 @@ index_gate ns mid b wide bound k gate grown small low is_wide is_bound is =
 found_in : (test : Location → Bool) (k : ℕ) (ls : List Location) (to : ℕ) → first_where test k ls ≡ Some to
     → (i : ℕ) × (to ≡ k + i) × (i < length ls) × (test (slice_index_or ls i nowhere) ≡ true)
 found_in test k [] to e = absurd (cc)
-found_in test k (l ∷ ls) to e = side (test l) refl e
+found_in test k (l ∷ ls) to e = side (test l) refl (λ h. found_in test (k + 1) ls to h) e
   where
-    side : (b : Bool) → test l ≡ b → (if b then Some k else first_where test (k + 1) ls) ≡ Some to
-        → (i : ℕ) × (to ≡ k + i) × (i < length (l ∷ ls)) × (test (slice_index_or (l ∷ ls) i nowhere) ≡ true)
-    side true is e =
+    side : (b : Bool) → test l ≡ b
+        → (first_where test (k + 1) ls ≡ Some to → (i : ℕ) × (to ≡ k + 1 + i) × (i < length ls) × (test (slice_index_or ls i nowhere) ≡ true))
+        → (if b then Some k else first_where test (k + 1) ls) ≡ Some to → (i : ℕ) × (to ≡ k + i) × (i < length (l ∷ ls)) × (test (slice_index_or (l ∷ ls) i nowhere) ≡ true)
+    side true is rest e =
         let same : k ≡ to = cc in
         (0, omega (arith, same), omega arith, is)
-    side false is e =
-        let h = found_in test (k + 1) ls to e in
+    side false is rest e =
+        let h = rest e in
         (suc h.0, omega (arith, h.1), omega (arith, h.2), h.3)
 
 part_there : (p : Layout) (up n at : ℕ) → part p up (step.Elem n) ≡ Some at
@@ -73,6 +75,7 @@ both false b e = absurd (cc)
 
 entry_agrees : (b : Bool) (up n u k : ℕ) → b ≡ true → nat_eq up u && nat_eq n k ≡ true
     → agrees (if b then Some (record { array = u; number = k }) else None) up n ≡ true
+unfolding agrees
 entry_agrees true up n u k low e = e
 entry_agrees false up n u k low e = absurd (cc)
 
@@ -143,6 +146,7 @@ itself n = eq-eqb n n refl
 
 module _ (ns : List Node) (p : Layout) (array : List Pair) (index : List Gate) (at gate : ℕ) where
   pub never_here : element_origin p (location p at).origin ≡ None → Gives ns gate (λ choice v. false) → LeadsHere ns p array index at gate
+  unfolding agrees
   never_here none is =
       record {
         below = is.below;
@@ -155,6 +159,7 @@ module _ (ns : List Node) (p : Layout) (array : List Pair) (index : List Gate) (
 
   same_entry : (e : Entry) (up m : ℕ) → element_origin p (location p at).origin ≡ Some e → up < length p.locations → part p up (step.Elem m) ≡ Some at
       → (up ≡ e.array) × (m ≡ e.number)
+  unfolding agrees
   same_entry e up m is low led =
       let h = both (nat_eq up e.array) (nat_eq m e.number) (sym (ap (λ o. agrees o up m) is) ∙ led_agrees p m at up low led) in
       (eqb-true up e.array h.0, eqb-true m e.number h.1)
@@ -188,10 +193,10 @@ module _ (ns : List Node) (p : Layout) (array : List Pair) (index : List Gate) (
       sym (not_led p m target at
       (λ up is low led.
       let same = same_entry e up m origin_is low led in
-      eqb-false target (e.array + 1) (sym t) (omega (arith, is, same.0))))
+      eqb-false target (e.array + 1) t (omega (arith, is, same.0))))
   first_value e m target origin_is there true false t k =
       sym (not_led p m target at
-      (λ up is low led. eqb-false m e.number (sym k) (same_entry e up m origin_is low led).1))
+      (λ up is low led. eqb-false m e.number k (same_entry e up m origin_is low led).1))
 
   pub first_here : (e : Entry) (o : Option ℕ) → element_origin p (location p at).origin ≡ Some e → o ≡ part p e.array (step.Elem e.number)
       → is_location o at ≡ true → Gives ns gate (λ choice v. guard v array (e.array + 1) && nat_eq (number v index) e.number)
@@ -225,27 +230,48 @@ unfolding guards_top
 top_more [] p n low top = omega (arith, low)
 top_more (q ∷ ps) p n low top = omega (arith, top, top_more ps p n low (omega (arith, top)))
 
+neither : (a b : Bool) → a || b ≡ false → (a ≡ false) × (b ≡ false)
+neither false b e = (refl, e)
+neither true b e = absurd (cc)
+
+has_more : (ps : List Pair) (p : Pair) (t : ℕ) → (p.target ≡ t → ⊥) → has_target ps t ≡ false → has_target (ps ++ p ∷ []) t ≡ false
+unfolding has_target
+has_more [] p t other none = ap (λ b. b || false) (ne_eqb p.target t other)
+has_more (q ∷ ps) p t other none =
+    let parts = neither (nat_eq q.target t) (has_target ps t) none in
+    ap (λ b. b || has_target (ps ++ p ∷ []) t) parts.0 ∙ has_more ps p t other parts.1
+
 pub pushed : (ns : List Node) (p : Pair) (old new : List Pair) → p.guard.at < length ns → new ≡ old ++ p ∷ [] → IsPushed ns p old new
 pushed ns p old new low e =
     subst (λ qs. IsPushed ns p old qs) (sym e)
-    (record { below = λ top. top_more old p (length ns) low top; holds = λ choice v runs. held_more v old p })
+    (record {
+      below = λ top. top_more old p (length ns) low top;
+      differ = λ fresh apart. targets_differ-push old p apart fresh;
+      others = λ t other none. has_more old p t other none;
+      holds = λ choice v runs. held_more v old p;
+    })
 
 pub not_pushed : (ns : List Node) (p : Pair) (old : List Pair) → Always ns (λ choice v. v p.guard.at ≡ false) → IsPushed ns p old old
 not_pushed ns p old never =
     record {
       below = λ top. top;
+      differ = λ fresh apart. apart;
+      others = λ t other none. none;
       holds = λ choice v runs.
           sym (ap (λ b. held v old ++ (if b then p.target ∷ [] else [])) (never.holds choice v runs) ∙ append_none (held v old));
     }
 
 pub elements_none : (ns : List Node) (p : Layout) (array : List Pair) (index : List Gate) (pairs : List Pair) (found : ℕ) → pairs ≡ []
     → Gives ns found (λ choice v. false) → HasElements ns p array index 0 pairs found
-unfolding held guards_top
+unfolding held has_target targets_differ guards_top
 elements_none ns p array index pairs found e is =
     subst (λ ps. HasElements ns p array index 0 ps found) (sym e)
     (record {
       below = omega arith;
       low = is.below;
+      differ = refl;
+      no_null = refl;
+      no_later = λ t high. refl;
       holds = λ choice v runs target points. refl;
       some = λ choice v runs target points. is.value choice v runs;
     })
@@ -258,6 +284,9 @@ step_does n0 n1 n2 p array index at found more target g old new grown01 grown12 
     record {
       below = omega (arith, push.below (omega (arith, have.below, grown01.longer)), grown12.longer);
       low = is.below;
+      differ = push.differ (have.no_later target (omega (arith, behind))) have.differ;
+      no_null = push.others 0 (λ e. omega (arith, behind, e)) have.no_null;
+      no_later = λ t high. push.others t (λ e. omega (arith, behind, high, e)) (have.no_later t (omega (arith, high)));
       holds = λ choice v runs t points.
           let r1 = grown12.runs choice v runs in
           let r0 = grown01.runs choice v r1 in
@@ -300,15 +329,15 @@ among_before to (suc at) high =
 
 among_behind : (to n : ℕ) → to < n → among (Some to) n ≡ suc to ∷ []
 among_behind to zero low = absurd (omega (arith, low))
-among_behind to (suc at) low = by (nat_eq to at) refl
+among_behind to (suc at) low = by (nat_eq to at) refl (λ h. among_behind to at h)
   where
-    by : (b : Bool) → nat_eq to at ≡ b → among (Some to) at ++ (if nat_eq to at then suc at ∷ [] else []) ≡ suc to ∷ []
-    by true e =
+    by : (b : Bool) → nat_eq to at ≡ b → (to < at → among (Some to) at ≡ suc to ∷ []) → among (Some to) at ++ (if nat_eq to at then suc at ∷ [] else []) ≡ suc to ∷ []
+    by true e earlier =
         let same : to ≡ at = eqb-true to at e in
         ap (λ xs. xs ++ (if nat_eq to at then suc at ∷ [] else [])) (among_before to at (omega (arith, same)))
         ∙ ap (λ b. [] ++ (if b then suc at ∷ [] else [])) e ∙ ap (λ k. suc k ∷ []) (sym same)
-    by false e =
-        ap (λ xs. xs ++ (if nat_eq to at then suc at ∷ [] else [])) (among_behind to at (omega (arith, low, λ (h : to ≡ at). eqb-false to at (sym e) h)))
+    by false e earlier =
+        ap (λ xs. xs ++ (if nat_eq to at then suc at ∷ [] else [])) (earlier (omega (arith, low, λ (h : to ≡ at). eqb-false to at e h)))
         ∙ ap (λ b. (suc to ∷ []) ++ (if b then suc at ∷ [] else [])) e
 
 or_true : (b : Bool) → b || true ≡ true
@@ -317,12 +346,12 @@ or_true false = refl
 
 is_among_behind : (to n : ℕ) → to < n → is_among (Some to) n ≡ true
 is_among_behind to zero low = absurd (omega (arith, low))
-is_among_behind to (suc at) low = by (nat_eq to at) refl
+is_among_behind to (suc at) low = by (nat_eq to at) refl (λ h. is_among_behind to at h)
   where
-    by : (b : Bool) → nat_eq to at ≡ b → is_among (Some to) at || nat_eq to at ≡ true
-    by true e = ap (λ b. is_among (Some to) at || b) e ∙ or_true (is_among (Some to) at)
-    by false e =
-        ap (λ b. b || nat_eq to at) (is_among_behind to at (omega (arith, low, λ (h : to ≡ at). eqb-false to at (sym e) h)))
+    by : (b : Bool) → nat_eq to at ≡ b → (to < at → is_among (Some to) at ≡ true) → is_among (Some to) at || nat_eq to at ≡ true
+    by true e earlier = ap (λ b. is_among (Some to) at || b) e ∙ or_true (is_among (Some to) at)
+    by false e earlier =
+        ap (λ b. b || nat_eq to at) (earlier (omega (arith, low, λ (h : to ≡ at). eqb-false to at e h)))
 
 element_low : (p : Layout) (m target to : ℕ) → element_of p m target ≡ Some to → to < length p.locations
 element_low p m zero to e = absurd (cc)

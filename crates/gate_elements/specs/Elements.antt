@@ -1,5 +1,5 @@
 -- Elements of arrays: to which location an array and an index lead, and what the gates promise of that for every choice.
-use Rattle.std.specs.Prelude.{◌≡◌, ℕ, zero, suc, ◌<◌, ◌≤◌, nat_eq, nat_lt, Bool, true, false, not, ◌&&◌, ◌||◌, Option, Some, None, List, [], ◌∷◌, ◌++◌, length, if◌then◌else◌}
+use Rattle.std.specs.Prelude.{◌≡◌, ℕ, zero, suc, ◌<◌, ◌≤◌, nat_eq, nat_lt, Bool, true, false, not, ◌||◌, Option, Some, None, List, [], ◌∷◌, ◌++◌, length, if◌then◌else◌}
 use Rattle.bit_net.specs.declared.nodes.Gate.{Gate}
 use Rattle.bit_net.specs.declared.nodes.Node.{Node}
 use Rattle.bit_net.specs.Runs.{Runs}
@@ -7,7 +7,7 @@ use Rattle.bit_words.specs.declared.Word.{Word as Words}
 use Rattle.bit_words.specs.Number.{number}
 use Rattle.gl_sets.specs.declared.pairs.Pair.{Pair}
 use Rattle.gl_sets.specs.declared.sets.Set.{Set as Sets}
-use Rattle.gl_sets.specs.Guards.{Points, held, guards_top}
+use Rattle.gl_sets.specs.Guards.{Points, held, has_target, targets_differ, guards_top}
 use Rattle.gl_store.specs.declared.values.Val.{Val}
 use Rattle.gl_store.specs.declared.values.Val.TheVariants.{Word, Set}
 use Rattle.gl_store.specs.declared.stores.Location.{Location}
@@ -18,7 +18,7 @@ use Rattle.sc_world.specs.declared.run.Origin.{Origin}
 use Rattle.sc_world.specs.declared.run.Origin.TheVariants as origin
 use Rattle.sc_world.specs.Tree.{Ty}
 use Rattle.sc_world.specs.Source.{Source}
-use Rattle.sc_world.specs.Layout.{Layout, location, part, is_there}
+use Rattle.sc_world.specs.Layout.{Layout, part, is_there}
 use Rattle.sc_world.specs.World.{◌>>=◌, number_of}
 use Rattle.sc_world.specs.Eval.{Want, Place', place_of, wanted, element}
 use Rattle.run_laws.specs.Fits.{ElementsFit}
@@ -66,12 +66,17 @@ pub record LeadsHere (ns : List Node) (p : Layout) (array : List Pair) (index : 
 -- a pair more, whose guard may hold for no choice
 pub record IsPushed (ns : List Node) (pair : Pair) (old new : List Pair) : Type 0 where
   pub below : guards_top old ≤ length ns → guards_top new ≤ length ns
+  pub differ : has_target old pair.target ≡ false → targets_differ old ≡ true → targets_differ new ≡ true
+  pub others : (t : ℕ) → (pair.target ≡ t → ⊥) → has_target old t ≡ false → has_target new t ≡ false
   pub holds : (choice v : ℕ → Bool) → Runs ns choice v → held v new ≡ held v old ++ (if v pair.guard.at then pair.target ∷ [] else [])
 
 -- the pairs of the elements among the first locations, and the gate that holds where one of them is led to
 pub record HasElements (ns : List Node) (p : Layout) (array : List Pair) (index : List Gate) (count : ℕ) (pairs : List Pair) (found : ℕ) : Type 0 where
   pub below : guards_top pairs ≤ length ns
   pub low : found < length ns
+  pub differ : targets_differ pairs ≡ true
+  pub no_null : has_target pairs 0 ≡ false
+  pub no_later : (t : ℕ) → count < t → has_target pairs t ≡ false
   pub holds : (choice v : ℕ → Bool) → Runs ns choice v → (target : ℕ) → Points v array target
       → held v pairs ≡ among (element_of p (number v index) target) count
   pub some : (choice v : ℕ → Bool) → Runs ns choice v → (target : ℕ) → Points v array target

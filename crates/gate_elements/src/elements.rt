@@ -78,15 +78,15 @@ fn is_location(part: Option<u32>, at: u32) -> bool
 }
 
 // Holds where the index is that number.
-fn is_index(net: &mut Net, index: &Word, number: u32) -> Result<Gate, OutOfMemory>
+fn is_index(net: &mut Net, index: &Word, value: u32) -> Result<Gate, OutOfMemory>
     requires some { 0 < length index.now.bits.items }
     requires small { length index.now.bits.items ≤ 64 }
     requires index { top index.now.bits.items ≤ length net.old }
     ensures grown { Grown net.old net.new }
-    ensures ok { IfOk result (λ r. Gives net.new r.at (λ choice v. nat_eq (number v index.now.bits.items) number)) }
+    ensures ok { IfOk result (λ r. Gives net.new r.at (λ choice v. nat_eq (number v index.now.bits.items) value)) }
 {
     let wide = convert(net, index, false, 64)?;
-    let bound = constant(net, u64::from(number), 64)?;
+    let bound = constant(net, value as u64, 64)?;
     let same = equal(net, &wide, &bound)?;
     Ok(same)
 }
@@ -109,7 +109,6 @@ fn is_indexed(net: &mut Net, array: &Set, index: &Word, element: Entry) -> Resul
 }
 
 // Holds where the array and the index lead to that location.
-#[tactic(auto, using(crate::proofs::Leading::not_first))]
 fn leads_here(
     layout: &Lookup,
     net: &mut Net,
@@ -134,7 +133,8 @@ fn leads_here(
                 let gate = is_indexed(net, array, index, element)?;
                 Ok(gate)
             } else {
-                Ok(net.constant(false))
+                let never = net.constant(false);
+                Ok(never)
             }
         }
     }
@@ -216,7 +216,6 @@ pub fn element(
 }
 
 /// `a [ k ]` of an array: an index that no element has sets the run aside.
-#[tactic(auto, using(crate::proofs::Indexed::does_element))]
 pub fn array_index(
     here: &Here,
     layout: &Lookup,

@@ -18,3 +18,7 @@ pub returns-clause-ok : goal.returns-clause-ok
 returns-clause-ok c =
     is_element _ _ _ _ _ c.loop-at.at _ c.in_ok-missing.missing _ _ c.in_ok-missing.ensures.grown (omega arith) c.loop-at.invariant.elements
     c.in_ok-missing.ensures.ok c.in_ok-push_pair.ensures
+
+pub invariant_of-pointer : goal.invariant_of-pointer
+invariant_of-pointer c =
+    record { differ = c.in_ok-push_pair.ensures.differ c.loop-at.invariant.elements.no_null c.loop-at.invariant.elements.differ }

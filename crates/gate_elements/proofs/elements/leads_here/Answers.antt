@@ -7,5 +7,10 @@ returns-in-None-clause-ok c = never_here _ _ _ _ c.args.at _ (sym c.element_orig
 
 pub returns-in_ok-gate-in-Some-clause-ok : goal.returns-in_ok-gate-in-Some-clause-ok
 returns-in_ok-gate-in-Some-clause-ok c =
-    first_here _ _ _ _ c.args.at _ c.in-Some.element _ (sym c.element_origin.ensures ∙ c.in-Some.is) c.part-in-Some.ensures
-    (sym c.is_location-in-Some.ensures ∙ c.if-is_location-in-Some.true) c.in_ok-gate-in-Some.ensures.ok
+    first_here _ _ _ _ c.args.at _ c.in-Some.element _ (sym c.element_origin.ensures ∙ c.in-Some.is) c.part-part.ensures
+    (sym c.is_location.ensures ∙ c.if-is_location.true) c.in_ok-gate-in-Some.ensures.ok
+
+pub returns-else-is_location-clause-ok : goal.returns-else-is_location-clause-ok
+returns-else-is_location-clause-ok c =
+    not_first _ _ _ _ c.args.at _ c.in-Some.element _ (sym c.element_origin.ensures ∙ c.in-Some.is) c.part-part.ensures
+    (sym c.is_location.ensures ∙ c.if-is_location.false) c.constant-never.ensures
