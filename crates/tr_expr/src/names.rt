@@ -31,7 +31,6 @@ fn place_of(layout: &Lookup, net: &Net, origin: Origin) -> Set
 }
 
 /// What is wanted of a parameter, a local or a global: its value, or its place.
-#[tactic(auto, using(crate::proofs::Naming::does_name))]
 pub fn named(
     here: &Here,
     layout: &Lookup,
