@@ -62,18 +62,18 @@ pointer_no_integer _ e = refl
 
 -- i and p: what is converted is an integer, a pointer; j, q and b: what it becomes is an integer, a pointer, a `_Bool`
 integer_becomes : (i p j q b : Bool) → i ≡ true → p ≡ false → j ≡ false → (i && (j || q)) || (p && (q || b)) ≡ true → q ≡ true
-integer_becomes i p j true b is no other e = refl
-integer_becomes false p j false b is no other e = false-true is
-integer_becomes true true j false b is no other e = absurd (true≢false no)
-integer_becomes true false true false b is no other e = absurd (true≢false other)
-integer_becomes true false false false b is no other e = false-true e
+integer_becomes i p j true b is off other e = refl
+integer_becomes false p j false b is off other e = false-true is
+integer_becomes true true j false b is off other e = absurd (true≢false off)
+integer_becomes true false true false b is off other e = absurd (true≢false other)
+integer_becomes true false false false b is off other e = false-true e
 
 pointer_becomes : (i p j q b : Bool) → i ≡ false → p ≡ true → b ≡ false → (i && (j || q)) || (p && (q || b)) ≡ true → q ≡ true
-pointer_becomes i p j true b no is other e = refl
-pointer_becomes true p j false b no is other e = absurd (true≢false no)
-pointer_becomes false false j false b no is other e = false-true is
-pointer_becomes false true j false true no is other e = absurd (true≢false other)
-pointer_becomes false true j false false no is other e = false-true e
+pointer_becomes i p j true b off is other e = refl
+pointer_becomes true p j false b off is other e = absurd (true≢false off)
+pointer_becomes false false j false b off is other e = false-true is
+pointer_becomes false true j false true off is other e = absurd (true≢false other)
+pointer_becomes false true j false false off is other e = false-true e
 
 -- what an integer becomes that is no integer is a pointer, and what a pointer becomes that is no `_Bool` is one
 pub to_pointer : (u t : Ty) → is_integer u ≡ true → is_integer t ≡ false → converts u t ≡ true → is_pointer t ≡ true
