@@ -13,5 +13,6 @@ mod sources;
 
 pub use analysis::Analysis;
 pub use checked::say;
+pub use planned::{NoPlan, planned};
 pub use said::Said;
 pub use sources::Sources;

@@ -2,8 +2,8 @@
 
 use Rattle.std.specs.Prelude.{◌≡◌, ◌⊎◌, ℕ, Bool, true, false, List}
 use Rattle.sc_base.specs.Taken.{SinkChange, Keeps, Went}
-use Rattle.saturn_top.specs.declared.status.Status.{Status}
-use Rattle.saturn_top.specs.declared.status.Status.TheVariants.{Clean, Reports, Refused, BadWords, ReadFault, WriteFault, Memory, Helped}
+use Rattle.top_answers.specs.declared.status.Status.{Status}
+use Rattle.top_answers.specs.declared.status.Status.TheVariants.{Clean, Reports, Refused, BadWords, ReadFault, WriteFault, Memory, Helped}
 
 -- the answer that is due, and its bytes, which go to standard output or to the error output
 pub data Due : Type 0 where

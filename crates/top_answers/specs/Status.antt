@@ -1,7 +1,7 @@
 -- The numbers of statuses.
 use Rattle.std.specs.Prelude.{ℕ}
-use Rattle.saturn_top.specs.declared.status.Status.{Status}
-use Rattle.saturn_top.specs.declared.status.Status.TheVariants.{Clean, Reports, Refused, BadWords, ReadFault, WriteFault, Memory, Helped}
+use Rattle.top_answers.specs.declared.status.Status.{Status}
+use Rattle.top_answers.specs.declared.status.Status.TheVariants.{Clean, Reports, Refused, BadWords, ReadFault, WriteFault, Memory, Helped}
 
 -- the number with which a program ends
 abbrev pub status_number : Status → ℕ

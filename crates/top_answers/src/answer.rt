@@ -2,8 +2,8 @@
 
 ghost use Rattle.std.specs.Prelude.{◌≡◌};
 ghost use Rattle.sc_base.specs.Taken.{Went};
-ghost use Rattle.saturn_top.specs.Answer.{IsAnswered};
-ghost use Rattle.saturn_top.specs.Seen.{seen};
+ghost use Rattle.top_answers.specs.Answer.{IsAnswered};
+ghost use Rattle.top_answers.specs.Seen.{seen};
 
 use crate::status::Status;
 use sc_base::Sink;

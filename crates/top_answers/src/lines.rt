@@ -1,7 +1,7 @@
 // The lines that say why there is no text.
 
 ghost use Rattle.std.specs.Prelude.{◌≡◌, ◌++◌, OnOk, IfOk, codes};
-ghost use Rattle.saturn_top.specs.Lines as spec;
+ghost use Rattle.top_answers.specs.Lines as spec;
 
 use itoa::{Buffer, Integer};
 use sc_base::{LimitKind, OutOfMemory, Pos};
@@ -40,6 +40,32 @@ fn begun(alloc: Global, program: &[u8]) -> Result<Vec<u8>, OutOfMemory>
 {
     let mut line = program.to_vec(alloc)?;
     put(&mut line, b": ")?;
+    Ok(line)
+}
+
+/// The line of this program with these words.
+pub fn word_line(alloc: Global, program: &[u8], word: &[u8]) -> Result<Vec<u8>, OutOfMemory>
+    ensures { IfOk result (λ line. line.items ≡ spec.line_of program.now word.now) }
+{
+    let mut line = begun(alloc, program)?;
+    put(&mut line, word)?;
+    put(&mut line, b"\n")?;
+    Ok(line)
+}
+
+/// The line of this program with these words and a name behind them.
+pub fn name_line(
+    alloc: Global,
+    program: &[u8],
+    word: &[u8],
+    name: &[u8],
+) -> Result<Vec<u8>, OutOfMemory>
+    ensures { IfOk result (λ line. line.items ≡ spec.line_of program.now (word.now ++ name.now)) }
+{
+    let mut line = begun(alloc, program)?;
+    put(&mut line, word)?;
+    put(&mut line, name)?;
+    put(&mut line, b"\n")?;
     Ok(line)
 }
 
@@ -83,17 +109,6 @@ pub fn limit_line(
     Ok(line)
 }
 
-/// The line of this program for a file that was not read.
-pub fn unread_line(alloc: Global, program: &[u8], name: &[u8]) -> Result<Vec<u8>, OutOfMemory>
-    ensures { IfOk result (λ line. line.items ≡ spec.line_of program.now (spec.unread_tail name.now)) }
-{
-    let mut line = begun(alloc, program)?;
-    put(&mut line, b"cannot read ")?;
-    put(&mut line, name)?;
-    put(&mut line, b"\n")?;
-    Ok(line)
-}
-
 /// The line of this program for a line that breaks the form of a machine file.
 pub fn machine_line(alloc: Global, program: &[u8], number: u32) -> Result<Vec<u8>, OutOfMemory>
     ensures { IfOk result (λ line. line.items ≡ spec.line_of program.now (spec.machine_tail number)) }
@@ -101,17 +116,6 @@ pub fn machine_line(alloc: Global, program: &[u8], number: u32) -> Result<Vec<u8
     let mut line = begun(alloc, program)?;
     put(&mut line, b"machine ")?;
     put_number(&mut line, number)?;
-    put(&mut line, b"\n")?;
-    Ok(line)
-}
-
-/// The line of this program for a function that has a second body.
-pub fn twice_line(alloc: Global, program: &[u8], function: &[u8]) -> Result<Vec<u8>, OutOfMemory>
-    ensures { IfOk result (λ line. line.items ≡ spec.line_of program.now (spec.twice_tail function.now)) }
-{
-    let mut line = begun(alloc, program)?;
-    put(&mut line, b"duplicate ")?;
-    put(&mut line, function)?;
     put(&mut line, b"\n")?;
     Ok(line)
 }

@@ -24,7 +24,7 @@ pub enum Status {
 }
 
 impl Status {
-    ghost use Rattle.saturn_top.specs.Status.{status_number};
+    ghost use Rattle.top_answers.specs.Status.{status_number};
 
     /// The number with which the program ends.
     pub fn number(&self) -> u8

@@ -1,7 +1,7 @@
 use Rattle.std.proofs.Common.{codes}
 use Rattle.std.specs.Prelude.{decimal}
-use Rattle.saturn_top.proofs.Joined.{placed}
-use Rattle.saturn_top.proofs.lines.place_line.Goals as goal
+use Rattle.top_answers.proofs.Joined.{placed}
+use Rattle.top_answers.proofs.lines.place_line.Goals as goal
 
 pub returns : goal.returns
 returns c =
