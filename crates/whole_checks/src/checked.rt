@@ -42,8 +42,12 @@ fn any_report(verdicts: &[Arc<Verdict>]) -> bool
     false
 }
 
-// The verdicts of all functions, in the order of the program.
-fn verdicts_of(
+/// The verdicts of all functions, in the order of the program, made on the calling thread. It always returns.
+///
+/// # Errors
+///
+/// `OutOfMemory` where memory is refused.
+pub fn verdicts_of(
     alloc: Global,
     program: &Program,
     plan: &Plan,

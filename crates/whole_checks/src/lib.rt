@@ -12,7 +12,7 @@ mod said;
 mod sources;
 
 pub use analysis::Analysis;
-pub use checked::say;
+pub use checked::{say, verdicts_of};
 pub use planned::{NoPlan, planned};
 pub use said::Said;
 pub use sources::Sources;
