@@ -9,35 +9,35 @@ use Rattle.check_counts.specs.declared.counts.Counts.{Counts}
 
 -- ---- what is counted of a report: 1 for one of the kind, else 0
 
-abbrev pub double : Report → ℕ
-double (report.Double path runs) = 1
-double (report.Ambiguous path one other) = 0
-double (report.Inner run) = 0
-double (report.Leak at run) = 0
+abbrev pub doubles_in : Report → ℕ
+doubles_in (report.Double path runs) = 1
+doubles_in (report.Ambiguous path one other) = 0
+doubles_in (report.Inner run) = 0
+doubles_in (report.Leak at run) = 0
 
-abbrev pub ambiguous : Report → ℕ
-ambiguous (report.Double path runs) = 0
-ambiguous (report.Ambiguous path one other) = 1
-ambiguous (report.Inner run) = 0
-ambiguous (report.Leak at run) = 0
+abbrev pub ambiguous_in : Report → ℕ
+ambiguous_in (report.Double path runs) = 0
+ambiguous_in (report.Ambiguous path one other) = 1
+ambiguous_in (report.Inner run) = 0
+ambiguous_in (report.Leak at run) = 0
 
-abbrev pub inner : Report → ℕ
-inner (report.Double path runs) = 0
-inner (report.Ambiguous path one other) = 0
-inner (report.Inner run) = 1
-inner (report.Leak at run) = 0
+abbrev pub inner_in : Report → ℕ
+inner_in (report.Double path runs) = 0
+inner_in (report.Ambiguous path one other) = 0
+inner_in (report.Inner run) = 1
+inner_in (report.Leak at run) = 0
 
-abbrev pub leak : Report → ℕ
-leak (report.Double path runs) = 0
-leak (report.Ambiguous path one other) = 0
-leak (report.Inner run) = 0
-leak (report.Leak at run) = 1
+abbrev pub leaks_in : Report → ℕ
+leaks_in (report.Double path runs) = 0
+leaks_in (report.Ambiguous path one other) = 0
+leaks_in (report.Inner run) = 0
+leaks_in (report.Leak at run) = 1
 
 -- ---- what is counted of a verdict: of the reports those of a kind; skips and rows are counted as in the line of totals
 
-abbrev pub reports_with : (of_kind : Report → ℕ) → Verdict → ℕ
-reports_with of_kind (verdict.Skipped why) = 0
-reports_with of_kind (verdict.Done summary reports) = sum_by of_kind reports
+abbrev pub reports_by : (of_kind : Report → ℕ) → Verdict → ℕ
+reports_by of_kind (verdict.Skipped why) = 0
+reports_by of_kind (verdict.Done summary reports) = sum_by of_kind reports
 
 -- ---- the counts of all verdicts
 
@@ -47,10 +47,10 @@ counts_of vs = record {
   skipped = sum_by skipped_in vs;
   rows = sum_by rows_in vs;
   reports = record {
-    double = sum_by (reports_with double) vs;
-    ambiguous = sum_by (reports_with ambiguous) vs;
-    inner = sum_by (reports_with inner) vs;
-    leak = sum_by (reports_with leak) vs;
+    double = sum_by (reports_by doubles_in) vs;
+    ambiguous = sum_by (reports_by ambiguous_in) vs;
+    inner = sum_by (reports_by inner_in) vs;
+    leak = sum_by (reports_by leaks_in) vs;
   };
 }
 

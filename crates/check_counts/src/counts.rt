@@ -34,10 +34,10 @@ pub struct Counts {
 
 // The counts with one report more. None where a count does not fit.
 fn with_report(kinds: Kinds, report: &Report) -> Option<Kinds>
-    ensures double { IfSome result (λ k. k.double ≡ kinds.double + spec.double report.now) }
-    ensures ambiguous { IfSome result (λ k. k.ambiguous ≡ kinds.ambiguous + spec.ambiguous report.now) }
-    ensures inner { IfSome result (λ k. k.inner ≡ kinds.inner + spec.inner report.now) }
-    ensures leak { IfSome result (λ k. k.leak ≡ kinds.leak + spec.leak report.now) }
+    ensures double { IfSome result (λ k. k.double ≡ kinds.double + spec.doubles_in report.now) }
+    ensures ambiguous { IfSome result (λ k. k.ambiguous ≡ kinds.ambiguous + spec.ambiguous_in report.now) }
+    ensures inner { IfSome result (λ k. k.inner ≡ kinds.inner + spec.inner_in report.now) }
+    ensures leak { IfSome result (λ k. k.leak ≡ kinds.leak + spec.leaks_in report.now) }
 {
     let mut more = kinds;
     match report {
@@ -51,10 +51,10 @@ fn with_report(kinds: Kinds, report: &Report) -> Option<Kinds>
 
 // The counts with these reports more. None where a count does not fit.
 fn with_reports(kinds: Kinds, reports: &[Report]) -> Option<Kinds>
-    ensures double { IfSome result (λ k. k.double ≡ kinds.double + sum_by spec.double reports.now) }
-    ensures ambiguous { IfSome result (λ k. k.ambiguous ≡ kinds.ambiguous + sum_by spec.ambiguous reports.now) }
-    ensures inner { IfSome result (λ k. k.inner ≡ kinds.inner + sum_by spec.inner reports.now) }
-    ensures leak { IfSome result (λ k. k.leak ≡ kinds.leak + sum_by spec.leak reports.now) }
+    ensures double { IfSome result (λ k. k.double ≡ kinds.double + sum_by spec.doubles_in reports.now) }
+    ensures ambiguous { IfSome result (λ k. k.ambiguous ≡ kinds.ambiguous + sum_by spec.ambiguous_in reports.now) }
+    ensures inner { IfSome result (λ k. k.inner ≡ kinds.inner + sum_by spec.inner_in reports.now) }
+    ensures leak { IfSome result (λ k. k.leak ≡ kinds.leak + sum_by spec.leaks_in reports.now) }
 {
     let mut more = kinds;
     for report in reports {
@@ -79,10 +79,10 @@ fn with_verdict(counts: Counts, verdict: &Verdict) -> Option<Counts>
     ensures functions { IfSome result (λ c. c.functions ≡ counts.functions) }
     ensures skipped { IfSome result (λ c. c.skipped ≡ counts.skipped + skipped_in verdict.now) }
     ensures rows { IfSome result (λ c. c.rows ≡ counts.rows + rows_in verdict.now) }
-    ensures double { IfSome result (λ c. c.reports.double ≡ counts.reports.double + spec.reports_with spec.double verdict.now) }
-    ensures ambiguous { IfSome result (λ c. c.reports.ambiguous ≡ counts.reports.ambiguous + spec.reports_with spec.ambiguous verdict.now) }
-    ensures inner { IfSome result (λ c. c.reports.inner ≡ counts.reports.inner + spec.reports_with spec.inner verdict.now) }
-    ensures leak { IfSome result (λ c. c.reports.leak ≡ counts.reports.leak + spec.reports_with spec.leak verdict.now) }
+    ensures double { IfSome result (λ c. c.reports.double ≡ counts.reports.double + spec.reports_by spec.doubles_in verdict.now) }
+    ensures ambiguous { IfSome result (λ c. c.reports.ambiguous ≡ counts.reports.ambiguous + spec.reports_by spec.ambiguous_in verdict.now) }
+    ensures inner { IfSome result (λ c. c.reports.inner ≡ counts.reports.inner + spec.reports_by spec.inner_in verdict.now) }
+    ensures leak { IfSome result (λ c. c.reports.leak ≡ counts.reports.leak + spec.reports_by spec.leaks_in verdict.now) }
 {
     match verdict {
         Verdict::Skipped(_) => Some(Counts {
