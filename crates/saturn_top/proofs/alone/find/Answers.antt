@@ -2,11 +2,12 @@ use Rattle.std.proofs.Common.{rules, ◌≡◌, ℕ, List, map, sym, subst}
 use Rattle.std.specs.Borrow.{Bor}
 use Rattle.std.proofs.lemmas.Result.{IfOk-weaker}
 use Rattle.sc_input.specs.Input.{Outside, IsInput, Refuse}
-use Rattle.saturn_top.specs.Answer.{Due}
+use Rattle.top_answers.specs.Answer.{Due}
+use Rattle.top_answers.specs.Promises.{around}
 use Rattle.saturn_top.specs.Checks.{machine_of, files_of, IsFound, refused, read}
-use Rattle.saturn_top.specs.Seen.{seen}
+use Rattle.top_answers.specs.Seen.{seen}
 use Rattle.saturn_top.proofs.Machines.{input_whole}
-use Rattle.saturn_top.proofs.check.find.Goals as goal
+use Rattle.saturn_top.proofs.alone.find.Goals as goal
 
 pub answer_for-requires : goal.answer_for-requires
 answer_for-requires g c =
@@ -14,12 +15,7 @@ answer_for-requires g c =
 
 pub returns-in-Ok : goal.returns-in-Ok
 returns-in-Ok g c =
-    let outside : Outside = record {
-      held = g.F.Files.held c.args.files.now;
-      firm = g.F.Files.firm c.args.files.now;
-      faults_before = g.F.Files.faults c.args.files.now;
-      faults_after = g.F.Files.faults c.read_input.new.files;
-    } in
+    let outside : Outside = around (g.F.Files.held c.args.files.now) (g.F.Files.firm c.args.files.now) (g.F.Files.faults c.args.files.now) (g.F.Files.faults c.read_input.new.files) in
     let same : c.as_slice.result.now ≡ c.args.options.now.files.items = search rules in
     let P : List (Bor (List ℕ)) → Type 0 =
     λ names. IsInput outside.held (machine_of c.args.options.now) (map (λ name. name.now) names) c.in-Ok.input in
@@ -30,12 +26,7 @@ returns-in-Ok g c =
 
 pub returns-in-Err : goal.returns-in-Err
 returns-in-Err g c =
-    let outside : Outside = record {
-      held = g.F.Files.held c.args.files.now;
-      firm = g.F.Files.firm c.args.files.now;
-      faults_before = g.F.Files.faults c.args.files.now;
-      faults_after = g.F.Files.faults c.read_input.new.files;
-    } in
+    let outside : Outside = around (g.F.Files.held c.args.files.now) (g.F.Files.firm c.args.files.now) (g.F.Files.faults c.args.files.now) (g.F.Files.faults c.read_input.new.files) in
     let same : c.as_slice.result.now ≡ c.args.options.now.files.items = search rules in
     let P : List (Bor (List ℕ)) → Type 0 =
     λ names. Refuse outside (machine_of c.args.options.now) (map (λ name. name.now) names) c.in-Err.why in

@@ -2,8 +2,8 @@ use Rattle.std.proofs.Common.{rules, ◌≡◌, List, map, subst, string_bytes, 
 use Rattle.std.specs.declared.alloc.Global.{Global}
 use Rattle.std.proofs.lemmas.Result.{IfOk-weaker}
 use Rattle.saturn_top.specs.Checks.{Ask, found}
-use Rattle.saturn_top.specs.Seen.{seen}
-use Rattle.saturn_top.proofs.check.answer.Goals as goal
+use Rattle.top_answers.specs.Seen.{seen}
+use Rattle.saturn_top.proofs.alone.answer.Goals as goal
 
 pub returns-in-Ok : goal.returns-in-Ok
 returns-in-Ok g c =
