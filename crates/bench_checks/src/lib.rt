@@ -8,5 +8,5 @@ mod lines;
 mod program;
 mod trees;
 
-pub use lines::lines_alone;
+pub use lines::{lines_alone, lines_by};
 pub use program::{NoProgram, generated};

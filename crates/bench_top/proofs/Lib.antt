@@ -1,1 +1,1 @@
-mod Owes
+mod Owing

@@ -10,6 +10,7 @@ use Rattle.saturn_words.specs.Words.{faults, AskForNothing, CallForHelp, HaveFau
 use Rattle.top_answers.specs.declared.status.Status.{Status}
 use Rattle.top_answers.specs.declared.status.Status.TheVariants.{Clean, Reports, Refused, BadWords, ReadFault, WriteFault, Memory, Helped}
 use Rattle.top_answers.specs.Answer.{Due, ToOutput, ToErrors}
+use Rattle.top_answers.specs.Promises.{Wording}
 use Rattle.top_answers.specs.Lines.{limit_tail, twice_tail}
 use Rattle.top_answers.specs.Refusals.{due_of_refusal, refused_with}
 use Rattle.bench_checks.specs.declared.program.NoProgram.{NoProgram}
@@ -62,18 +63,12 @@ pub data IsDue (words : List (List ℕ)) : Due → Type 0 where
   bad_words : (bytes : List ℕ) → AreBad words → IsDue words (ToErrors BadWords bytes)
   found : (asked : BenchWords) (due : Due) → Ask words asked → IsFound asked.functions asked.seed due → IsDue words due
 
--- ---- answers
+-- what the words are; they name no file
+abbrev pub wording : (words : List (List ℕ)) → Wording
+wording words =
+    record { AskForHelp = AskForHelp words; AreBad = AreBad words; AreGood = AreGood words; NamesFile = λ name. ⊥ }
 
--- the answers that come without a fault and with good words
-abbrev pub is_told : Status → Bool
-is_told Clean = true
-is_told Refused = true
-is_told Memory = true
-is_told Reports = false
-is_told BadWords = false
-is_told ReadFault = false
-is_told WriteFault = false
-is_told Helped = false
+-- ---- answers
 
 -- the answers that come: with reports too the answer is that of a text without them, and no file is read
 abbrev pub may_answer : Status → Bool

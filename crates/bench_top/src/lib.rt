@@ -1,10 +1,14 @@
-//! The top call of the measured check: words in, lines of counts and a status out.
+//! The top calls of the measured check: words in, lines of counts and a status out.
 //!
-//! `bench` is the call of `saturn_bench`: it reads the words (`saturn_words`), counts what a check of the generated
-//! program finds (`bench_checks`) or makes the line of a refusal, and writes (`top_answers`). `specs/Bench.antt` says
-//! which answer is due when.
+//! `alone` has the call that works on the calling thread, `workers` the call of `saturn_bench`, and `found` what both
+//! have in common. They read the words (`saturn_words`), count what a check of the generated program finds
+//! (`bench_checks`) or make the line of a refusal, and write (`top_answers`). `specs/Bench.antt` says which answer is due
+//! when.
 #![tactic(auto)]
 
-mod bench;
+mod alone;
+mod found;
+mod workers;
 
-pub use bench::bench_alone;
+pub use alone::bench_alone;
+pub use workers::bench_main;

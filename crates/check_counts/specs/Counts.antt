@@ -57,15 +57,11 @@ counts_of vs = record {
 -- ---- the lines
 
 -- a word, a space, and a number
-abbrev pub line : (word : List ℕ) → ℕ → List ℕ
+unfoldable pub line : (word : List ℕ) → ℕ → List ℕ
 line word n = word ++ (codes " " ++ (decimal n ++ codes "\n"))
 
 unfoldable pub counts_text : Counts → List ℕ
 counts_text c =
-    line (codes "functions") c.functions
-    ++ (line (codes "skipped") c.skipped
-    ++ (line (codes "rows") c.rows
-    ++ (line (codes "double") c.reports.double
-    ++ (line (codes "ambiguous") c.reports.ambiguous
-    ++ (line (codes "inner") c.reports.inner
-    ++ line (codes "leak") c.reports.leak)))))
+    line (codes "functions") c.functions ++ line (codes "skipped") c.skipped ++ line (codes "rows") c.rows
+    ++ line (codes "double") c.reports.double ++ line (codes "ambiguous") c.reports.ambiguous
+    ++ line (codes "inner") c.reports.inner ++ line (codes "leak") c.reports.leak

@@ -5,7 +5,7 @@ use Rattle.top_answers.specs.Seen.{seen}
 use Rattle.bench_checks.specs.declared.program.NoProgram.{NoProgram}
 use Rattle.bench_checks.specs.Bench.{AreLines, HasNoProgram}
 use Rattle.bench_top.specs.Bench.{counted, refused}
-use Rattle.bench_top.proofs.bench.found.Goals as goal
+use Rattle.bench_top.proofs.found.answer_of.Goals as goal
 
 pub returns-in-Ok : goal.returns-in-Ok
 returns-in-Ok c count seed lines none =
