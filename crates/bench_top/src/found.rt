@@ -13,7 +13,7 @@ use top_answers::{Answer, Status, limit_line, name_line, refused};
 
 // What is due where there is no program.
 fn without_program(alloc: Global, why: NoProgram) -> Result<Answer, OutOfMemory>
-    ensures { IfOk result (λ answer. due_of why.entry ≡ Some (seen answer)) }
+    ensures { IfOk result (λ answer. due_of why ≡ Some (seen answer)) }
 {
     match why {
         NoProgram::Refused(why) => refused(alloc, b"saturn_bench", why),
@@ -31,7 +31,7 @@ fn without_program(alloc: Global, why: NoProgram) -> Result<Answer, OutOfMemory>
 
 /// What is due for a generated program: these are its lines, or why there is none.
 pub fn answer_of(alloc: Global, lines: Result<Vec<u8>, NoProgram>) -> Result<Answer, OutOfMemory>
-    ensures { (count seed : ℕ) → IfOk lines.entry (λ t. AreLines count seed t.items) → IfErr lines.entry (HasNoProgram count seed)
+    ensures { (count seed : ℕ) → IfOk lines (λ t. AreLines count seed t.items) → IfErr lines (HasNoProgram count seed)
         → IfOk result (λ answer. IsFound count seed (seen answer)) }
 {
     match lines {
