@@ -7,7 +7,8 @@ use std::test::Fail;
 #[test]
 fn the_first_function_that_would_free_loses(rt: HostRuntime) -> Result<(), Fail> {
     let text = bench_text(rt.alloc(), 1, 7)?;
-    let lines = b"typedef struct{int v;}spinlock_t;\nvoid f0(int n){char*p=kmalloc(n,0);if(n)kfree(p);}\n";
+    let lines =
+        b"typedef struct{int v;}spinlock_t;\nvoid f0(int n){char*p=kmalloc(n,0);if(n)kfree(p);}\n";
     assert_eq!(rt; text.as_slice(), lines.as_slice());
     Ok(())
 }
@@ -28,7 +29,11 @@ fn small_texts_give_a_program(rt: HostRuntime) -> Result<(), Fail> {
     for count in 1..20 {
         for seed in 0..8 {
             match generated(rt.alloc(), count, seed) {
-                Ok((program, _plan)) => assert_eq!(rt; program.functions.len(), count as usize, "{count} {seed}"),
+                Ok((program, _plan)) => assert_eq!(rt;
+                    program.functions.len(),
+                    count as usize,
+                    "{count} {seed}"
+                ),
                 Err(_) => assert!(rt; false, "{count} {seed}"),
             }
         }

@@ -11,7 +11,7 @@ returns-then-asked-gt1 g c =
     let P : List (String Global) → Type 0 = λ words. Ask (map string_bytes words) c.in-Ok.asked in
     let ask : Ask (map string_bytes c.args.words.now.items) c.in-Ok.asked = subst P same c.in-Ok.ensures.asked in
     IfOk-weaker c.answer_of.result _ _ (λ answer is. found c.in-Ok.asked (seen answer) ask is)
-    (c.answer_of.ensures c.in-Ok.asked.functions c.in-Ok.asked.seed c.lines_by.ensures.lines c.lines_by.ensures.none)
+    (c.answer_of.ensures c.in-Ok.asked.functions c.in-Ok.asked.seed c.lines_by-lines.ensures.lines c.lines_by-lines.ensures.none)
 
 pub returns-else-asked-gt1 : goal.returns-else-asked-gt1
 returns-else-asked-gt1 g c =
