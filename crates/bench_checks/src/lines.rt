@@ -18,6 +18,12 @@ use sum_rows::Verdict;
 use whole_checks::{Analysis, verdicts_alone, verdicts_by};
 use work_pool::Gate;
 
+/// So many turns of a loop are run at most.
+const DEPTH: u32 = 2;
+
+/// Over so many pointers in a row objects at entry are reached.
+const REACH: u32 = 2;
+
 // The seven lines of the counts of these verdicts.
 fn lines_of(alloc: Global, verdicts: RowList<Verdict>) -> Result<Vec<u8>, OutOfMemory>
     ensures { IfOk result (λ t. t.items ≡ counts_text (counts_of (map arc_value verdicts.list.items))) }
@@ -35,8 +41,8 @@ fn counted(alloc: Global, program: &Program, plan: &Plan) -> Result<Vec<u8>, Out
         alloc,
         program,
         plan,
-        depth: 2,
-        reach: 2,
+        depth: DEPTH,
+        reach: REACH,
     };
     let verdicts = verdicts_alone(&work)?;
     lines_of(alloc, verdicts)
@@ -60,8 +66,8 @@ fn counted_by<R: Threads + Wait + Sync, G: Gate + Sync>(
         alloc,
         program,
         plan,
-        depth: 2,
-        reach: 2,
+        depth: DEPTH,
+        reach: REACH,
     };
     let verdicts = verdicts_by(rt, &work, jobs, gate)?;
     lines_of(alloc, verdicts)
