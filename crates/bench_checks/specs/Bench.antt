@@ -73,7 +73,7 @@ HasNoProgram count seed no.OutOfMemory = ⊤
 -- ---- the counts
 
 -- the seven lines of a typed program, at depth 2 and reach 2
-abbrev pub counts_lines : Program → List ℕ
+unfoldable pub counts_lines : Program → List ℕ
 counts_lines p = counts_text (counts_of (verdicts p 2 2))
 
 -- the lines of the generated program
