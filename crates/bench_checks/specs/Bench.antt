@@ -1,7 +1,7 @@
 -- The check of a generated program: the generated text is the one file of a check without a machine of states, with the
 -- widths of ILP32, depth 2 and reach 2. What is told of it are the seven lines of counts; or the first reason why there
 -- are none, which is that of a check.
-use Rattle.std.specs.Prelude.{◌≡◌, ⊤, ℕ, List, [], ◌∷◌, Option, Some, None, codes}
+use Rattle.std.specs.Prelude.{◌≡◌, ⊤, ℕ, List, [], ◌∷◌, Some, None, codes}
 use Rattle.plan_core.specs.declared.plan.Plan.{Plan}
 use Rattle.bench_programs.specs.Programs.{bench_text}
 use Rattle.sc_input.specs.declared.input.Input.{Input}
