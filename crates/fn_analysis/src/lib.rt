@@ -11,5 +11,6 @@ mod search;
 mod showing;
 mod trying;
 
-pub use analysis::analyse;
+pub use analysis::{analyse, context_of};
+pub use showing::error_text;
 pub use trying::Trying;
