@@ -2,7 +2,8 @@
 //! and the text; or the first reason why there is none.
 //!
 //! `sources` has what is checked, `planned` the typed program with its plan, `analysis` the verdict of a function as a
-//! work over the plan, `checked` the whole, and `said` what comes out.
+//! work over the plan, `verdicts` those of all functions, alone or by workers, `checked` the whole, and `said` what comes
+//! out.
 #![tactic(auto)]
 
 mod analysis;
@@ -10,8 +11,11 @@ mod checked;
 mod planned;
 mod said;
 mod sources;
+mod verdicts;
 
 pub use analysis::Analysis;
-pub use checked::say;
+pub use checked::{say, say_by};
+pub use planned::{NoPlan, planned};
 pub use said::Said;
 pub use sources::Sources;
+pub use verdicts::{verdicts_alone, verdicts_by};
