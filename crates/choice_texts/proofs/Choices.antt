@@ -11,7 +11,7 @@ use Rattle.std.proofs.lemmas.Bool.{cases_lt}
 use Rattle.report_text.specs.Shown.{four_bits, hex_digit, hex_digits, choice_text}
 use Rattle.sc_world.specs.Choices.{first_choice, IsLeast}
 use Rattle.choice_texts.specs.Choices.{IsSpelled, NoneIsSpelled, is_spelled, choice_spelled}
-use Rattle.choice_texts.proofs.Digits.{digits_of_same, bits_of_same}
+use Rattle.choice_texts.proofs.Hexadecimal.{digits_of_same, bits_of_same}
 
 -- how many digits a choice has
 abbrev pub count_of : ℕ → ℕ

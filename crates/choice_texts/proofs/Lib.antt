@@ -1,2 +1,2 @@
-mod Digits
+mod Hexadecimal
 mod Choices

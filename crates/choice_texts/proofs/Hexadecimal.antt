@@ -1,5 +1,5 @@
 -- Hexadecimal digits, and the bits that they stand for.
-use Rattle.std.proofs.Common.{◌≡◌, ◌∙◌, ◌⊎◌, ◌×◌, ℕ, zero, suc, ◌+◌, ◌-◌, ◌*◌, ◌/◌, ◌%◌, ◌<◌, ◌≤◌, Bool, true, false, List, [], ◌∷◌, ◌++◌, length, get_or, map, refl, sym, subst, ap, arith, inl, inr, ⊎_elim}
+use Rattle.std.proofs.Common.{◌≡◌, ◌∙◌, ◌⊎◌, ℕ, zero, suc, ◌+◌, ◌-◌, ◌*◌, ◌/◌, ◌%◌, ◌<◌, ◌≤◌, Bool, true, false, List, [], ◌∷◌, ◌++◌, length, get_or, map, zero-add, refl, sym, subst, ap, arith, inl, inr, ⊎_elim}
 use Rattle.std.specs.Prelude.{nat_le, nat_lt, nat_eq, if◌then◌else◌}
 use Rattle.std.specs.List.{range_with_len}
 use Rattle.std.proofs.lemmas.Bool.{cases_lt, lt-ltb, le-ltb, le-leb, lt-leb, eq-eqb, ne_eqb}
@@ -82,7 +82,7 @@ pub digits_of_same : (one other : List Bool) (count : ℕ) → ((at : ℕ) → a
 digits_of_same one other count same =
     fill_by_all (λ k. hex_digit (four_bits other k)) (hex_digits one count) count 0
     (length-map-range_with_len (λ k. hex_digit (four_bits one k)) 0 count)
-    (λ k inside. get_or-map-range_with_len (λ k. hex_digit (four_bits one k)) 0 count k k 0 inside refl ∙ ap hex_digit (at_digit k inside))
+    (λ k inside. get_or-map-range_with_len (λ k. hex_digit (four_bits one k)) 0 count k k 0 inside (zero-add k) ∙ ap hex_digit (at_digit k inside))
   where
     at_digit : (k : ℕ) → k < count → four_bits one k ≡ four_bits other k
     at_digit k inside =
@@ -105,8 +105,8 @@ bits_of_same one other count same at inside = go (at % 4) refl
 
     digit : hex_digit (four_bits one k) ≡ hex_digit (four_bits other k)
     digit =
-        sym (get_or-map-range_with_len (λ j. hex_digit (four_bits one j)) 0 count k k 0 here refl)
-        ∙ (ap (λ (l : List ℕ). get_or l k 0) same ∙ get_or-map-range_with_len (λ j. hex_digit (four_bits other j)) 0 count k k 0 here refl)
+        sym (get_or-map-range_with_len (λ j. hex_digit (four_bits one j)) 0 count k k 0 here (zero-add k))
+        ∙ (ap (λ (l : List ℕ). get_or l k 0) same ∙ get_or-map-range_with_len (λ j. hex_digit (four_bits other j)) 0 count k k 0 here (zero-add k))
 
     all : AreSame (bit one (4 * k)) (bit one (4 * k + 1)) (bit one (4 * k + 2)) (bit one (4 * k + 3)) (bit other (4 * k)) (bit other (4 * k + 1)) (bit other (4 * k + 2)) (bit other (4 * k + 3))
     all = four_same _ _ _ _ _ _ _ _ (same_digit (four_bits one k) (four_bits other k) digit)
@@ -151,7 +151,7 @@ pub digits_more : (bits : List Bool) (count n : ℕ) (digits : List ℕ) (digit 
     → n < 16 → hex_digit n ≡ digit → hex_digits (bits ++ bits_of n) (count + 1) ≡ digits ++ digit ∷ []
 unfolding bits_of
 digits_more bits count n digits digit long so_far is spelled =
-    map-range_with_len_more (λ k. hex_digit (four_bits (bits ++ bits_of n) k)) 0 count count refl
+    map-range_with_len_more (λ k. hex_digit (four_bits (bits ++ bits_of n) k)) 0 count count (zero-add count)
     ∙ (ap (λ (l : List ℕ). l ++ hex_digit (four_bits (bits ++ bits_of n) count) ∷ [])
     (digits_of_same (bits ++ bits_of n) bits count (λ at inside. get_or_append_left bits (bits_of n) false at (omega (arith, long, inside))) ∙ so_far)
     ∙ ap (λ (d : ℕ). digits ++ d ∷ []) (ap hex_digit at_end ∙ spelled))
@@ -173,4 +173,4 @@ pub no_digit : (choice : List Bool) (digits : List ℕ) (k : ℕ) → k < length
     → ((n : ℕ) → n < 16 → hex_digit n ≡ get_or digits k 0 → ⊥) → hex_digits choice (length digits) ≡ digits → ⊥
 no_digit choice digits k inside other same =
     other (four_bits choice k) (four_bits_small choice k)
-    (sym (get_or-map-range_with_len (λ j. hex_digit (four_bits choice j)) 0 (length digits) k k 0 inside refl) ∙ ap (λ (l : List ℕ). get_or l k 0) same)
+    (sym (get_or-map-range_with_len (λ j. hex_digit (four_bits choice j)) 0 (length digits) k k 0 inside (zero-add k)) ∙ ap (λ (l : List ℕ). get_or l k 0) same)

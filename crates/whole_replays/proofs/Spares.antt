@@ -1,0 +1,45 @@
+-- The verdicts of functions that are needed, where those of the others are spared.
+use Rattle.std.proofs.Common.{◌≡◌, ◌∙◌, ℕ, ◌+◌, ◌<◌, Bool, true, false, List, [], ◌∷◌, length, get_or, map, zero-add, refl, sym, subst, ap, arith}
+use Rattle.std.specs.List.{list_any, range_with_len, All}
+use Rattle.std.proofs.lemmas.Bool.{or_parts, cond-false}
+use Rattle.std.proofs.lemmas.List.Elements.{All-head, All-tail, All-contains_itself, All-weaker}
+use Rattle.std.proofs.lemmas.List.FromFn.{get_or-map-range_with_len}
+use Rattle.std.specs.Prelude.{Contains}
+use Rattle.sum_rows.specs.declared.report.Verdict.{Verdict}
+use Rattle.plan_core.specs.Graph.{IsPlan, callees}
+use Rattle.sc_typed.specs.declared.program.Program.{Program}
+use Rattle.program_verdicts.specs.Verdicts.{no_verdict, verdict_in}
+use Rattle.work_pool.specs.Outputs.{outputs_of}
+use Rattle.whole_replays.specs.Spared.{is_spared, verdict_unless_spared, verdict_at}
+
+-- nothing is spared of no function
+pub none_spared : (fs : List ℕ) → list_any (is_spared []) fs ≡ false
+none_spared [] = refl
+none_spared (f ∷ fs) = none_spared fs
+
+module _ (p : Program) (depth reach : ℕ) (spared : List Bool) where
+  pub one_needed : (f : ℕ) → is_spared spared f ≡ false → verdict_unless_spared p depth reach spared f ≡ verdict_in p depth reach f
+  one_needed f is = cond-false (is_spared spared f) no_verdict (verdict_in p depth reach f) is
+
+  pub all_needed : (fs : List ℕ) → list_any (is_spared spared) fs ≡ false
+      → map (verdict_unless_spared p depth reach spared) fs ≡ map (verdict_in p depth reach) fs
+  all_needed [] none = refl
+  all_needed (f ∷ fs) none =
+      let parts = or_parts (is_spared spared f) (list_any (is_spared spared) fs) none in
+      ap (λ (v : Verdict). v ∷ map (verdict_unless_spared p depth reach spared) fs) (one_needed f parts.0)
+      ∙ ap (λ (vs : List Verdict). verdict_in p depth reach f ∷ vs) (all_needed fs parts.1)
+
+-- out of the outputs of all functions those of some
+pub taken : (defined : ℕ → Verdict) (all : List Verdict) (n : ℕ) → all ≡ outputs_of defined n → (fs : List ℕ) → All (λ f. f < n) fs
+    → map (verdict_at all) fs ≡ map defined fs
+taken defined all n are [] inside = refl
+taken defined all n are (f ∷ fs) inside =
+    let here : f < n = All-head (λ g. g < n) f fs inside in
+    ap (λ (v : Verdict). v ∷ map (verdict_at all) fs)
+    (ap (λ (vs : List Verdict). get_or vs f no_verdict) are ∙ get_or-map-range_with_len defined 0 n f f no_verdict here (zero-add f))
+    ∙ ap (λ (vs : List Verdict). defined f ∷ vs) (taken defined all n are fs (All-tail (λ g. g < n) f fs inside))
+
+-- the callees of a function in a plan are functions of it
+pub callees_inside : (rows : List (List ℕ)) → IsPlan rows → (f : ℕ) → All (λ g. g < length rows) (callees rows f)
+callees_inside rows plan f =
+    All-weaker (Contains (callees rows f)) (λ g. g < length rows) (λ g is. plan.inside f g is) (callees rows f) (All-contains_itself (callees rows f))
