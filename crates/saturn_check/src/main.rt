@@ -7,7 +7,7 @@ use sc_base::{OutOfMemory, RealFiles, RealSink};
 use std::io::ErrorKind;
 use std::process::ExitCode;
 use std::{env, io};
-use work_pool::Open;
+use work_pool::FreeGate;
 
 // The words of the command line, the program's name first. A word that is not text is a bad word, as none at all.
 fn words(rt: &HostRuntime) -> Result<Vec<String>, OutOfMemory> {
@@ -36,7 +36,7 @@ fn main(rt: HostRuntime) -> ExitCode {
         &mut files,
         &mut out,
         &mut err,
-        &Open,
+        &FreeGate,
     );
     ExitCode::from(status.number())
 }

@@ -5,8 +5,8 @@ use Rattle.sc_typed.specs.declared.program.Program.{Program}
 use Rattle.sc_check.specs.Typed.{Sources, Typed, typed}
 use Rattle.program_plan.specs.Planned.{edges_of, most_edges}
 use Rattle.program_verdicts.specs.CallGraph as graph
-use Rattle.whole_checks.specs.declared.planned.NoPlan.{NoPlan}
-use Rattle.whole_checks.specs.declared.planned.NoPlan.TheVariants as no_plan
+use Rattle.whole_checks.specs.declared.planning.NoPlan.{NoPlan}
+use Rattle.whole_checks.specs.declared.planning.NoPlan.TheVariants as no_plan
 use Rattle.whole_checks.specs.Said.{said}
 use Rattle.whole_checks.specs.Seen as seen
 

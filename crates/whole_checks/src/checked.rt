@@ -7,7 +7,7 @@ ghost use Rattle.whole_checks.specs.Said.{HasWholeMachine, has_report, said, sai
 ghost use Rattle.whole_checks.specs.Seen as seen;
 
 use crate::analysis::Analysis;
-use crate::planned::{NoPlan, planned};
+use crate::planning::{NoPlan, planned};
 use crate::said::Said;
 use crate::sources::Sources;
 use crate::verdicts::{verdicts_alone, verdicts_by};

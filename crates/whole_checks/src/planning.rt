@@ -3,7 +3,7 @@
 ghost use Rattle.std.specs.Prelude.{◌≡◌, [], IfErr, IfOk, slice_index_or};
 ghost use Rattle.whole_checks.specs.Planned.{IsPlanned, Says};
 ghost use Rattle.whole_checks.specs.Seen as seen;
-ghost use Rattle.whole_checks.specs.declared.planned.NoPlan.TheVariants.{OutOfMemory as NoMemory};
+ghost use Rattle.whole_checks.specs.declared.planning.NoPlan.TheVariants.{OutOfMemory as NoMemory};
 
 use crate::said::Said;
 use crate::sources::Sources;
