@@ -1,6 +1,7 @@
 -- Choices and their spellings.
 use Rattle.std.proofs.Common.{◌≡◌, ◌∙◌, ◌⊎◌, ℕ, zero, suc, ◌+◌, ◌-◌, ◌*◌, ◌/◌, ◌<◌, ◌≤◌, Bool, true, false, not, List, [], ◌∷◌, length, get_or, take, drop, Option, Some, None, refl, sym, subst, ap, arith, inl, inr}
 use Rattle.std.specs.Prelude.{codes, option_map, Vec}
+use Rattle.std.specs.Str.{bytes_eq}
 use Rattle.std.specs.Option.{MatchOption}
 use Rattle.std.specs.declared.alloc.Global.{Global}
 use Rattle.std.proofs.lemmas.Slice.Eq.{bytes_eq-Decides}
@@ -10,6 +11,7 @@ use Rattle.std.proofs.lemmas.List.FromFn.{length-map-range_with_len}
 use Rattle.std.proofs.lemmas.Bool.{cases_lt}
 use Rattle.report_text.specs.Shown.{four_bits, hex_digit, hex_digits, choice_text}
 use Rattle.sc_world.specs.Choices.{first_choice, IsLeast}
+use Rattle.choice_texts.specs.Digits.{HaveBits, HaveNoBits}
 use Rattle.choice_texts.specs.Choices.{IsSpelled, NoneIsSpelled, is_spelled, choice_spelled}
 use Rattle.choice_texts.proofs.Hexadecimal.{digits_of_same, bits_of_same}
 
@@ -76,6 +78,51 @@ not_cut full choice digits bits some fits spelled unset long same =
     ∙ get_or_past choice (bits + at) false (omega (arith, long)))) in
     let wrong : false ≡ true = sym unset ∙ blank in
     (cc)
+
+-- ---- so many digits as a choice of that length has
+
+at_least_one : (bits : ℕ) → (bits ≡ 0 → ⊥) → (bits - 1) / 4 + 1 ≡ count_of bits
+at_least_one zero some = absurd (some refl)
+at_least_one (suc n) some = omega arith
+
+pub not_as_many : (bits : ℕ) (digits : List ℕ) → (bits ≡ 0 → ⊥) → (length digits ≡ (bits - 1) / 4 + 1 → ⊥) → NoneIsSpelled bits digits
+not_as_many bits digits some other choice long same =
+    other (ap length (sym same) ∙ (count_is choice bits long some ∙ sym (at_least_one bits some)))
+
+module _ (bits : ℕ) (digits : List ℕ) (some : bits ≡ 0 → ⊥) (many : length digits ≡ (bits - 1) / 4 + 1) where
+  as_many : length digits ≡ count_of bits
+  as_many = many ∙ at_least_one bits some
+
+  pub no_digits : HaveNoBits digits → NoneIsSpelled bits digits
+  no_digits none choice long same =
+      none choice (ap (hex_digits choice) as_many ∙ (sym (text_is choice bits long some) ∙ same))
+
+  module _ (full : List Bool) (have : HaveBits digits full) where
+    full_long : length full ≡ 4 * count_of bits
+    full_long = have.long ∙ ap (λ (k : ℕ). 4 * k) as_many
+
+    full_spelled : hex_digits full (count_of bits) ≡ digits
+    full_spelled = ap (hex_digits full) (sym as_many) ∙ have.spelled
+
+    fits : bits ≤ length full
+    fits = omega (arith, full_long)
+
+    pub cut_is : list_all not (drop bits full) ≡ true → IsSpelled bits digits (take bits full)
+    cut_is blank = record { long = length-take-le bits full fits; spelled = cut_text full digits bits some fits full_spelled blank }
+
+    pub none_is : list_all not (drop bits full) ≡ false → NoneIsSpelled bits digits
+    none_is unset choice long same = not_cut full choice digits bits some full_long full_spelled unset long same
+
+-- ---- no bits
+
+pub none_found : (bits : ℕ) (digits : List ℕ) → bits ≡ 0 → bytes_eq digits (codes "none") ≡ true → IsSpelled bits digits []
+none_found bits digits zero same = record { long = sym zero; spelled = sym ((bytes_eq-Decides digits (codes "none")).0 same) }
+
+pub none_missed : (bits : ℕ) (digits : List ℕ) → bits ≡ 0 → bytes_eq digits (codes "none") ≡ false → NoneIsSpelled bits digits
+none_missed bits digits zero other [] long same =
+    let wrong : false ≡ true = sym other ∙ (bytes_eq-Decides digits (codes "none")).1 (sym same) in
+    cc
+none_missed bits digits zero other (b ∷ bs) long same = omega (arith, long, zero)
 
 -- ---- the choice that is spelled so
 

@@ -1,12 +1,12 @@
 -- Hexadecimal digits, and the bits that they stand for.
-use Rattle.std.proofs.Common.{◌≡◌, ◌∙◌, ◌⊎◌, ℕ, zero, suc, ◌+◌, ◌-◌, ◌*◌, ◌/◌, ◌%◌, ◌<◌, ◌≤◌, Bool, true, false, List, [], ◌∷◌, ◌++◌, length, get_or, map, zero-add, refl, sym, subst, ap, arith, inl, inr, ⊎_elim}
+use Rattle.std.proofs.Common.{◌≡◌, ◌∙◌, ◌⊎◌, ℕ, zero, suc, ◌+◌, ◌-◌, ◌*◌, ◌/◌, ◌%◌, ◌<◌, ◌≤◌, Bool, true, false, List, [], ◌∷◌, ◌++◌, length, get_or, take, map, zero-add, refl, sym, subst, ap, arith, inl, inr, ⊎_elim}
 use Rattle.std.specs.Prelude.{nat_le, nat_lt, nat_eq, if◌then◌else◌}
 use Rattle.std.specs.List.{range_with_len}
 use Rattle.std.proofs.lemmas.Bool.{cases_lt, lt-ltb, le-ltb, le-leb, lt-leb, eq-eqb, ne_eqb}
-use Rattle.std.proofs.lemmas.List.{get_or_append_left, get_or-append_right, get_or_past}
+use Rattle.std.proofs.lemmas.List.{get_or_append_left, get_or-append_right, length-append, length-take-le, take_more, take_all}
 use Rattle.std.proofs.lemmas.List.FromFn.{length-map-range_with_len, get_or-map-range_with_len, map-range_with_len_more, fill_by_all}
 use Rattle.report_text.specs.Shown.{bit_number, four_bits, hex_digit, hex_digits}
-use Rattle.choice_texts.specs.Digits.{bits_of}
+use Rattle.choice_texts.specs.Digits.{bits_of, IsDigit, IsNoDigit, HaveBits, HaveNoBits}
 
 -- ---- bits as numbers
 
@@ -68,6 +68,51 @@ same_digit m n e = go (cases_lt m 10) (cases_lt n 10)
     go (inl a) (inr b) = let x : 48 + m ≡ 87 + n = sym (low m a) ∙ (e ∙ high n b) in omega (arith, x, a, b)
     go (inr a) (inl b) = let x : 87 + m ≡ 48 + n = sym (high m a) ∙ (e ∙ low n b) in omega (arith, x, a, b)
     go (inr a) (inr b) = let x : 87 + m ≡ 87 + n = sym (high m a) ∙ (e ∙ high n b) in omega (arith, x)
+
+-- which bytes are digits
+
+pub is_decimal : (byte : ℕ) → 48 ≤ byte → byte ≤ 57 → IsDigit byte (byte - 48)
+is_decimal byte from to = record {
+  small = omega (arith, from, to);
+  spelled = low (byte - 48) (omega (arith, from, to)) ∙ omega (arith, from);
+}
+
+pub is_letter : (byte : ℕ) → 97 ≤ byte → byte ≤ 102 → IsDigit byte (byte - 97 + 10)
+is_letter byte from to = record {
+  small = omega (arith, from, to);
+  spelled = high (byte - 97 + 10) (omega (arith, from)) ∙ omega (arith, from);
+}
+
+-- a digit is one of these bytes
+either : (n : ℕ) → n < 16 → ((48 ≤ hex_digit n) × (hex_digit n ≤ 57)) ⊎ ((97 ≤ hex_digit n) × (hex_digit n ≤ 102))
+either n small = go (cases_lt n 10)
+  where
+    go : (n < 10) ⊎ (10 ≤ n) → ((48 ≤ hex_digit n) × (hex_digit n ≤ 57)) ⊎ ((97 ≤ hex_digit n) × (hex_digit n ≤ 102))
+    go (inl a) = let e = low n a in inl (omega (arith, e), omega (arith, e, a))
+    go (inr a) = let e = high n a in inr (omega (arith, e, a), omega (arith, e, small))
+
+pub is_below : (byte : ℕ) → byte < 48 → IsNoDigit byte
+is_below byte to n small e = go (either n small)
+  where
+    go : ((48 ≤ hex_digit n) × (hex_digit n ≤ 57)) ⊎ ((97 ≤ hex_digit n) × (hex_digit n ≤ 102)) → ⊥
+    go (inl a) = let l = a.0 in omega (arith, e, l, to)
+    go (inr a) = let l = a.0 in omega (arith, e, l, to)
+
+pub is_between : (byte : ℕ) → 57 < byte → byte < 97 → IsNoDigit byte
+is_between byte from to n small e = go (either n small)
+  where
+    go : ((48 ≤ hex_digit n) × (hex_digit n ≤ 57)) ⊎ ((97 ≤ hex_digit n) × (hex_digit n ≤ 102)) → ⊥
+    go (inl a) = let l = a.1 in omega (arith, e, l, from)
+    go (inr a) = let l = a.0 in omega (arith, e, l, to)
+
+pub is_above : (byte : ℕ) → 102 < byte → IsNoDigit byte
+is_above byte from n small e = go (either n small)
+  where
+    go : ((48 ≤ hex_digit n) × (hex_digit n ≤ 57)) ⊎ ((97 ≤ hex_digit n) × (hex_digit n ≤ 102)) → ⊥
+    go (inl a) = let l = a.1 in omega (arith, e, l, from)
+    go (inr a) = let l = a.1 in omega (arith, e, l, from)
+
+pub ruleset digit_cases = (is_decimal, is_letter, is_below, is_between, is_above)
 
 -- the bits of a choice at a digit
 abbrev bit : List Bool → ℕ → Bool
@@ -168,9 +213,32 @@ digits_more bits count n digits digit long so_far is spelled =
         let whole = bits_are n is in
         omega (arith, a, b, c, d, whole)
 
--- a byte that is no digit is no digit of any choice
-pub no_digit : (choice : List Bool) (digits : List ℕ) (k : ℕ) → k < length digits
-    → ((n : ℕ) → n < 16 → hex_digit n ≡ get_or digits k 0 → ⊥) → hex_digits choice (length digits) ≡ digits → ⊥
-no_digit choice digits k inside other same =
-    other (four_bits choice k) (four_bits_small choice k)
-    (sym (get_or-map-range_with_len (λ j. hex_digit (four_bits choice j)) 0 (length digits) k k 0 inside (zero-add k)) ∙ ap (λ (l : List ℕ). get_or l k 0) same)
+-- ---- from digit to digit
+
+pub bits_none : HaveBits [] []
+bits_none = record { long = refl; spelled = refl }
+
+pub bits_more : (digits : List ℕ) (at d : ℕ) (bits after : List Bool) (n : ℕ) → at < length digits → HaveBits (take at digits) bits
+    → IsDigit (get_or digits at d) n → after ≡ bits ++ bits_of n → HaveBits (take (at + 1) digits) after
+unfolding bits_of
+bits_more digits at d bits after n inside so_far is put =
+    let before : length (take at digits) ≡ at = length-take-le at digits (omega (arith, inside)) in
+    let behind : length (take (at + 1) digits) ≡ at + 1 = length-take-le (at + 1) digits (omega (arith, inside)) in
+    let long : length bits ≡ 4 * at = so_far.long ∙ ap (λ (k : ℕ). 4 * k) before in
+    let spelled : hex_digits bits at ≡ take at digits = ap (hex_digits bits) (sym before) ∙ so_far.spelled in
+    let more : hex_digits (bits ++ bits_of n) (at + 1) ≡ take (at + 1) digits =
+    digits_more bits at n (take at digits) (get_or digits at d) long spelled is.small is.spelled ∙ sym (take_more digits at d inside) in
+    let longer : length (bits ++ bits_of n) ≡ length bits + 4 = length-append bits (bits_of n) in
+    record {
+      long = ap length put ∙ omega (arith, long, longer, behind);
+      spelled = ap (λ (l : List Bool). hex_digits l (length (take (at + 1) digits))) put ∙ (ap (hex_digits (bits ++ bits_of n)) behind ∙ more);
+    }
+
+pub bits_all : (digits : List ℕ) (at : ℕ) (bits : List Bool) → length digits ≤ at → HaveBits (take at digits) bits → HaveBits digits bits
+bits_all digits at bits past so_far = subst (λ (l : List ℕ). HaveBits l bits) (take_all at digits past) so_far
+
+-- where a byte is no digit, no bits are spelled so
+pub no_bits : (digits : List ℕ) (at d : ℕ) → at < length digits → IsNoDigit (get_or digits at d) → HaveNoBits digits
+no_bits digits at d inside other bits same =
+    other (four_bits bits at) (four_bits_small bits at)
+    (sym (get_or-map-range_with_len (λ j. hex_digit (four_bits bits j)) 0 (length digits) at at d inside (zero-add at)) ∙ ap (λ (l : List ℕ). get_or l at d) same)

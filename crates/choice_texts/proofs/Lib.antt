@@ -1,2 +1,2 @@
-mod Hexadecimal
-mod Choices
+pub mod Hexadecimal
+pub mod Choices

@@ -8,16 +8,23 @@ use sc_base::OutOfMemory;
 use std::alloc::Global;
 
 // The number of a hexadecimal digit; none of another byte.
+#[tactic(auto, using(crate::proofs::Hexadecimal::digit_cases))]
 fn number_of(byte: u8) -> Option<u8>
     ensures { MatchOption result (IsNoDigit byte) (IsDigit byte) }
 {
-    if byte >= b'0' && byte <= b'9' {
-        Some(byte - b'0')
-    } else if byte >= b'a' && byte <= b'f' {
-        Some(byte - b'a' + 10)
-    } else {
-        None
+    if byte < b'0' {
+        return None;
     }
+    if byte <= b'9' {
+        return Some(byte - b'0');
+    }
+    if byte < b'a' {
+        return None;
+    }
+    if byte <= b'f' {
+        return Some(byte - b'a' + 10);
+    }
+    None
 }
 
 // Puts the four bits of a number.

@@ -41,6 +41,7 @@ fn read_bits(alloc: Global, digits: &[u8], bits: usize) -> Result<Option<Vec<boo
 }
 
 // The choice of so many bits that digits spell.
+#[tactic(auto, using(crate::proofs::Choices::none_found, crate::proofs::Choices::none_missed))]
 fn read(alloc: Global, digits: &[u8], bits: u32) -> Result<Option<Vec<bool>>, OutOfMemory>
     ensures { IfOk result (λ found. MatchOption found (NoneIsSpelled bits digits.now) (λ choice. IsSpelled bits digits.now choice.items)) }
 {

@@ -4,7 +4,6 @@ ghost use Rattle.std.specs.Prelude.{◌≡◌, IfOk, Ok, Some, slice_get};
 ghost use Rattle.sc_base.specs.declared.skip.Skip.TheVariants as skip;
 ghost use Rattle.sum_rows.specs.declared.report.Verdict.TheVariants as verdicts;
 ghost use Rattle.fsm_spec.specs.Table.{IsWhole};
-ghost use Rattle.fsm_spec.specs.Lock.{locks as machine_of_locks};
 ghost use Rattle.sc_gather.specs.Seen as seen;
 ghost use Rattle.sc_world.specs.Verdict as spec;
 ghost use Rattle.sc_world.specs.Places as laying;
@@ -15,7 +14,7 @@ ghost use Rattle.fn_analysis.specs.Analysis.{HasWholeMachine};
 
 use crate::trying::Trying;
 use fn_verdict::verdict;
-use fsm_spec::{MachineSpec, locks, whole_machines};
+use fsm_spec::{locks, whole_machines};
 use layout_base::{Ground, Places};
 use location_texts::Texts;
 use places::{PlaceAnswer, places};
@@ -100,47 +99,6 @@ fn of_body<'p>(
     }
 }
 
-/// What is read of a program for the function with that number, whose kept callees these are, ascending, with the
-/// verdict of each. A program without a machine of states has that of locks, which is given.
-#[tactic(auto, unfolding(sc_gather::specs::Seen::source_of, sc_world::specs::Programs::source_by))]
-pub fn context_of<'p>(
-    program: &'p Program,
-    locks: &'p MachineSpec,
-    function: u32,
-    kept: &'p [u32],
-    verdicts: &'p [Verdict],
-    depth: u32,
-    reach: u32,
-) -> Context<'p, 'p>
-    requires locks { locks.now ≡ machine_of_locks }
-    ensures source { seen.source_of result ≡ source program.now function kept.now verdicts.now depth reach }
-    ensures same { (result.program.now ≡ program.now) × (result.function ≡ function) × (result.kept.now ≡ kept.now)
-        × (result.verdicts.now ≡ verdicts.now) × (result.depth ≡ depth) × (result.reach ≡ reach) }
-{
-    match &program.machine {
-        Some(machine) => Context {
-            program,
-            machine,
-            tries: false,
-            function,
-            kept,
-            verdicts,
-            depth,
-            reach,
-        },
-        None => Context {
-            program,
-            machine: locks,
-            tries: true,
-            function,
-            kept,
-            verdicts,
-            depth,
-            reach,
-        },
-    }
-}
-
 /// The verdict of the function with that number, whose kept callees these are, ascending, with the verdict of each: its
 /// skip; or its summary and its reports, by trying every choice. A number that no function has is answered by a skip.
 #[tactic(auto, unfolding(sc_gather::specs::Seen::source_of, sc_world::specs::Programs::source_by))]
@@ -166,10 +124,40 @@ pub fn analyse<'p>(
     if let TBody::Skipped(skip) = &found.body {
         return Ok(Verdict::Skipped(*skip));
     }
-    let locks = match locks(alloc) {
-        Ok(locks) => locks,
-        Err(_) => return Err(OutOfMemory),
-    };
-    let here = context_of(program, &locks, function, kept, verdicts, depth, reach);
-    of_body(alloc, &here, found)
+    match &program.machine {
+        Some(machine) => of_body(
+            alloc,
+            &Context {
+                program,
+                machine,
+                tries: false,
+                function,
+                kept,
+                verdicts,
+                depth,
+                reach,
+            },
+            found,
+        ),
+        None => {
+            let machine = match locks(alloc) {
+                Ok(machine) => machine,
+                Err(_) => return Err(OutOfMemory),
+            };
+            of_body(
+                alloc,
+                &Context {
+                    program,
+                    machine: &machine,
+                    tries: true,
+                    function,
+                    kept,
+                    verdicts,
+                    depth,
+                    reach,
+                },
+                found,
+            )
+        }
+    }
 }

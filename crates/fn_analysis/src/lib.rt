@@ -11,6 +11,5 @@ mod search;
 mod showing;
 mod trying;
 
-pub use analysis::{analyse, context_of};
-pub use showing::error_text;
+pub use analysis::analyse;
 pub use trying::Trying;

@@ -13,24 +13,7 @@ use run_answers::says;
 use run_questions::Query;
 use sc_base::{List, OutOfMemory};
 use sc_interp::Outcome;
-use std::alloc::Global;
 use sum_rows::Shown;
-
-/// The text of the location of the error with which a run ended; none where there is no error.
-pub fn error_text(
-    alloc: Global,
-    texts: &Texts,
-    outcome: Outcome,
-) -> Result<List<u8>, OutOfMemory>
-    ensures { IfOk result (λ t. t ≡ spec.error_text (named.texts texts.now) (ended outcome)) }
-{
-    match outcome {
-        Outcome::Error(at) | Outcome::Inner(at) => {
-            Ok(List::from_vec(text_at(alloc, texts, at)?))
-        }
-        Outcome::Exit(_) | Outcome::Aside(_) => Ok(List::new(alloc)),
-    }
-}
 
 impl<'p, 'f> Runs<'p, '_, 'f> {
     /// What its locations are called.
@@ -59,6 +42,18 @@ impl<'p, 'f> Runs<'p, '_, 'f> {
         )
     }
 
+    // The text of the location of an error; none where there is no error.
+    fn error_text(&self, outcome: Outcome) -> Result<List<u8>, OutOfMemory>
+        ensures { IfOk result (λ t. t ≡ spec.error_text (texts_of self.now) (ended outcome)) }
+    {
+        match outcome {
+            Outcome::Error(at) | Outcome::Inner(at) => {
+                Ok(List::from_vec(text_at(self.alloc, &self.texts(), at)?))
+            }
+            Outcome::Exit(_) | Outcome::Aside(_) => Ok(List::new(self.alloc)),
+        }
+    }
+
     /// The run on this choice, as it is shown.
     pub fn show(&mut self, choice: &[bool]) -> Result<Shown, OutOfMemory>
         ensures shown { IfOk result (λ s. s ≡ spec.shown_over (texts_of self.old)
@@ -66,7 +61,7 @@ impl<'p, 'f> Runs<'p, '_, 'f> {
         ensures same { AreOf self.old self.new }
     {
         let outcome = self.machine.run(choice);
-        let text = error_text(self.alloc, &self.texts(), outcome)?;
+        let text = self.error_text(outcome)?;
         let trace = self.machine.trace().to_vec(self.alloc)?;
         Ok(Shown {
             choice: List::from_vec(choice.to_vec(self.alloc)?),

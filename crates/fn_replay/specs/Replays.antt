@@ -1,5 +1,6 @@
 -- The replay of a function: the text of its run on the choice that digits spell.
 use Rattle.std.specs.Prelude.{ℕ, Bool, Option, Some, None, List, Result, Ok, Err, slice_get}
+use Rattle.fsm_spec.specs.Table.{IsWhole}
 use Rattle.sc_base.specs.declared.skip.LimitKind.{LimitKind}
 use Rattle.run_store.specs.Concrete.{Cell}
 use Rattle.sum_rows.specs.declared.report.Verdict.{Verdict}
@@ -11,7 +12,7 @@ use Rattle.sc_world.specs.Source.{Source}
 use Rattle.sc_world.specs.Layout.{Layout}
 use Rattle.sc_world.specs.Places.{places}
 use Rattle.sc_world.specs.Paths.{Texts}
-use Rattle.sc_world.specs.Programs.{source}
+use Rattle.sc_world.specs.Programs.{source, machine_or_locks}
 use Rattle.sc_world.specs.Shows.{Over}
 use Rattle.sc_world.specs.World.{Ended, Error, Inner, Aside}
 use Rattle.sc_world.specs.Verdict.{error_text, run_over}
@@ -66,3 +67,7 @@ replay_by p depth reach f kept vs digits (Some g) =
 
 abbrev pub replay_given : Program → (depth reach : ℕ) → ℕ → (kept : List ℕ) → List Verdict → (digits : List ℕ) → Replayed
 replay_given p depth reach f kept vs digits = replay_by p depth reach f kept vs digits (slice_get p.functions f)
+
+-- the machine of states is one that a file spells, or that of locks
+abbrev pub HasWholeMachine : Program → Type 0
+HasWholeMachine p = IsWhole (machine_or_locks p.machine)

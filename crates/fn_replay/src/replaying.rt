@@ -7,15 +7,13 @@ ghost use Rattle.sc_world.specs.Places as laying;
 ghost use Rattle.sc_world.specs.Programs.{source};
 ghost use Rattle.layout_base.specs.Seen as laid;
 ghost use Rattle.program_verdicts.specs.Verdicts.{texts};
-ghost use Rattle.fn_analysis.specs.Analysis.{HasWholeMachine};
 ghost use Rattle.choice_texts.specs.Choices.{choice_spelled};
-ghost use Rattle.fn_replay.specs.Replays.{on_choice, replay_of, replay_given};
+ghost use Rattle.fn_replay.specs.Replays.{on_choice, replay_of, replay_given, HasWholeMachine};
 ghost use Rattle.fn_replay.specs.Seen.{seen};
 
 use crate::replayed::Replayed;
 use crate::running::text_of_run;
 use choice_texts::read_choice;
-use fn_analysis::context_of;
 use fsm_spec::{locks, whole_machines};
 use layout_base::{Ground, Places};
 use location_texts::Texts;
@@ -130,6 +128,7 @@ fn of_body<'p>(
 /// # Errors
 ///
 /// `OutOfMemory` where memory is refused.
+#[tactic(auto, unfolding(sc_gather::specs::Seen::source_of, sc_world::specs::Programs::source_by))]
 pub fn replay_run<'p>(
     alloc: Global,
     program: &'p Program,
@@ -148,18 +147,42 @@ pub fn replay_run<'p>(
     if let TBody::Skipped(_) = &function.body {
         return Ok(Replayed::Skipped);
     }
-    let locks = match locks(alloc) {
-        Ok(locks) => locks,
-        Err(_) => return Err(OutOfMemory),
-    };
-    let here = context_of(
-        program,
-        &locks,
-        run.function,
-        kept,
-        verdicts,
-        run.depth,
-        run.reach,
-    );
-    of_body(alloc, &here, function, run.digits)
+    match &program.machine {
+        Some(machine) => of_body(
+            alloc,
+            &Context {
+                program,
+                machine,
+                tries: false,
+                function: run.function,
+                kept,
+                verdicts,
+                depth: run.depth,
+                reach: run.reach,
+            },
+            function,
+            run.digits,
+        ),
+        None => {
+            let machine = match locks(alloc) {
+                Ok(machine) => machine,
+                Err(_) => return Err(OutOfMemory),
+            };
+            of_body(
+                alloc,
+                &Context {
+                    program,
+                    machine: &machine,
+                    tries: true,
+                    function: run.function,
+                    kept,
+                    verdicts,
+                    depth: run.depth,
+                    reach: run.reach,
+                },
+                function,
+                run.digits,
+            )
+        }
+    }
 }
