@@ -116,13 +116,13 @@ module _ (bits : ℕ) (digits : List ℕ) (some : bits ≡ 0 → ⊥) (many : le
 -- ---- no bits
 
 pub none_found : (bits : ℕ) (digits : List ℕ) → bits ≡ 0 → bytes_eq digits (codes "none") ≡ true → IsSpelled bits digits []
-none_found bits digits zero same = record { long = sym zero; spelled = sym ((bytes_eq-Decides digits (codes "none")).0 same) }
+none_found bits digits empty same = record { long = sym empty; spelled = sym ((bytes_eq-Decides digits (codes "none")).0 same) }
 
 pub none_missed : (bits : ℕ) (digits : List ℕ) → bits ≡ 0 → bytes_eq digits (codes "none") ≡ false → NoneIsSpelled bits digits
-none_missed bits digits zero other [] long same =
+none_missed bits digits empty other [] long same =
     let wrong : false ≡ true = sym other ∙ (bytes_eq-Decides digits (codes "none")).1 (sym same) in
     cc
-none_missed bits digits zero other (b ∷ bs) long same = omega (arith, long, zero)
+none_missed bits digits empty other (b ∷ bs) long same = omega (arith, long, empty)
 
 -- ---- the choice that is spelled so
 
