@@ -1,2 +1,2 @@
-mod Spares
-mod Tells
+pub mod Spares
+pub mod Tells

@@ -1,5 +1,5 @@
 -- Which functions are spared, where the verdicts of some alone are needed.
-use Rattle.std.specs.Prelude.{◌≡◌, ℕ, Bool, false, List, if◌then◌else◌, slice_index_or}
+use Rattle.std.specs.Prelude.{◌≡◌, ℕ, Bool, false, not, ◌||◌, List, if◌then◌else◌, slice_index_or}
 use Rattle.std.specs.List.{list_any}
 use Rattle.plan_core.specs.Graph.{callees}
 use Rattle.sum_rows.specs.declared.report.Verdict.{Verdict}
@@ -12,6 +12,10 @@ is_spared spared f = slice_index_or spared f false
 -- none of these functions is spared
 abbrev pub AreNeeded : (spared : List Bool) → (functions : List ℕ) → Type 0
 AreNeeded spared functions = list_any (is_spared spared) functions ≡ false
+
+-- whether a function is spared, or none of its kept callees is
+abbrev pub is_met : (rows : List (List ℕ)) → (spared : List Bool) → ℕ → Bool
+is_met rows spared f = is_spared spared f || not (list_any (is_spared spared) (callees rows f))
 
 -- the kept callees of a function that is not spared are not spared either
 abbrev pub IsClosed : (rows : List (List ℕ)) → (spared : List Bool) → Type 0

@@ -41,13 +41,19 @@ pub(crate) fn callees(plan: &Plan, function: usize) -> &[u32]
     }
 }
 
-// Whether each function that is needed by one that is not spared is not spared either.
+// Whether a function is spared, or none of its kept callees is.
+fn is_met(plan: &Plan, spared: &[bool], function: usize) -> bool
+    ensures { result ≡ spec.is_met plan.now.callees spared.now function }
+{
+    is_spared(spared, function) || !is_some_spared(spared, callees(plan, function))
+}
+
+// Whether the kept callees of all functions that are not spared are not spared either.
 fn is_closed(plan: &Plan, spared: &[bool]) -> bool
     ensures { result ≡ true → spec.IsClosed plan.now.callees spared.now }
 {
     for function in 0..plan.callees.len() {
-        let is_needed = !is_spared(spared, function);
-        if is_needed && is_some_spared(spared, callees(plan, function)) {
+        if !is_met(plan, spared, function) {
             return false;
         }
     }
@@ -87,6 +93,7 @@ fn reach(
 /// Which functions are spared where the verdicts of the kept callees of that function are wanted: those that it does
 /// not reach. The search is not trusted: what it finds is tested, and if the test failed, which it does not, none would
 /// be spared.
+#[tactic(auto, using(crate::proofs::Spares::none_spared))]
 pub(crate) fn spared_for(
     alloc: Global,
     plan: &Plan,

@@ -1,8 +1,7 @@
--- So far what is needed is not spared.
-use Rattle.std.proofs.Common.{◌≡◌, ℕ, ◌<◌, false}
-use Rattle.plan_core.specs.Graph.{callees}
-use Rattle.whole_replays.specs.Spared.{is_spared, AreNeeded}
+-- So far none that is needed is spared.
+use Rattle.std.proofs.Common.{◌≡◌, ℕ, ◌<◌, true}
+use Rattle.whole_replays.specs.Spared.{is_met}
 use Rattle.whole_replays.proofs.spared.is_closed.Given as goal
 
 abbrev pub invariant-loop-function : goal.invariant-loop-function
-invariant-loop-function l = (f : ℕ) → f < l.function → is_spared l.spared f ≡ false → AreNeeded l.spared (callees l.plan.callees f)
+invariant-loop-function l = (f : ℕ) → f < l.function → is_met l.plan.callees l.spared f ≡ true
