@@ -78,10 +78,3 @@ pub static REFUSALS: [Row; 9] = [
         err: "saturn_run: cannot read b.c\n",
     },
 ];
-
-/// Words without the one or the other.
-pub static WORDS: [&[&str]; 3] = [
-    &["saturn_run", "--function", "f", "a.c"],
-    &["saturn_run", "--choice", "4", "a.c"],
-    &["saturn_run", "--function", "f", "--choice", "4"],
-];
