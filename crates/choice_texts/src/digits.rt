@@ -40,10 +40,7 @@ fn put_bits(bits: &mut Vec<bool>, number: u8) -> Result<(), OutOfMemory>
 }
 
 /// The bits of hexadecimal digits, four a digit; none where some byte is no digit.
-pub(crate) fn bits_of_digits(
-    alloc: Global,
-    digits: &[u8],
-) -> Result<Option<Vec<bool>>, OutOfMemory>
+pub(crate) fn bits_of_digits(alloc: Global, digits: &[u8]) -> Result<Option<Vec<bool>>, OutOfMemory>
     ensures { IfOk result (λ found. MatchOption found (HaveNoBits digits.now) (λ bits. HaveBits digits.now bits.items)) }
 {
     let mut bits = Vec::new(alloc);

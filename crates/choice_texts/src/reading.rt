@@ -61,7 +61,11 @@ fn read(alloc: Global, digits: &[u8], bits: u32) -> Result<Option<Vec<bool>>, Ou
 /// # Errors
 ///
 /// `OutOfMemory` where memory is refused.
-pub fn read_choice(alloc: Global, digits: &[u8], bits: u32) -> Result<Option<Vec<bool>>, OutOfMemory>
+pub fn read_choice(
+    alloc: Global,
+    digits: &[u8],
+    bits: u32,
+) -> Result<Option<Vec<bool>>, OutOfMemory>
     ensures answers { IfOk result (λ found. MatchOption found (NoneIsSpelled bits digits.now) (λ choice. IsSpelled bits digits.now choice.items)) }
     ensures defined { IfOk result (λ found. option_map (λ choice. choice.items) found ≡ choice_spelled bits digits.now) }
 {
