@@ -4,7 +4,7 @@ use crate::rows::Row;
 use crate::runs::DOUBLE;
 use run_top::Status;
 
-pub static REFUSALS: [Row; 9] = [
+pub static REFUSALS: [Row; 10] = [
     Row {
         name: "digits of another length",
         words: &["saturn_run", "--function", "f", "--choice", "41", "a.c"],
@@ -33,6 +33,25 @@ pub static REFUSALS: [Row; 9] = [
         name: "a choice of no bits where there are three",
         words: &["saturn_run", "--function", "f", "--choice", "none", "a.c"],
         files: &[("a.c", DOUBLE)],
+        status: Status::Refused,
+        out: "",
+        err: "saturn_run: bad choice\n",
+    },
+    Row {
+        name: "a choice of the second of two functions of one name",
+        words: &[
+            "saturn_run",
+            "--function",
+            "f",
+            "--choice",
+            "none",
+            "b.c",
+            "a.c",
+        ],
+        files: &[
+            ("a.c", "static void f(void){}"),
+            ("b.c", "static void f(_Bool b){}"),
+        ],
         status: Status::Refused,
         out: "",
         err: "saturn_run: bad choice\n",

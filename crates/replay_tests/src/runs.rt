@@ -10,7 +10,7 @@ void f(_Bool c,spinlock_t*l){spin_lock(l);if(c)spin_lock(l);}";
 
 const DIVIDE: &str = "int f(int a,int b){return a/b;}";
 
-pub static RUNS: [Row; 9] = [
+pub static RUNS: [Row; 10] = [
     Row {
         name: "the first path of a double lock",
         words: &["saturn_run", "--function", "f", "--choice", "c", "a.c"],
@@ -136,6 +136,25 @@ void h(spinlock_t*l){g(l);g(l);}",
 3:27 error *l
 outcome error *l
 ",
+        err: "",
+    },
+    Row {
+        name: "the first of two functions of one name",
+        words: &[
+            "saturn_run",
+            "--function",
+            "f",
+            "--choice",
+            "none",
+            "a.c",
+            "b.c",
+        ],
+        files: &[
+            ("a.c", "static void f(void){}"),
+            ("b.c", "static void f(_Bool b){}"),
+        ],
+        status: Status::Clean,
+        out: "1:21 end\noutcome exit\n",
         err: "",
     },
     Row {

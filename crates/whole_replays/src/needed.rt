@@ -50,11 +50,7 @@ impl Work for Needed<'_> {
 }
 
 // A copy of the verdict of a function, out of those of all.
-fn verdict_of(
-    alloc: Global,
-    all: &[Arc<Verdict>],
-    function: u32,
-) -> Result<Verdict, OutOfMemory>
+fn verdict_of(alloc: Global, all: &[Arc<Verdict>], function: u32) -> Result<Verdict, OutOfMemory>
     ensures { IfOk result (λ v. v ≡ verdict_at (map arc_value all.now) function) }
 {
     match all.get(function as usize) {
