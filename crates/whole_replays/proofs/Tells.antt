@@ -1,5 +1,5 @@
 -- What is told where there is no plan, and where there is one.
-use Rattle.std.proofs.Common.{◌≡◌, ◌∙◌, ℕ, Bool, true, false, List, [], Option, Some, None, refl, sym, subst, ap}
+use Rattle.std.proofs.Common.{◌≡◌, ◌∙◌, ℕ, Bool, true, false, List, [], map, Option, Some, None, refl, sym, subst, ap}
 use Rattle.std.specs.Prelude.{if◌then◌else◌, nat_le, slice_index_or}
 use Rattle.sc_base.specs.declared.skip.LimitKind.{LimitKind}
 use Rattle.sc_base.specs.declared.skip.LimitKind.TheVariants as limit
@@ -7,11 +7,13 @@ use Rattle.plan_core.specs.declared.plan.Plan.{Plan}
 use Rattle.sc_typed.specs.declared.program.Program.{Program}
 use Rattle.sc_check.specs.Typed.{Sources, Answer, Typed, Duplicate, TooMany, typed}
 use Rattle.program_plan.specs.Planned.{edges_of, most_edges}
-use Rattle.program_verdicts.specs.Verdicts.{verdicts}
+use Rattle.sum_rows.specs.declared.report.Verdict.{Verdict}
+use Rattle.program_verdicts.specs.Verdicts.{kept_of, verdict_in, verdicts}
+use Rattle.fn_replay.specs.Replays.{Replayed, replay_given}
 use Rattle.whole_checks.specs.Said.{Said, Whole, said, said_of, said_with}
 use Rattle.whole_checks.specs.Said as check
 use Rattle.whole_checks.specs.Planned.{IsPlanned}
-use Rattle.whole_replays.specs.Told.{Told, Twice, Beyond, told, told_of, told_of_function, function_named}
+use Rattle.whole_replays.specs.Told.{Told, Twice, Beyond, told, told_of, told_of_function, told_of_replay, function_named}
 
 module _ (s : Sources) (depth reach : ℕ) (name digits : List ℕ) where
   same_name : (a b : List ℕ) → check.Twice a ≡ check.Twice b → Twice b ≡ Twice a
@@ -59,3 +61,13 @@ module _ (s : Sources) (depth reach : ℕ) (name digits : List ℕ) where
       let Q : Bool → Type 0 =
       λ b. here ≡ (if b then told_of_function p depth reach digits (function_named p name) else Beyond limit.Edges (edges_of p)) in
       subst P (sym is.typed) (subst Q (sym is.edges) (ap (told_of_function p depth reach digits) first))
+
+-- the replay of a function by the verdicts of its kept callees
+pub replay_is_told : (p : Program) (depth reach f : ℕ) (digits kept : List ℕ) (vs : List Verdict) (made : Replayed) → kept ≡ kept_of p f
+    → vs ≡ map (verdict_in p depth reach) (kept_of p f) → made ≡ replay_given p depth reach f kept vs digits
+    → told_of_replay made ≡ told_of_function p depth reach digits (Some f)
+replay_is_told p depth reach f digits kept vs made callees verdicts is =
+    ap told_of_replay
+    (is
+    ∙ (ap (λ (ks : List ℕ). replay_given p depth reach f ks vs digits) callees
+    ∙ ap (λ (ws : List Verdict). replay_given p depth reach f (kept_of p f) ws digits) verdicts))

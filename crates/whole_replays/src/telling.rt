@@ -5,7 +5,8 @@ ghost use Rattle.program_verdicts.specs.CallGraph as graph;
 ghost use Rattle.sc_check.specs.Typed.{Sources as Trees};
 ghost use Rattle.whole_checks.specs.Said.{said, HasWholeMachine};
 ghost use Rattle.whole_checks.specs.Seen as seen_of;
-ghost use Rattle.whole_replays.specs.Told.{told, told_of_function};
+ghost use Rattle.fn_replay.specs.Seen as replay;
+ghost use Rattle.whole_replays.specs.Told.{told, told_of_function, told_of_replay};
 ghost use Rattle.whole_replays.specs.Seen.{seen};
 
 use crate::named::function_named;
@@ -45,6 +46,17 @@ fn without_plan(why: Said) -> Result<Told, OutOfMemory>
     }
 }
 
+// What is said of a function with this replay.
+fn told_of(replayed: Replayed) -> Told
+    ensures { seen result ≡ told_of_replay (replay.seen replayed) }
+{
+    match replayed {
+        Replayed::Text(text) => Told::Text(text),
+        Replayed::Skipped => Told::Skipped,
+        Replayed::BadChoice => Told::BadChoice,
+    }
+}
+
 // What is said of the function with that number.
 fn of_function(
     alloc: Global,
@@ -74,11 +86,8 @@ fn of_function(
         reach: asked.reach,
     };
     let kept = callees(plan, function as usize);
-    match replay_run(alloc, program, kept, verdicts.as_slice(), run)? {
-        Replayed::Text(text) => Ok(Told::Text(text)),
-        Replayed::Skipped => Ok(Told::Skipped),
-        Replayed::BadChoice => Ok(Told::BadChoice),
-    }
+    let replayed = replay_run(alloc, program, kept, verdicts.as_slice(), run)?;
+    Ok(told_of(replayed))
 }
 
 /// What a replay says of the trees of all files: the text of the run of the first function of that name on the choice
