@@ -13,7 +13,7 @@ use sc_input::{Input, Refusal};
 use sc_tree::ctype::Widths;
 use sc_typed::Program;
 use std::alloc::Global;
-use whole_checks::{NoPlan, Said, Sources, planned};
+use whole_checks::{NoPlan, Sources, planned};
 
 /// Why there is no program.
 #[derive(Debug, Drop)]
@@ -36,14 +36,14 @@ impl From<OutOfMemory> for NoProgram {
     }
 }
 
-// Why there is no program where there is no plan. That a text stands in place of the plan does not come.
+// Why there is no program where there is no plan.
 fn unplanned(why: NoPlan) -> NoProgram
     ensures { (s : Checked) → Says s why → Lacks s result }
 {
     match why {
-        NoPlan::Said(Said::Twice(name)) => NoProgram::Twice(name),
-        NoPlan::Said(Said::Beyond(kind, count)) => NoProgram::Beyond(kind, count),
-        NoPlan::Said(Said::Whole(..)) | NoPlan::OutOfMemory => NoProgram::OutOfMemory,
+        NoPlan::Twice(name) => NoProgram::Twice(name),
+        NoPlan::Beyond(kind, count) => NoProgram::Beyond(kind, count),
+        NoPlan::OutOfMemory => NoProgram::OutOfMemory,
     }
 }
 

@@ -1,8 +1,10 @@
 // The whole check.
 
-ghost use Rattle.std.specs.Prelude.{◌≡◌, ◌<◌, ◌≤◌, IfOk, map};
+ghost use Rattle.std.specs.Prelude.{◌≡◌, ◌<◌, ◌≤◌, ℕ, IfOk, map};
 ghost use Rattle.std.specs.List.{list_any};
 ghost use Rattle.std.specs.Arc.{arc_value};
+ghost use Rattle.sc_check.specs.Typed.{Sources as Trees};
+ghost use Rattle.whole_checks.specs.Planned.{Says};
 ghost use Rattle.whole_checks.specs.Said.{HasWholeMachine, has_report, said, said_with};
 ghost use Rattle.whole_checks.specs.Seen as seen;
 
@@ -52,6 +54,17 @@ fn with_verdicts(
     Ok(Said::Whole(bytes, any_report(verdicts.list.as_slice())))
 }
 
+// What is said where there is no plan.
+fn unplanned(why: NoPlan) -> Result<Said, OutOfMemory>
+    ensures { IfOk result (λ x. (s : Trees) (depth reach : ℕ) → Says s why → seen.said x ≡ said s depth reach) }
+{
+    match why {
+        NoPlan::Twice(name) => Ok(Said::Twice(name)),
+        NoPlan::Beyond(kind, count) => Ok(Said::Beyond(kind, count)),
+        NoPlan::OutOfMemory => Err(OutOfMemory),
+    }
+}
+
 /// What a check says of the trees of all files. Loops turn at most `depth` times, and pointers are followed `reach`
 /// steps at entry. The verdicts are made on the calling thread, and it always returns.
 ///
@@ -64,8 +77,7 @@ pub fn say(alloc: Global, sources: Sources<'_>, depth: u32, reach: u32) -> Resul
 {
     let (program, plan) = match planned(alloc, sources) {
         Ok(planned) => planned,
-        Err(NoPlan::Said(said)) => return Ok(said),
-        Err(NoPlan::OutOfMemory) => return Err(OutOfMemory),
+        Err(why) => return unplanned(why),
     };
     let work = Analysis {
         alloc,
@@ -99,8 +111,7 @@ pub fn say_by<R: Threads + Wait + Sync, G: Gate + Sync>(
 {
     let (program, plan) = match planned(alloc, sources) {
         Ok(planned) => planned,
-        Err(NoPlan::Said(said)) => return Ok(said),
-        Err(NoPlan::OutOfMemory) => return Err(OutOfMemory),
+        Err(why) => return unplanned(why),
     };
     let work = Analysis {
         alloc,

@@ -5,11 +5,10 @@ ghost use Rattle.whole_checks.specs.Planned.{IsPlanned, Says};
 ghost use Rattle.whole_checks.specs.Seen as seen;
 ghost use Rattle.whole_checks.specs.declared.planning.NoPlan.TheVariants.{OutOfMemory as NoMemory};
 
-use crate::said::Said;
 use crate::sources::Sources;
 use plan_core::Plan;
 use program_plan::{PlanAnswer, plan};
-use sc_base::{NameId, Names, OutOfMemory};
+use sc_base::{LimitKind, NameId, Names, OutOfMemory};
 use sc_check::{CheckAnswer, check};
 use sc_typed::Program;
 use std::alloc::Global;
@@ -17,8 +16,10 @@ use std::alloc::Global;
 /// Why there is no plan.
 #[derive(Debug, Drop)]
 pub enum NoPlan {
-    /// This is said of the files in place of a text.
-    Said(Said),
+    /// A function of this name has a second body.
+    Twice(Vec<u8>),
+    /// A limit, and the count that passes it.
+    Beyond(LimitKind, u64),
     /// Memory was refused.
     OutOfMemory,
 }
@@ -42,7 +43,11 @@ fn name_text(alloc: Global, names: &Names, name: NameId) -> Result<Vec<u8>, OutO
     }
 }
 
-/// The typed program of all files, and its plan; or what is said in place of a text.
+/// The typed program of all files, and its plan; or the first reason why there is none.
+///
+/// # Errors
+///
+/// `Twice` and `Beyond` exactly where this is said of the files in place of a text; `OutOfMemory` where memory is refused.
 #[tactic(auto, unfolding(crate::specs::Said::said))]
 pub fn planned(alloc: Global, sources: Sources<'_>) -> Result<(Program, Plan), NoPlan>
     ensures made { IfOk result (λ made. IsPlanned (seen.sources sources.entry) made.0 made.1) }
@@ -59,10 +64,10 @@ pub fn planned(alloc: Global, sources: Sources<'_>) -> Result<(Program, Plan), N
         Ok(program) => program,
         Err(CheckAnswer::Duplicate(names, name)) => {
             let text = name_text(alloc, &names, name)?;
-            return Err(NoPlan::Said(Said::Twice(text)));
+            return Err(NoPlan::Twice(text));
         }
         Err(CheckAnswer::Limit(kind, count)) => {
-            return Err(NoPlan::Said(Said::Beyond(kind, count)));
+            return Err(NoPlan::Beyond(kind, count));
         }
         Err(CheckAnswer::OutOfMemory) => return Err(NoPlan::OutOfMemory),
     };
@@ -71,7 +76,7 @@ pub fn planned(alloc: Global, sources: Sources<'_>) -> Result<(Program, Plan), N
     }
     match plan(alloc, &program) {
         Ok(plan) => Ok((program, plan)),
-        Err(PlanAnswer::Limit(kind, count)) => Err(NoPlan::Said(Said::Beyond(kind, count))),
+        Err(PlanAnswer::Limit(kind, count)) => Err(NoPlan::Beyond(kind, count)),
         Err(PlanAnswer::OutOfMemory) => Err(NoPlan::OutOfMemory),
     }
 }

@@ -3,7 +3,8 @@
 ghost use Rattle.std.specs.Prelude.{◌≡◌, ◌<◌, ◌^◌, ℕ, IfOk, List, Some, length};
 ghost use Rattle.program_verdicts.specs.CallGraph as graph;
 ghost use Rattle.sc_check.specs.Typed.{Sources as Trees};
-ghost use Rattle.whole_checks.specs.Said.{said, HasWholeMachine};
+ghost use Rattle.whole_checks.specs.Planned.{Says};
+ghost use Rattle.whole_checks.specs.Said.{HasWholeMachine};
 ghost use Rattle.whole_checks.specs.Seen as seen_of;
 ghost use Rattle.fn_replay.specs.Seen as replay;
 ghost use Rattle.whole_replays.specs.Told.{told, told_of_function, told_of_replay};
@@ -18,7 +19,7 @@ use plan_core::Plan;
 use sc_base::OutOfMemory;
 use sc_typed::Program;
 use std::alloc::Global;
-use whole_checks::{Analysis, NoPlan, Said, Sources, planned};
+use whole_checks::{Analysis, NoPlan, Sources, planned};
 
 /// What is replayed.
 #[derive(Clone, Copy, Debug)]
@@ -33,16 +34,14 @@ pub struct Asked<'a> {
     pub reach: u32,
 }
 
-// What is said in place of the text of a run, where this is said in place of the text of a check.
-fn without_plan(why: Said) -> Result<Told, OutOfMemory>
-    ensures { (s : Trees) (depth reach : ℕ) (name digits : List ℕ)
-        → said s depth reach ≡ seen_of.said why → IfOk result (λ t. seen t ≡ told s depth reach name digits) }
+// What is said in place of the text of a run where there is no plan.
+fn without_plan(why: NoPlan) -> Result<Told, OutOfMemory>
+    ensures { IfOk result (λ t. (s : Trees) (depth reach : ℕ) (name digits : List ℕ) → Says s why → seen t ≡ told s depth reach name digits) }
 {
     match why {
-        Said::Twice(name) => Ok(Told::Twice(name)),
-        Said::Beyond(kind, count) => Ok(Told::Beyond(kind, count)),
-        // A text has a plan, so it is not said here.
-        Said::Whole(_, _) => Err(OutOfMemory),
+        NoPlan::Twice(name) => Ok(Told::Twice(name)),
+        NoPlan::Beyond(kind, count) => Ok(Told::Beyond(kind, count)),
+        NoPlan::OutOfMemory => Err(OutOfMemory),
     }
 }
 
@@ -104,8 +103,7 @@ pub fn tell(alloc: Global, sources: Sources<'_>, asked: Asked<'_>) -> Result<Tol
 {
     let (program, plan) = match planned(alloc, sources) {
         Ok(planned) => planned,
-        Err(NoPlan::Said(said)) => return without_plan(said),
-        Err(NoPlan::OutOfMemory) => return Err(OutOfMemory),
+        Err(why) => return without_plan(why),
     };
     match function_named(&program, asked.name) {
         Some(function) => of_function(alloc, &program, &plan, asked, function as u32),

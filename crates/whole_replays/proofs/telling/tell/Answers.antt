@@ -29,3 +29,9 @@ pub returns-in-None : goal.returns-in-None
 returns-in-None c =
     run_is_told (seen_of.sources c.args.sources) c.args.asked.depth c.args.asked.reach c.args.asked.name.now c.args.asked.digits.now c.in-Ok.planned.0
     c.in-Ok.planned.1 None c.in-Ok.ensures.made (sym c.in-None.is ∙ c.function_named.ensures.first)
+
+pub returns-in-Err : goal.returns-in-Err
+returns-in-Err c =
+    IfOk-weaker c.without_plan.result _ _
+    (λ t is. is (seen_of.sources c.args.sources) c.args.asked.depth c.args.asked.reach c.args.asked.name.now c.args.asked.digits.now c.in-Err.ensures.said)
+    c.without_plan.ensures
