@@ -4,11 +4,6 @@ use denote.Param.Send.{IsSync, sendable}
 use Rattle.fsm_spec.proofs.list.List.TheSendSync as machines
 use Rattle.fsm_spec.proofs.table.Returns.TheSendSync as returns
 use Rattle.fsm_spec.specs.contracts.table.MachineSpec as machine
-use Rattle.indexmap.proofs.columns.Columns.TheSendSync as columns
-use Rattle.indexmap.proofs.index_table.Bucket.TheSendSync as bucket
-use Rattle.indexmap.proofs.index_table.IndexTable.TheSendSync as table
-use Rattle.indexmap.proofs.index_table.group.Group.TheSendSync as group
-use Rattle.indexmap.proofs.set.IndexSet.TheSendSync as set
 use Rattle.sc_base.proofs.boxed.Boxed.TheSendSync as boxed
 use Rattle.sc_base.proofs.list.List.TheSendSync as list
 use Rattle.sc_base.proofs.names.Names.TheSendSync as names_laws
@@ -70,7 +65,7 @@ stmt_lent : IsSync (tstmt.the_field).row
 stmt_lent = search (small, declarator_lent, expr_lent, for_start_lent, stmts.crosses) depth 60 fits 20000
 
 body_lent : IsSync (tbody.the_field).row
-body_lent = search (small, skip.the_sync, skip.the_field_sync, stmt_lent) depth 60 fits 20000
+body_lent = search (small, skip.the_field_sync, stmt_lent) depth 60 fits 20000
 
 param_lent : IsSync (param.the_field).row
 param_lent = search (small, ctype.crosses) depth 60 fits 20000
@@ -79,7 +74,7 @@ function_lent : IsSync (fun.the_field).row
 function_lent = search (small, param_lent, ctype.crosses, body_lent) depth 60 fits 20000
 
 names_lent : IsSync (names.the_field).row
-names_lent = search (small, names_laws.the_sync, set.the_sync, table.the_sync, group.the_sync, bucket.the_sync, columns.the_sync, strings) depth 60 fits 20000
+names_lent = search (small, names_laws.the_sync, strings) depth 60 fits 20000
 
 extent_lent : IsSync (extent.the_field).row
 extent_lent = search (small) depth 60 fits 20000
@@ -94,10 +89,10 @@ global_lent : IsSync (global.the_field).row
 global_lent = search (small, ctype.crosses) depth 60 fits 20000
 
 machine_lent : IsSync (machine.the_field).row
-machine_lent = search (small, machines.the_sync, returns.the_sync, returns.the_field_sync) depth 60 fits 20000
+machine_lent = search (small, machines.the_sync, returns.the_field_sync) depth 60 fits 20000
 
 pub program_sync : IsSync program.the_row
-program_sync = search (small, skip.the_sync, skip.the_field_sync, names_lent, struct_lent, global_lent, function_lent, machine_lent, widths.the_sync, widths.the_field_sync) depth 60 fits 20000
+program_sync = search (small, skip.the_sync, names_lent, struct_lent, global_lent, function_lent, machine_lent, widths.the_field_sync) depth 60 fits 20000
 
 edge_lent : IsSync (edge.the_field).row
 edge_lent = search small depth 60 fits 20000
