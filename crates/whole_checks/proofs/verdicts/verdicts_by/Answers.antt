@@ -14,7 +14,7 @@ pub run_all-requires-sync-W : goal.run_all-requires-sync-W
 run_all-requires-sync-W g c κs within = search (sendable, crosses, program_sync, plan_sync) depth 60 fits 20000
 
 pub run_all-requires-clause-plan : goal.run_all-requires-clause-plan
-run_all-requires-clause-plan g c =
+run_all-requires-clause-plan g c κs within =
     let P : Plan → Type 0 = λ p. IsPlan p.callees in
     (subst P (sym c.args.work.now.planned) (plan_is_plan c.no_cycle.ensures c.args.work.now.program.now c.requires.few), refl)
 
