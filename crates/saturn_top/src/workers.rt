@@ -46,7 +46,15 @@ fn answer_for<R: Threads + Wait + Sync, G: Gate + Sync>(
         widths: options.widths,
         machine,
     };
-    let said = say_by(rt, alloc, sources, options.depth, options.reach, asked.jobs, gate)?;
+    let said = say_by(
+        rt,
+        alloc,
+        sources,
+        options.depth,
+        options.reach,
+        asked.jobs,
+        gate,
+    )?;
     answer_of(alloc, b"saturn_check", said)
 }
 

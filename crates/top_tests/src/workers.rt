@@ -80,7 +80,11 @@ fn expect_the_same<R: Threads + Wait + Sync + Abort>(
         words.push(jobs)?;
         let (status, out) = run_by(rt, alloc, words.as_slice(), row.files, &FreeGate)?;
         assert!(rt; status == row.status, "{} by {jobs}", row.name);
-        assert!(rt; out.as_slice() == row.out.as_bytes(), "{} by {jobs}", row.name);
+        assert!(rt;
+            out.as_slice() == row.out.as_bytes(),
+            "{} by {jobs}",
+            row.name
+        );
     }
     Ok(())
 }
@@ -93,7 +97,10 @@ fn workers_write_the_rows_of_locks(rt: HostRuntime) -> Result<(), Fail> {
     Ok(())
 }
 
-const TWO_WITHOUT_CALLS: [(&str, &str); 1] = [("a.c", "int f(void){return 1;}\nint g(void){return 2;}")];
+const TWO_WITHOUT_CALLS: [(&str, &str); 1] = [(
+    "a.c",
+    "int f(void){return 1;}\nint g(void){return 2;}",
+)];
 
 #[test]
 fn two_workers_of_a_check_run_side_by_side(rt: HostRuntime) -> Result<(), Fail> {
