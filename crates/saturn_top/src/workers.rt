@@ -1,6 +1,6 @@
 // The call of `saturn_check` that has workers.
 
-ghost use Rattle.std.specs.Prelude.{◌≡◌, ◌×◌, ◌<◌, ◌≤◌, map, string_bytes, codes, IfOk};
+ghost use Rattle.std.specs.Prelude.{◌≡◌, ◌<◌, ◌≤◌, map, string_bytes, codes, IfOk};
 ghost use Rattle.whole_checks.specs.Said.{said, HasWholeMachine};
 ghost use Rattle.top_answers.specs.Promises.{around, change, Promises};
 ghost use Rattle.top_answers.specs.Seen.{seen};
