@@ -5,7 +5,7 @@ use Rattle.saturn_top.proofs.alone.check_alone.Goals as goal
 
 pub returns-in-Ok : goal.returns-in-Ok
 returns-in-Ok g c =
-    promised _ _ _ _ _ (sound _) (seen c.in-Ok.answer) c.give.result c.in-Ok.ensures (owing _ _ _ c.in-Ok.ensures) c.give.ensures
+    record { promises = promised _ _ _ _ _ (sound _) (seen c.in-Ok.answer) c.give.result c.in-Ok.ensures (owing _ _ _ c.in-Ok.ensures) c.give.ensures }
 
 pub returns-in-Err : goal.returns-in-Err
-returns-in-Err g c = untouched _ _ _ _ _ _ _
+returns-in-Err g c = record { promises = untouched _ _ _ _ _ _ _ }
