@@ -1,12 +1,13 @@
-// The checker as a program: `saturn_check [options] FILE ..` writes what `check_alone` finds in the files, and ends with
+// The checker as a program: `saturn_check [options] FILE ..` writes what `check_main` finds in the files, and ends with
 // the number of its status. Nothing is decided here.
 #![tactic(auto)]
 
-use saturn_top::{Status, check_alone};
+use saturn_top::{Status, check_main};
 use sc_base::{OutOfMemory, RealFiles, RealSink};
 use std::io::ErrorKind;
 use std::process::ExitCode;
 use std::{env, io};
+use work_pool::FreeGate;
 
 // The words of the command line, the program's name first. A word that is not text is a bad word, as none at all.
 fn words(rt: &HostRuntime) -> Result<Vec<String>, OutOfMemory> {
@@ -28,6 +29,14 @@ fn main(rt: HostRuntime) -> ExitCode {
     let mut files = RealFiles::new(&rt);
     let mut out = RealSink::new(rt.stdout());
     let mut err = RealSink::new(rt.stderr());
-    let status = check_alone(rt.alloc(), &words, &mut files, &mut out, &mut err);
+    let status = check_main(
+        &rt,
+        rt.alloc(),
+        &words,
+        &mut files,
+        &mut out,
+        &mut err,
+        &FreeGate,
+    );
     ExitCode::from(status.number())
 }

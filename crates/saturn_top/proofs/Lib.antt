@@ -1,4 +1,2 @@
-mod Answered
-mod Joined
-mod Machines
-mod Unread
+pub mod Machines
+mod Owing

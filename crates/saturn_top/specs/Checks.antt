@@ -1,41 +1,25 @@
 -- Which answer `saturn_check` owes: help or bad words, where the words ask for that or have a fault; else the first
 -- refusal of the files that they name; else the text of the whole check.
 
-use Rattle.std.specs.Prelude.{◌≡◌, ◌⊎◌, ℕ, Bool, true, List, Option, Some, None, map, option_map, if◌then◌else◌, codes}
+use Rattle.std.specs.Prelude.{◌≡◌, ◌⊎◌, ℕ, Bool, true, List, [], Option, Some, map, option_map, if◌then◌else◌, codes}
 use Rattle.clap.specs.Words.{App, Row}
 use Rattle.sc_base.specs.Held.{is_named}
-use Rattle.sc_base.specs.declared.skip.LimitKind.TheVariants as limit
 use Rattle.sc_input.specs.declared.input.Input.{Input}
 use Rattle.sc_input.specs.declared.refusal.Refusal.{Refusal}
-use Rattle.sc_input.specs.declared.refusal.Refusal.TheVariants as refusal
 use Rattle.sc_input.specs.Input.{Outside, IsInput, Refuse}
 use Rattle.sc_check.specs.Typed.{Sources}
 use Rattle.saturn_words.specs.declared.asked.Options.{Options}
 use Rattle.saturn_words.specs.declared.asked.CheckWords.{CheckWords}
 use Rattle.saturn_words.specs.Commands.{IsCheck}
 use Rattle.saturn_words.specs.declared.words.NoWords.{NoWords}
-use Rattle.saturn_words.specs.Words.{AskForNothing, CallForHelp, HaveFault, Give, HaveCheck}
+use Rattle.saturn_words.specs.Words.{AskForNothing, CallForHelp, HaveFault, Give, HaveCheck, faults}
 use Rattle.whole_checks.specs.Said.{Said, Whole, Twice, Beyond, said}
-use Rattle.saturn_top.specs.declared.status.Status.{Status}
-use Rattle.saturn_top.specs.declared.status.Status.TheVariants.{Clean, Reports, Refused, BadWords, ReadFault, Helped}
-use Rattle.saturn_top.specs.Answer.{Due, ToOutput, ToErrors}
-use Rattle.saturn_top.specs.Lines.{line_of, at_place, limit_tail, unread_tail, machine_tail, twice_tail}
-
--- ---- refusals
-
--- the line of this program on the error output, with the status of a refusal
-abbrev pub refused_with : (program tail : List ℕ) → Due
-refused_with program tail = ToErrors Refused (line_of program tail)
-
--- What is due where the files give no input. Of memory that was refused no line is due.
-abbrev pub due_of_refusal : (program : List ℕ) → Refusal → Option Due
-due_of_refusal program (refusal.Files count) = Some (refused_with program (limit_tail limit.Files count))
-due_of_refusal program (refusal.Unread name) = Some (ToErrors ReadFault (line_of program (unread_tail name.now)))
-due_of_refusal program refusal.Bytes = Some (refused_with program (limit_tail limit.Input 8388609))
-due_of_refusal program (refusal.Machine line) = Some (refused_with program (machine_tail line))
-due_of_refusal program (refusal.Lexical name pos) = Some (refused_with program (at_place name.now pos (codes "lexical")))
-due_of_refusal program (refusal.Unbalanced name pos) = Some (refused_with program (at_place name.now pos (codes "unbalanced")))
-due_of_refusal program refusal.OutOfMemory = None
+use Rattle.top_answers.specs.declared.status.Status.{Status}
+use Rattle.top_answers.specs.declared.status.Status.TheVariants.{Clean, Reports, BadWords, Helped}
+use Rattle.top_answers.specs.Answer.{Due, ToOutput, ToErrors}
+use Rattle.top_answers.specs.Lines.{limit_tail, twice_tail}
+use Rattle.top_answers.specs.Promises.{Wording}
+use Rattle.top_answers.specs.Refusals.{due_of_refusal, refused_with}
 
 -- ---- the text of the whole check
 
@@ -81,6 +65,10 @@ AskForHelp words = (command : App) × IsCheck command × CallForHelp command wor
 abbrev pub AreBad : (words : List (List ℕ)) → Type 0
 AreBad words = (command : App) × IsCheck command × HaveFault command words
 
+-- the words have no fault, for each form that the command may have
+abbrev pub AreGood : (words : List (List ℕ)) → Type 0
+AreGood words = (command : App) → IsCheck command → faults command words ≡ []
+
 -- why the words ask for nothing
 abbrev pub AskNothing : (words : List (List ℕ)) → NoWords → Type 0
 AskNothing words why = (command : App) × IsCheck command × AskForNothing command words why
@@ -97,3 +85,8 @@ abbrev pub NamesFile : (words : List (List ℕ)) → (name : List ℕ) → Type 
 NamesFile words name =
     (asked : CheckWords) × Ask words asked
     × ((is_named name (files_of asked.options) ≡ true) ⊎ (machine_of asked.options ≡ Some name))
+
+-- what the words are
+abbrev pub wording : (words : List (List ℕ)) → Wording
+wording words =
+    record { AskForHelp = AskForHelp words; AreBad = AreBad words; AreGood = AreGood words; NamesFile = NamesFile words }

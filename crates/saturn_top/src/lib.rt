@@ -1,15 +1,14 @@
-//! The top call of the checker: words and files in, a text and a status out.
+//! The top calls of the checker: words and files in, a text and a status out.
 //!
-//! `check` is the call of `saturn_check`. It reads the words (`saturn_words`) and the files (`sc_input`), finds what is
-//! said of them (`whole_checks`) or the line of a refusal (`lines`), and writes (`answer`). `specs/Checks.antt` says
-//! which answer is due when.
+//! `alone` is the call that works on the calling thread, `workers` the one that has workers. Both read the words
+//! (`saturn_words`) and the files (`sc_input`), find what is said of them (`whole_checks`) or the line of a refusal, and
+//! write (`top_answers`); `found` has what they share. `specs/Checks.antt` says which answer is due when.
 #![tactic(auto)]
 
-mod answer;
-mod check;
-mod lines;
-mod refusals;
-mod status;
+mod alone;
+mod found;
+mod workers;
 
-pub use check::check_alone;
-pub use status::Status;
+pub use alone::check_alone;
+pub use top_answers::Status;
+pub use workers::check_main;

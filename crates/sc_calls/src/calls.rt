@@ -183,7 +183,7 @@ fn arguments(
     ensures { Gives (spec.arguments w at params.now given walk.old) result walk.new }
 {
     let mut types = params;
-    let mut all = Some(List::new(alloc));
+    let mut all = Some(List::from_vec(Vec::with_capacity(alloc, given.len())?));
     for a in given.into_vec() {
         let a = argument(alloc, walk, w, at, front(types), a)?;
         all = with_last(all, a)?;

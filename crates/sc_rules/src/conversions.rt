@@ -6,6 +6,7 @@ ghost use Rattle.sc_tree.specs.declared.ctype.CType.TheVariants as ty;
 ghost use Rattle.sc_typed.specs.Types as types;
 ghost use Rattle.sc_rules.specs.Gives.{Gives};
 ghost use Rattle.sc_rules.specs.Conversions as spec;
+ghost use Rattle.sc_rules.specs.Plain as plain;
 
 use crate::Walk;
 use crate::steps::{ill_typed, unsupported};
@@ -128,8 +129,23 @@ pub fn opaque_kind(t: &CType) -> Option<OpaqueKind>
     }
 }
 
-/// The value of an expression (C11 6.3.2.1). One of an opaque type is not taken.
-pub fn value(alloc: Global, walk: &mut Walk, e: TExpr) -> Result<Option<TExpr>, OutOfMemory>
+// Whether a value of that type stays as it is: of all types but arrays, functions and opaque types.
+fn is_plain(t: &CType) -> bool
+    ensures { result ≡ plain.is_plain t.now }
+{
+    match t {
+        CType::Array(_, _) | CType::Func(_) | CType::Opaque(_) => false,
+        CType::Void
+        | CType::Bool
+        | CType::Int(_)
+        | CType::Ptr(_)
+        | CType::Struct(_)
+        | CType::Union(_) => true,
+    }
+}
+
+// The value of an expression of any type.
+fn any_value(alloc: Global, walk: &mut Walk, e: TExpr) -> Result<Option<TExpr>, OutOfMemory>
     ensures { Gives (spec.value e walk.old) result walk.new }
 {
     let opaque = opaque_kind(&e.ctype);
@@ -137,6 +153,18 @@ pub fn value(alloc: Global, walk: &mut Walk, e: TExpr) -> Result<Option<TExpr>, 
     match opaque {
         None => Ok(Some(e)),
         Some(kind) => Ok(unsupported(walk, opaque_fault(kind), e.place.first)),
+    }
+}
+
+/// The value of an expression (C11 6.3.2.1). One of an opaque type is not taken.
+#[tactic(auto, using(crate::proofs::Plain::plain_value))]
+pub fn value(alloc: Global, walk: &mut Walk, e: TExpr) -> Result<Option<TExpr>, OutOfMemory>
+    ensures { Gives (spec.value e walk.old) result walk.new }
+{
+    if is_plain(&e.ctype) {
+        Ok(Some(e))
+    } else {
+        any_value(alloc, walk, e)
     }
 }
 

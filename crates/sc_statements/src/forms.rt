@@ -22,7 +22,7 @@ pub fn all_items(
 ) -> Result<Option<List<TStmt>>, OutOfMemory>
     ensures { IfOk result (λ all. all ≡ spec.all_items items) }
 {
-    let mut all = Some(List::new(alloc));
+    let mut all = Some(List::from_vec(Vec::with_capacity(alloc, items.len())?));
     for s in items.into_vec() {
         all = with_last(all, s)?;
     }

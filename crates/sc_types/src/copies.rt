@@ -56,7 +56,7 @@ pub fn copy_types(alloc: Global, types: &List<CType>) -> Result<List<CType>, Out
     ensures copied { IfOk result (λ copies. copies ≡ types.now) }
     ensures itself { IfOk result (λ copies. map (λ c. c.itself) (map spec.composition types.now) ≡ copies) }
 {
-    let mut copies = List::new(alloc);
+    let mut copies = List::from_vec(Vec::with_capacity(alloc, types.len())?);
     for t in types.as_slice() {
         copies.push(copy_type(alloc, t)?)?;
     }

@@ -1,5 +1,6 @@
 //! The tests of the top call: whole runs over files and sinks in memory. `rows` runs the rows of `locks`, `memory`,
-//! `skips`, `options` and `refusals`; `faults` has files and sinks that fail, words and limits.
+//! `skips`, `options` and `refusals`; `faults` has files and sinks that fail, words and limits; `workers` has runs with
+//! workers.
 //!
 //! They stand in a crate of their own, so that the top call is proved once, without tests.
 #![tactic(auto)]
@@ -18,3 +19,5 @@ mod refusals;
 mod rows;
 #[cfg(test)]
 mod skips;
+#[cfg(test)]
+mod workers;

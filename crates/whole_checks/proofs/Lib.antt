@@ -1,3 +1,4 @@
 pub mod Plans
 pub mod Machines
 pub mod Whole
+mod Shared

@@ -5,10 +5,9 @@ use Rattle.sc_typed.specs.declared.program.Program.{Program}
 use Rattle.sc_check.specs.Typed.{Sources, Typed, typed}
 use Rattle.program_plan.specs.Planned.{edges_of, most_edges}
 use Rattle.program_verdicts.specs.CallGraph as graph
-use Rattle.whole_checks.specs.declared.planned.NoPlan.{NoPlan}
-use Rattle.whole_checks.specs.declared.planned.NoPlan.TheVariants as no_plan
-use Rattle.whole_checks.specs.Said.{said}
-use Rattle.whole_checks.specs.Seen as seen
+use Rattle.whole_checks.specs.declared.planning.NoPlan.{NoPlan}
+use Rattle.whole_checks.specs.declared.planning.NoPlan.TheVariants as no_plan
+use Rattle.whole_checks.specs.Said.{Twice, Beyond, said}
 
 -- The typed program of the files, with its plan, where a text is said.
 pub record IsPlanned (s : Sources) (p : Program) (found : Plan) : Type 0 where
@@ -19,5 +18,6 @@ pub record IsPlanned (s : Sources) (p : Program) (found : Plan) : Type 0 where
 
 -- what is said of the files in place of a text, for each depth and each reach; of memory that was refused nothing
 abbrev pub Says : Sources → NoPlan → Type 0
-Says s (no_plan.Said x) = (depth reach : ℕ) → said s depth reach ≡ seen.said x
+Says s (no_plan.Twice name) = (depth reach : ℕ) → said s depth reach ≡ Twice name.items
+Says s (no_plan.Beyond kind count) = (depth reach : ℕ) → said s depth reach ≡ Beyond kind count
 Says s no_plan.OutOfMemory = ⊤

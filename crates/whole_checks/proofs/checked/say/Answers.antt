@@ -10,8 +10,8 @@ use Rattle.whole_checks.proofs.Machines.{machine_stays}
 use Rattle.whole_checks.proofs.Whole.{whole_is_said}
 use Rattle.whole_checks.proofs.checked.say.Goals as goal
 
-pub verdicts_of-requires-clause-whole : goal.verdicts_of-requires-clause-whole
-verdicts_of-requires-clause-whole c =
+pub invariant_of-work-clause-whole : goal.invariant_of-work-clause-whole
+invariant_of-work-clause-whole c =
     let planned : IsPlanned (seen.sources c.args.sources) c.in-Ok.planned.0 c.in-Ok.planned.1 = c.in-Ok.ensures.made in
     let P : Option MachineSpec → Type 0 = λ m. IsWhole (machine_or_locks m) in
     subst P (sym (machine_stays (seen.sources c.args.sources) c.in-Ok.planned.0 planned.typed)) c.requires.whole

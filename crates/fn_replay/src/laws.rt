@@ -1,0 +1,25 @@
+// What holds of replays. A law is the clause of a function that does nothing but cite others.
+
+ghost use Rattle.std.specs.Prelude.{◌≡◌, ◌++◌, [], Bool, List, length};
+ghost use Rattle.report_text.specs.Shown.{choice_text, trace_text};
+ghost use Rattle.report_text.specs.Replays.{ending_line};
+ghost use Rattle.sc_typed.specs.declared.program.Program.{Program};
+ghost use Rattle.sc_world.specs.Source.{Source};
+ghost use Rattle.sc_world.specs.Paths.{Texts};
+ghost use Rattle.sc_world.specs.Shows.{Over};
+ghost use Rattle.sc_world.specs.Verdict.{run_over, shown_over};
+ghost use Rattle.choice_texts.specs.Choices.{choice_spelled};
+ghost use Rattle.fn_replay.specs.Replays.{ending_of, on_choice, run_text, Text};
+
+use choice_texts::no_two_are_spelled_alike;
+
+/// What a report prints of a run is replayed as that run: its choice is read as it was (`printed`), and the events are
+/// those that the report shows, each on a line without spaces before it; behind them stands how the run ended (`path`).
+pub fn printed_runs_are_replayed()
+    ensures printed { (p : Program) (s : Source) (x : Texts) (choice : List Bool) → length choice ≡ x.layout.bits
+        → on_choice p s x (choice_spelled x.layout.bits (choice_text choice)) ≡ Text (run_text p x (run_over s x.layout choice)) }
+    ensures path { (p : Program) (x : Texts) (o : Over)
+        → run_text p x o ≡ trace_text p [] (shown_over x o).text (shown_over x o).trace ++ ending_line (ending_of o.ended) (shown_over x o).text }
+{
+    no_two_are_spelled_alike();
+}

@@ -1,0 +1,6 @@
+mod Checking
+pub mod Dereferencing
+pub mod Placing
+pub mod Assigning
+pub mod Indexing
+pub mod Membering

@@ -1,0 +1,12 @@
+//! The tests of the replay's top call: whole runs over files and sinks in memory. `rows` runs the rows of `runs`, which
+//! have a text, and of `refusals`, which have a line.
+//!
+//! They stand in a crate of their own, so that the top call is proved once, without tests.
+#![tactic(auto)]
+
+#[cfg(test)]
+mod refusals;
+#[cfg(test)]
+mod rows;
+#[cfg(test)]
+mod runs;

@@ -1,0 +1,121 @@
+// The lines that say why there is no text.
+
+ghost use Rattle.std.specs.Prelude.{◌≡◌, ◌++◌, OnOk, IfOk, codes};
+ghost use Rattle.top_answers.specs.Lines as spec;
+
+use itoa::{Buffer, Integer};
+use sc_base::{LimitKind, OutOfMemory, Pos};
+use std::alloc::Global;
+
+fn put(out: &mut Vec<u8>, bytes: &[u8]) -> Result<(), OutOfMemory>
+    ensures { OnOk result (out.new.items ≡ out.old.items ++ bytes.now) }
+{
+    Ok(out.extend_from_slice(bytes)?)
+}
+
+fn put_number<I: Integer>(out: &mut Vec<u8>, n: I) -> Result<(), OutOfMemory>
+    ensures { OnOk result (out.new.items ≡ out.old.items ++ I.text n) }
+{
+    let mut buffer = Buffer::new();
+    put(out, buffer.format(n).as_bytes())
+}
+
+fn limit_word(kind: LimitKind) -> &'static [u8]
+    ensures { result.now ≡ spec.limit_word kind }
+{
+    match kind {
+        LimitKind::Files => b"files",
+        LimitKind::Input => b"input",
+        LimitKind::Functions => b"functions",
+        LimitKind::Edges => b"edges",
+        LimitKind::Params => b"params",
+        LimitKind::Nodes => b"nodes",
+        LimitKind::Locations => b"locations",
+    }
+}
+
+// The front of a line of this program.
+fn begun(alloc: Global, program: &[u8]) -> Result<Vec<u8>, OutOfMemory>
+    ensures { IfOk result (λ line. line.items ≡ program.now ++ codes ": ") }
+{
+    let mut line = program.to_vec(alloc)?;
+    put(&mut line, b": ")?;
+    Ok(line)
+}
+
+/// The line of this program with these words.
+pub fn word_line(alloc: Global, program: &[u8], word: &[u8]) -> Result<Vec<u8>, OutOfMemory>
+    ensures { IfOk result (λ line. line.items ≡ spec.line_of program.now word.now) }
+{
+    let mut line = begun(alloc, program)?;
+    put(&mut line, word)?;
+    put(&mut line, b"\n")?;
+    Ok(line)
+}
+
+/// The line of this program with these words and a name behind them.
+pub fn name_line(
+    alloc: Global,
+    program: &[u8],
+    word: &[u8],
+    name: &[u8],
+) -> Result<Vec<u8>, OutOfMemory>
+    ensures { IfOk result (λ line. line.items ≡ spec.line_of program.now (word.now ++ name.now)) }
+{
+    let mut line = begun(alloc, program)?;
+    put(&mut line, word)?;
+    put(&mut line, name)?;
+    put(&mut line, b"\n")?;
+    Ok(line)
+}
+
+/// The line of this program with a word on a place in the file of this name.
+pub fn place_line(
+    alloc: Global,
+    program: &[u8],
+    name: &[u8],
+    pos: Pos,
+    word: &[u8],
+) -> Result<Vec<u8>, OutOfMemory>
+    ensures { IfOk result (λ line. line.items ≡ spec.line_of program.now (spec.at_place name.now pos word.now)) }
+{
+    let mut line = begun(alloc, program)?;
+    put(&mut line, name)?;
+    put(&mut line, b":")?;
+    put_number(&mut line, pos.line)?;
+    put(&mut line, b":")?;
+    put_number(&mut line, pos.col)?;
+    put(&mut line, b": ")?;
+    put(&mut line, word)?;
+    put(&mut line, b"\n")?;
+    Ok(line)
+}
+
+/// The line of this program for a limit, and the count that passes it.
+pub fn limit_line(
+    alloc: Global,
+    program: &[u8],
+    kind: LimitKind,
+    count: u64,
+) -> Result<Vec<u8>, OutOfMemory>
+    ensures { IfOk result (λ line. line.items ≡ spec.line_of program.now (spec.limit_tail kind count)) }
+{
+    let mut line = begun(alloc, program)?;
+    put(&mut line, b"limit ")?;
+    put(&mut line, limit_word(kind))?;
+    put(&mut line, b" ")?;
+    put_number(&mut line, count)?;
+    put(&mut line, b"\n")?;
+    Ok(line)
+}
+
+/// The line of this program for a line that breaks the form of a machine file.
+pub fn machine_line(alloc: Global, program: &[u8], number: u32) -> Result<Vec<u8>, OutOfMemory>
+    ensures { IfOk result (λ line. line.items ≡ spec.line_of program.now (spec.machine_tail number)) }
+{
+    let mut line = begun(alloc, program)?;
+    put(&mut line, b"machine ")?;
+    put_number(&mut line, number)?;
+    put(&mut line, b"\n")?;
+    Ok(line)
+}
