@@ -1,5 +1,5 @@
 -- The machine of an input is one that a file spells, or that of locks.
-use Rattle.std.proofs.Common.{◌≡◌, ◌∙◌, ℕ, List, [], Option, Some, None, refl, sym, subst}
+use Rattle.std.proofs.Common.{◌≡◌, ◌∙◌, ℕ, List, Option, refl, sym, subst}
 use Rattle.fsm_spec.specs.declared.table.MachineSpec.{MachineSpec}
 use Rattle.fsm_spec.specs.Table.{IsWhole}
 use Rattle.fsm_spec.specs.Reading.{spelled, Machine}

@@ -1,15 +1,13 @@
 -- What is due for words and files may be due: help or bad words, a text, a refusal, a file that was not read.
-use Rattle.std.proofs.Common.{◌≡◌, ◌⊎◌, ℕ, Bool, true, false, List, [], Option, Some, refl, inl, inr}
+use Rattle.std.proofs.Common.{ℕ, true, false, List, refl, inl, inr}
 use Rattle.std.specs.Prelude.{codes}
-use Rattle.sc_base.specs.Held.{is_named}
 use Rattle.sc_input.specs.Input.{Outside}
 use Rattle.saturn_words.specs.declared.asked.CheckWords.{CheckWords}
 use Rattle.whole_checks.specs.Said.{Said, Whole, Twice, Beyond}
 use Rattle.top_answers.specs.Answer.{Due}
 use Rattle.top_answers.proofs.Owed.{Owed, help, bad, text, refusal, IsSound}
-use Rattle.top_answers.proofs.Unread.{IsOne}
 use Rattle.top_answers.proofs.ByRefusal.{by_refusal}
-use Rattle.saturn_top.specs.Checks.{due_of_said, machine_of, files_of, IsFound, refused, read, Ask, NamesFile, IsDue, helped, bad_words, found, wording}
+use Rattle.saturn_top.specs.Checks.{due_of_said, machine_of, files_of, IsFound, refused, read, Ask, IsDue, helped, bad_words, found, wording}
 
 -- words with a fault, or with a call for help, are not good
 pub sound : (words : List (List ℕ)) → IsSound (wording words)

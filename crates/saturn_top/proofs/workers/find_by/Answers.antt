@@ -10,7 +10,7 @@ use Rattle.saturn_top.proofs.Machines.{input_whole}
 use Rattle.saturn_top.proofs.workers.find_by.Goals as goal
 
 pub answer_for-requires-clause-whole : goal.answer_for-requires-clause-whole
-answer_for-requires-clause-whole g c =
+answer_for-requires-clause-whole g c κs within =
     input_whole _ _ _ c.in-Ok.input (c.whole_machines.ensures.files, c.whole_machines.ensures.lock) c.in-Ok.ensures.answers
 
 pub returns-in-Ok : goal.returns-in-Ok
