@@ -1,0 +1,3 @@
+pub mod TypeKinds
+mod Making
+mod Naming

@@ -1,0 +1,3 @@
+pub mod Evals
+pub mod Names
+pub mod Plain
