@@ -1,13 +1,13 @@
 -- What is made of one value, or of two.
-use Rattle.std.proofs.Common.{◌≡◌, ℕ, ◌<◌, ◌≤◌, Bool, true, false, not, ◌&&◌, ◌||◌, nat_eq, Some, List, length, if◌then◌else◌, refl, sym, ◌∙◌, ap, subst}
+use Rattle.std.proofs.Common.{◌≡◌, ℕ, ◌<◌, ◌≤◌, Bool, true, false, not, nat_eq, Some, List, length, if◌then◌else◌, refl, sym, ◌∙◌, ap, subst}
 use Rattle.bit_net.specs.declared.nodes.Node.{Node}
-use Rattle.bit_net.specs.Runs.{Runs, Grown, Gives}
+use Rattle.bit_net.specs.Runs.{Grown, Gives}
 use Rattle.bit_words.specs.declared.Word.{Word as Words}
 use Rattle.gl_sets.specs.declared.sets.Set.{Set as Sets}
 use Rattle.gl_sets.specs.Guards.{Points, guards_top}
 use Rattle.gl_store.specs.declared.values.Val.{Val}
 use Rattle.gl_store.specs.declared.values.Val.TheVariants.{Word, Set, Unit as Empty}
-use Rattle.gl_store.specs.Meets.{Meets, val_kind, val_top}
+use Rattle.gl_store.specs.Meets.{Meets, val_kind}
 use Rattle.gl_store.proofs.ValueLemmas.{Meets-kind}
 use Rattle.gate_runs.specs.declared.ends.Ends.{Ends}
 use Rattle.run_store.specs.Concrete.{Cell, Number, Pointer, Nothing, Kind, Numbers, Pointers, NoCell}
@@ -19,11 +19,11 @@ use Rattle.sc_world.specs.Tree.{Ty, is_integer, is_pointer, is_bool, int_bits, h
 use Rattle.sc_world.specs.Source.{Source}
 use Rattle.sc_world.specs.Layout.{Layout}
 use Rattle.sc_world.specs.World.{kind_of_type, is_true, null}
-use Rattle.sc_world.specs.Eval.{convert, signed_as, truth_cell}
+use Rattle.sc_world.specs.Eval.{convert}
 use Rattle.gate_places.specs.Places.{env_of}
 use Rattle.gate_values.specs.Values.{IsTruth, IsTruthOf, IsResized, IsOfOne, IsPointer}
-use Rattle.gate_values.specs.Operated.{AreOperands, AreWords, DoesOperate, HasTypes, are_alike}
-use Rattle.tr_expr.specs.Plain.{AreAlike, Integers, PointersBoth, BinaryFits, ConvertFits, SignFits, converts}
+use Rattle.gate_values.specs.Operated.{AreOperands, DoesOperate, are_alike}
+use Rattle.tr_expr.specs.Plain.{AreAlike, Integers, PointersBoth, BinaryFits, ConvertFits, SignFits}
 use Rattle.tr_expr.specs.Evals.{IsConverted, IsOfUnary, Operates, is_sign, of_unary}
 use Rattle.tr_expr.proofs.TypeKinds.{integer_kind, pointer_kind, bool_kind, numbers_integer, numbers_width, pointers_pointer, converts_some, to_pointer, stays_pointer, bits_some, bits_few}
 
@@ -183,11 +183,11 @@ sign_kind s from t k fits e = e ∙ integer_kind s from fits.takes
 
 pub signed_set : (s : Source) (ns : List Node) (o : UnaryOp) (from t : Ty) (x : Sets) → SignFits s from t → val_kind (Set x) ≡ kind_of_type s (Some from)
     → IsOfUnary s ns o t (Set x) Empty
-signed_set s ns o from t x fits kind = let no : Pointers ≡ Numbers (int_bits s.widths from) = sign_kind s from t Pointers fits kind in absurd (cc)
+signed_set s ns o from t x fits kind = let apart : Pointers ≡ Numbers (int_bits s.widths from) = sign_kind s from t Pointers fits kind in absurd (cc)
 
 pub signed_none : (s : Source) (ns : List Node) (o : UnaryOp) (from t : Ty) → SignFits s from t → val_kind Empty ≡ kind_of_type s (Some from)
     → IsOfUnary s ns o t Empty Empty
-signed_none s ns o from t fits kind = let no : NoCell ≡ Numbers (int_bits s.widths from) = sign_kind s from t NoCell fits kind in absurd (cc)
+signed_none s ns o from t fits kind = let apart : NoCell ≡ Numbers (int_bits s.widths from) = sign_kind s from t NoCell fits kind in absurd (cc)
 
 -- Operators on two values.
 
@@ -232,14 +232,14 @@ alike s u w x y (Integers i j) left right =
     both_words x y (int_bits s.widths u) (int_bits s.widths w) (left ∙ integer_kind s u i) (right ∙ integer_kind s w j)
 alike s u w x y (PointersBoth i j) left right = both_sets x y (left ∙ pointer_kind s u i) (right ∙ pointer_kind s w j)
 
-pub operation_does : (s : Source) (ns : List Node) (o : BinaryOp) (u w t : Ty) (x y r : Val) (old new : Ends) → BinaryFits s o u w t
-    → val_kind x ≡ kind_of_type s (Some u) → val_kind y ≡ kind_of_type s (Some w)
-    → DoesOperate ns o (has_sign u) (int_bits s.widths t) x y old new r → Operates s ns o u t x y old new r
-operation_does s ns o u w t x y r old new fits left right made =
+pub operation_does : (s : Source) (ns : List Node) (o : BinaryOp) (u w t : Ty) (sign : Bool) (bits : ℕ) (x y r : Val) (old new : Ends) → BinaryFits s o u w t
+    → val_kind x ≡ kind_of_type s (Some u) → val_kind y ≡ kind_of_type s (Some w) → sign ≡ has_sign u → bits ≡ int_bits s.widths t
+    → DoesOperate ns o sign bits x y old new r → Operates s ns o u t x y old new r
+operation_does s ns o u w t sign bits x y r old new fits left right signs wide made =
     record {
       below = made.below;
-      kind = made.kind (alike s u w x y fits.alike left right) ∙ sym (integer_kind s t fits.gives);
-      does = λ choice v runs l p bits temps turn c d m k.
-          made.does choice v runs l (env_of s p bits temps turn) u t c d
-          (record { sign = refl; result = refl; width = λ width e. numbers_width s u width (sym left ∙ e) }) m k;
+      kind = made.kind (alike s u w x y fits.alike left right) ∙ ap Numbers wide ∙ sym (integer_kind s t fits.gives);
+      does = λ choice v runs l p choices temps turn c d m k.
+          made.does choice v runs l (env_of s p choices temps turn) u t c d
+          (record { sign = sym signs; result = sym wide; width = λ width e. numbers_width s u width (sym left ∙ e) }) m k;
     }

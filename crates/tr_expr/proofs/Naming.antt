@@ -1,7 +1,7 @@
 -- What names give.
-use Rattle.std.proofs.Common.{◌≡◌, ℕ, suc, ◌+◌, ◌-◌, ◌≤◌, Bool, true, List, length, inl, inr, refl, subst, arith}
+use Rattle.std.proofs.Common.{◌≡◌, ℕ, ◌+◌, ◌-◌, ◌≤◌, Bool, List, length, inl, inr, refl, subst, arith}
 use Rattle.bit_net.specs.declared.nodes.Node.{Node}
-use Rattle.bit_net.specs.Runs.{Runs, Grown, Always}
+use Rattle.bit_net.specs.Runs.{Grown, Always}
 use Rattle.gl_sets.specs.declared.pairs.Pair.{Pair}
 use Rattle.gl_sets.specs.declared.sets.Set.{Set as Sets}
 use Rattle.gl_sets.specs.Guards.{Points}
@@ -17,11 +17,10 @@ use Rattle.sc_world.specs.Source.{Source}
 use Rattle.sc_world.specs.Layout.{Layout, location_of}
 use Rattle.sc_world.specs.World.{pointer_to}
 use Rattle.sc_world.specs.Eval.{Want, Value, Place'}
-use Rattle.run_laws.specs.Fits.{IsPlaceOf, IsStubThere}
+use Rattle.run_laws.specs.Fits.{IsPlaceOf}
 use Rattle.run_laws.proofs.Places.{origin_place}
 use Rattle.run_laws.proofs.Types.{place_of_pointer}
 use Rattle.gate_runs.specs.declared.ends.Ends.{Ends}
-use Rattle.gate_runs.specs.Stands.{Does}
 use Rattle.gate_runs.proofs.Bind.{does_done}
 use Rattle.gate_steps.specs.Steps.{LeadsTo}
 use Rattle.gate_places.specs.Places.{GoodFor, DoesFind}

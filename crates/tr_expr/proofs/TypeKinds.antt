@@ -1,16 +1,16 @@
 -- The kinds and the widths of the values of types.
-use Rattle.std.proofs.Common.{◌≡◌, ℕ, ◌*◌, ◌<◌, ◌≤◌, Bool, true, false, not, ◌&&◌, ◌||◌, Some, refl, sym, ◌∙◌, ap, arith}
+use Rattle.std.proofs.Common.{◌≡◌, ℕ, ◌<◌, ◌≤◌, Bool, true, false, ◌&&◌, ◌||◌, Some, refl, sym, ◌∙◌, arith}
 use Rattle.std.proofs.lemmas.Bool.{true≢false}
 use Rattle.sc_tree.specs.declared.ctype.IntKind.{IntKind}
 use Rattle.sc_tree.specs.declared.ctype.IntKind.TheVariants as kind
 use Rattle.sc_tree.specs.declared.ctype.Widths.{Widths}
 use Rattle.sc_tree.specs.declared.ctype.Widths.TheVariants as widths
-use Rattle.sc_typed.specs.Kinds.{kind_bits, kind_bytes}
-use Rattle.run_store.specs.Concrete.{Kind, Numbers, Pointers, NoCell}
-use Rattle.sc_world.specs.Tree.{Ty, Void, Bool', Int, Ptr, Array, Struct, Union, Func, Opaque, is_integer, is_pointer, is_array, is_bool, int_bits, has_sign}
+use Rattle.sc_typed.specs.Kinds.{kind_bytes}
+use Rattle.run_store.specs.Concrete.{Numbers, Pointers, NoCell}
+use Rattle.sc_world.specs.Tree.{Ty, Bool', Int, Ptr, is_integer, is_pointer, is_bool, int_bits}
 use Rattle.sc_world.specs.Source.{Source}
 use Rattle.sc_world.specs.World.{kind_of_type}
-use Rattle.tr_expr.specs.Plain.{is_scalar, converts}
+use Rattle.tr_expr.specs.Plain.{converts}
 
 false-true : {A : Type 0} → false ≡ true → A
 false-true e = absurd (true≢false (sym e))

@@ -116,8 +116,29 @@ fn negated(here: &Here, net: &mut Net, t: &CType, x: &Val) -> Result<Val, OutOfM
     Ok(made)
 }
 
+// `+`, `-` or `~` of a number.
+#[tactic(auto, using(crate::proofs::Making::word_some))]
+fn signed_number(
+    here: &Here,
+    net: &mut Net,
+    op: UnaryOp,
+    from: &CType,
+    t: &CType,
+    x: &Word,
+) -> Result<Val, OutOfMemory>
+    requires op { is_sign op ≡ true }
+    requires fits { SignFits (seen.env here.now).source (type from.now) (type t.now) }
+    requires kind { val_kind (word x.now) ≡ kind_of_type (seen.env here.now).source (Some (type from.now)) }
+    requires x { top x.now.bits.items ≤ length net.old }
+    ensures grown { Grown net.old net.new }
+    ensures ok { IfOk result (λ r. IsOfUnary (seen.env here.now).source net.new op (type t.now) (word x.now) r) }
+{
+    let made = signed_as(net, op, x)?;
+    Ok(made)
+}
+
 // `+`, `-` or `~` of a value.
-#[tactic(auto, using(crate::proofs::Making::word_some, crate::proofs::Making::signed_value, crate::proofs::Making::signed_set, crate::proofs::Making::signed_none))]
+#[tactic(auto, using(crate::proofs::Making::signed_set, crate::proofs::Making::signed_none))]
 fn signed(
     here: &Here,
     net: &mut Net,
@@ -134,10 +155,7 @@ fn signed(
     ensures ok { IfOk result (λ r. IsOfUnary (seen.env here.now).source net.new op (type t.now) x.now r) }
 {
     match x {
-        Val::Word(word) => {
-            let made = signed_as(net, op, word)?;
-            Ok(made)
-        }
+        Val::Word(word) => signed_number(here, net, op, from, t, word),
         Val::Set(_) => Ok(Val::Unit),
         Val::Unit => Ok(Val::Unit),
     }
@@ -168,7 +186,7 @@ pub fn unary(
 }
 
 /// An operator on two values (C11 6.5.5 to 6.5.14); what it does not take sets the run aside.
-#[tactic(auto, using(crate::proofs::Making::gives_some, crate::proofs::Making::operands_are, crate::proofs::Making::operation_does))]
+#[tactic(auto, using(crate::proofs::Making::gives_some, crate::proofs::Making::operands_are))]
 pub fn operation(
     here: &Here,
     net: &mut Net,
