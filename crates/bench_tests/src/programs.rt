@@ -1,4 +1,4 @@
-// Generated texts of the most functions, and of few, which all give a program: that none is refused is not proved.
+// Generated texts, of few functions and of the most, which all give a program: that none is refused is not proved.
 
 use bench_checks::generated;
 use bench_programs::bench_text;
@@ -23,9 +23,14 @@ fn functions_of(alloc: Global, count: u32, seed: u32) -> usize {
 }
 
 #[test]
-fn the_largest_texts_give_a_program(rt: HostRuntime) {
+fn a_text_of_the_most_functions_gives_a_program(rt: HostRuntime) {
+    assert_eq!(rt; functions_of(rt.alloc(), 4096, 0), 4096);
+}
+
+#[test]
+fn large_texts_give_a_program(rt: HostRuntime) {
     for seed in 0..8 {
-        assert_eq!(rt; functions_of(rt.alloc(), 4096, seed), 4096, "seed {seed}");
+        assert_eq!(rt; functions_of(rt.alloc(), 500, seed), 500, "seed {seed}");
     }
 }
 

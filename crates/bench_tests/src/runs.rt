@@ -91,7 +91,7 @@ fn the_first_function_calls_none(rt: HostRuntime) -> Result<(), Fail> {
 
 #[test]
 fn workers_tell_the_same(rt: HostRuntime) -> Result<(), Fail> {
-    for jobs in ["1", "2"] {
+    for jobs in ["1", "2", "64"] {
         let words = owned(rt.alloc(), &["saturn_bench", "--jobs", jobs, "3", "0"])?;
         let mut out = MemSink::new(rt.alloc(), 1000)?;
         let mut err = MemSink::new(rt.alloc(), 1000)?;
