@@ -1,5 +1,5 @@
 -- Of a generated program: its machine of states, and its lines.
-use Rattle.std.proofs.Common.{◌≡◌, ◌∙◌, ℕ, List, Option, None, sym, subst, ap}
+use Rattle.std.proofs.Common.{◌≡◌, ◌∙◌, ℕ, List, Option, sym, subst, ap}
 use Rattle.fsm_spec.specs.declared.table.MachineSpec.{MachineSpec}
 use Rattle.fsm_spec.specs.Table.{IsWhole}
 use Rattle.fsm_spec.specs.Lock.{locks}

@@ -1,6 +1,6 @@
 -- What is due for words and files may be due: help or bad words, a text, a refusal, a file that was not read. No text has
 -- reports.
-use Rattle.std.proofs.Common.{◌≡◌, ◌⊎◌, ◌∙◌, ℕ, Bool, true, false, List, [], Option, Some, None, refl, sym, subst, inl, inr}
+use Rattle.std.proofs.Common.{◌≡◌, ◌∙◌, ℕ, List, Some, refl, sym, subst, inl, inr}
 use Rattle.std.specs.Prelude.{codes}
 use Rattle.sc_base.specs.Taken.{SinkChange}
 use Rattle.sc_input.specs.Input.{Outside}
@@ -9,7 +9,7 @@ use Rattle.sc_input.specs.declared.refusal.Refusal.TheVariants as refusal
 use Rattle.saturn_words.specs.declared.asked.RunWords.{RunWords}
 use Rattle.whole_replays.specs.Told.{Told, Text, Twice, Beyond, NoFunction, Skipped, BadChoice}
 use Rattle.top_answers.specs.declared.status.Status.{Status}
-use Rattle.top_answers.specs.declared.status.Status.TheVariants.{Clean, Reports, Refused, BadWords, ReadFault, WriteFault, Memory, Helped}
+use Rattle.top_answers.specs.declared.status.Status.TheVariants.{Reports, Refused, ReadFault, WriteFault}
 use Rattle.top_answers.specs.Answer.{Due, ToOutput, ToErrors, IsAnswered}
 use Rattle.top_answers.specs.Refusals.{due_of_refusal}
 use Rattle.top_answers.proofs.Dues.{inside}
@@ -17,7 +17,7 @@ use Rattle.top_answers.proofs.Owed.{Owed, help, bad, text, IsSound}
 use Rattle.top_answers.proofs.Owed as owed
 use Rattle.top_answers.proofs.ByRefusal.{by_refusal}
 use Rattle.saturn_top.specs.Checks.{machine_of, files_of}
-use Rattle.run_top.specs.Runs.{due_of_told, IsFound, refused, read, Ask, IsDue, helped, bad_words, found, wording}
+use Rattle.run_top.specs.Runs.{due_of_told, told_of, IsFound, refused, read, Ask, IsDue, helped, bad_words, found, wording}
 
 -- words with a fault, or with a call for help, are not good
 pub sound : (words : List (List ℕ)) → IsSound (wording words)
@@ -41,7 +41,7 @@ module _ (words : List (List ℕ)) (outside : Outside) where
   owing_found asked ask due (refused why d refuses is) =
       by_refusal (wording words) outside (machine_of asked.options) (files_of asked.options) (λ name one. (asked, ask, one)) (codes "saturn_run") why due
       refuses is
-  owing_found asked ask due (read input is) = owing_told _ _ _
+  owing_found asked ask due (read input is) = owing_told (codes "saturn_run") asked.function.now (told_of asked input)
 
   pub owing : (due : Due) → IsDue words outside due → Owed (wording words) outside due
   owing due (helped bytes asked) = help bytes asked
@@ -77,7 +77,7 @@ none_refused program refusal.OutOfMemory due is = absurd (cc)
 
 none_found : (asked : RunWords) (outside : Outside) (due : Due) → IsFound asked outside due → HasNone due
 none_found asked outside due (refused why d refuses is) = none_refused (codes "saturn_run") why due is
-none_found asked outside due (read input is) = none_told _ _ _
+none_found asked outside due (read input is) = none_told (codes "saturn_run") asked.function.now (told_of asked input)
 
 none_due : (words : List (List ℕ)) (outside : Outside) (due : Due) → IsDue words outside due → HasNone due
 none_due words outside due (helped bytes asked) = λ e. cc

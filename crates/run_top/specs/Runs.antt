@@ -1,7 +1,7 @@
 -- Which answer `saturn_run` owes: help or bad words, where the words ask for that or have a fault; else the first refusal
 -- of the files that they name; else the text of the run, or the line that says why there is none.
 
-use Rattle.std.specs.Prelude.{◌≡◌, ◌⊎◌, ℕ, true, List, [], Option, Some, codes}
+use Rattle.std.specs.Prelude.{◌≡◌, ◌⊎◌, ℕ, true, List, [], Some, codes}
 use Rattle.clap.specs.Words.{App, Row}
 use Rattle.sc_base.specs.Held.{is_named}
 use Rattle.sc_input.specs.declared.input.Input.{Input}

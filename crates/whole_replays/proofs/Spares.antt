@@ -1,9 +1,8 @@
 -- The verdicts of functions that are needed, where those of the others are spared.
-use Rattle.std.proofs.Common.{◌≡◌, ◌∙◌, ◌⊎◌, ◌||◌, ℕ, ◌+◌, ◌^◌, ◌<◌, ◌≤◌, Bool, true, false, not, List, [], ◌∷◌, length, get_or, map, zero-add, refl, sym, subst, ap, arith, inl, inr}
-use Rattle.std.specs.List.{list_any, range_with_len, All}
+use Rattle.std.proofs.Common.{◌≡◌, ◌∙◌, ◌⊎◌, ℕ, ◌+◌, ◌^◌, ◌<◌, ◌≤◌, Bool, true, false, List, [], ◌∷◌, length, get_or, map, zero-add, refl, sym, subst, ap, arith, inl, inr}
+use Rattle.std.specs.List.{list_any, All}
 use Rattle.std.proofs.lemmas.Bool.{or_parts, cond-false, cases_lt}
 use Rattle.std.proofs.lemmas.List.Elements.{All-head, All-tail, All-contains_itself, All-weaker}
-use Rattle.std.proofs.lemmas.List.{get_or_past}
 use Rattle.std.proofs.lemmas.List.FromFn.{length-map-range_with_len, get_or-map-range_with_len}
 use Rattle.std.specs.Prelude.{Contains}
 use Rattle.sum_rows.specs.declared.report.Verdict.{Verdict}
@@ -14,7 +13,7 @@ use Rattle.whole_checks.proofs.Plans.{plan_is_plan, callees_are_kept}
 use Rattle.sc_typed.specs.declared.program.Program.{Program}
 use Rattle.program_verdicts.specs.Verdicts.{kept_of, no_verdict, verdict_in}
 use Rattle.work_pool.specs.Outputs.{outputs_of}
-use Rattle.whole_replays.specs.Spared.{is_spared, is_met, AreNeeded, IsClosed, verdict_unless_spared, verdict_at}
+use Rattle.whole_replays.specs.Spared.{is_spared, is_met, AreNeeded, verdict_unless_spared, verdict_at}
 
 -- nothing is spared of no function
 pub none_spared : (fs : List ℕ) → list_any (is_spared []) fs ≡ false
@@ -47,19 +46,6 @@ taken defined all n are (f ∷ fs) inside =
 pub callees_inside : (rows : List (List ℕ)) → IsPlan rows → (f : ℕ) → All (λ g. g < length rows) (callees rows f)
 callees_inside rows plan f =
     All-weaker (Contains (callees rows f)) (λ g. g < length rows) (λ g is. plan.inside f g is) (callees rows f) (All-contains_itself (callees rows f))
-
--- what holds of each function of the plan holds of all
-pub closed_from : (rows : List (List ℕ)) (spared : List Bool) → ((f : ℕ) → f < length rows → is_met rows spared f ≡ true) → IsClosed rows spared
-closed_from rows spared each f needed = go (cases_lt f (length rows))
-  where
-    by : (a b : Bool) → a ≡ false → (a || not b) ≡ true → b ≡ false
-    by true b is met = absurd (let wrong : true ≡ false = is in cc)
-    by false true is met = absurd (let wrong : false ≡ true = met in cc)
-    by false false is met = refl
-
-    go : (f < length rows) ⊎ (length rows ≤ f) → AreNeeded spared (callees rows f)
-    go (inl inside) = by (is_spared spared f) (list_any (is_spared spared) (callees rows f)) needed (each f inside)
-    go (inr past) = ap (list_any (is_spared spared)) (get_or_past rows f [] past)
 
 pub met_more : (rows : List (List ℕ)) (spared : List Bool) (n : ℕ) → ((f : ℕ) → f < n → is_met rows spared f ≡ true)
     → is_met rows spared n ≡ true → (f : ℕ) → f < n + 1 → is_met rows spared f ≡ true

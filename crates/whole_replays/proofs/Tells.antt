@@ -1,5 +1,5 @@
 -- What is told where there is no plan, and where there is one.
-use Rattle.std.proofs.Common.{◌≡◌, ◌∙◌, ℕ, Bool, true, false, List, [], map, Option, Some, None, refl, sym, subst, ap}
+use Rattle.std.proofs.Common.{◌≡◌, ◌∙◌, ℕ, Bool, true, false, List, [], map, Option, Some, sym, subst, ap}
 use Rattle.std.specs.Prelude.{if◌then◌else◌, nat_le, slice_index_or}
 use Rattle.sc_base.specs.declared.skip.LimitKind.{LimitKind}
 use Rattle.sc_base.specs.declared.skip.LimitKind.TheVariants as limit
@@ -10,7 +10,7 @@ use Rattle.program_plan.specs.Planned.{edges_of, most_edges}
 use Rattle.sum_rows.specs.declared.report.Verdict.{Verdict}
 use Rattle.program_verdicts.specs.Verdicts.{kept_of, verdict_in, verdicts}
 use Rattle.fn_replay.specs.Replays.{Replayed, replay_given}
-use Rattle.whole_checks.specs.Said.{Said, Whole, said, said_of, said_with}
+use Rattle.whole_checks.specs.Said.{said, said_of, said_with}
 use Rattle.whole_checks.specs.Said as check
 use Rattle.whole_checks.specs.Planned.{IsPlanned}
 use Rattle.whole_replays.specs.Told.{Told, Twice, Beyond, told, told_of, told_of_function, told_of_replay, function_named}

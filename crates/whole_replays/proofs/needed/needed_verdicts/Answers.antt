@@ -1,10 +1,9 @@
-use Rattle.std.proofs.Common.{◌≡◌, ◌∙◌, List, refl, ap, map}
+use Rattle.std.proofs.Common.{◌∙◌, List, refl, ap, map}
 use Rattle.std.specs.Arc.{arc_value}
 use Rattle.std.specs.declared.alloc.Global.{Global}
 use Rattle.std.specs.declared.sync.Arc.{Arc}
 use Rattle.std.proofs.lemmas.Result.{IfOk-weaker}
 use Rattle.sum_rows.specs.declared.report.Verdict.{Verdict}
-use Rattle.plan_core.specs.Graph.{callees}
 use Rattle.whole_replays.specs.Spared.{verdict_at}
 use Rattle.whole_replays.proofs.Spares.{is_plan, kept_verdicts}
 use Rattle.whole_replays.proofs.needed.needed_verdicts.Goals as goal

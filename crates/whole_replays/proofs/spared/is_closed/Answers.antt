@@ -1,5 +1,5 @@
 use Rattle.std.proofs.Common.{◌∙◌, sym}
-use Rattle.whole_replays.proofs.Spares.{closed_from, met_more}
+use Rattle.whole_replays.proofs.Spares.{met_more}
 use Rattle.whole_replays.proofs.spared.is_closed.Goals as goal
 
 pub loop-function-preserved : goal.loop-function-preserved

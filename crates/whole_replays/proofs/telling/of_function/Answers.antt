@@ -8,6 +8,6 @@ pub returns : goal.returns
 returns c =
     let p = c.args.program.now in
     c.told_of.ensures
-    ∙ replay_is_told p c.args.asked.depth c.args.asked.reach c.args.function c.args.asked.digits.now c.callees.result.now c.as_slice.result.now
-    (replay.seen c.in_ok-replayed.replayed) (c.callees.ensures ∙ kept_are_callees p c.args.plan.now c.args.function c.requires.planned c.requires.inside)
+    ∙ replay_is_told p c.args.asked.depth c.args.asked.reach c.args.function c.args.asked.digits.now c.callees-kept.result.now c.as_slice.result.now
+    (replay.seen c.in_ok-replayed.replayed) (c.callees-kept.ensures ∙ kept_are_callees p c.args.plan.now c.args.function c.requires.planned c.requires.inside)
     (c.as_slice.ensures.value ∙ c.in_ok-verdicts.ensures) c.in_ok-replayed.ensures

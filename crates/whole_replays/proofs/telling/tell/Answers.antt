@@ -1,4 +1,4 @@
-use Rattle.std.proofs.Common.{◌≡◌, ◌∙◌, Option, Some, None, sym, subst, ap}
+use Rattle.std.proofs.Common.{◌∙◌, Option, Some, None, sym, subst}
 use Rattle.std.proofs.lemmas.Result.{IfOk-weaker}
 use Rattle.fsm_spec.specs.declared.table.MachineSpec.{MachineSpec}
 use Rattle.fsm_spec.specs.Table.{IsWhole}
@@ -6,7 +6,6 @@ use Rattle.sc_world.specs.Programs.{machine_or_locks}
 use Rattle.whole_checks.specs.Planned.{IsPlanned}
 use Rattle.whole_checks.specs.Seen as seen_of
 use Rattle.whole_checks.proofs.Machines.{machine_stays}
-use Rattle.whole_replays.specs.Told.{function_named}
 use Rattle.whole_replays.proofs.Tells.{run_is_told}
 use Rattle.whole_replays.proofs.telling.tell.Goals as goal
 
@@ -25,8 +24,8 @@ returns-in-Some c =
     c.in-Ok.planned.1 (Some c.in-Some.function) c.in-Ok.ensures.made (sym c.in-Some.is ∙ c.function_named.ensures.first))
     c.of_function.ensures
 
-pub returns-in-None : goal.returns-in-None
-returns-in-None c =
+pub returns : goal.returns
+returns c =
     run_is_told (seen_of.sources c.args.sources) c.args.asked.depth c.args.asked.reach c.args.asked.name.now c.args.asked.digits.now c.in-Ok.planned.0
     c.in-Ok.planned.1 None c.in-Ok.ensures.made (sym c.in-None.is ∙ c.function_named.ensures.first)
 
