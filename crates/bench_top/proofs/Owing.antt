@@ -1,5 +1,5 @@
 -- What is due for words may be due: help or bad words, a text, a refusal; and with which statuses.
-use Rattle.std.proofs.Common.{◌≡◌, ℕ, true, false, List, [], Option, Some, None, refl, sym, subst, ◌∙◌, inl, inr, ⊎_elim}
+use Rattle.std.proofs.Common.{◌≡◌, ℕ, true, false, List, [], Some, None, refl, sym, subst, ◌∙◌, inl, inr, ⊎_elim}
 use Rattle.sc_base.specs.Taken.{SinkChange, Went}
 use Rattle.sc_input.specs.declared.refusal.Refusal.{Refusal}
 use Rattle.sc_input.specs.declared.refusal.Refusal.TheVariants as cause
