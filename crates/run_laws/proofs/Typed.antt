@@ -349,15 +349,15 @@ module _ (s : Source) (p : Layout) (choice : List Bool) (temps : List Cell) (who
     typed (Unary sign.Plus a y) want t fits =
         reads want y (eval (Unary sign.Plus a y) Value (here t)) fits.1
         (chain P (typed a Value t fits.0)
-        (λ x hx. gives P {a = signed_as (here t) sign.Plus y x} (signs_typed t sign.Plus (type_of a) y x fits.2 fits.3 hx)))
+        (λ x hx. gives P {a = signed_as (here t) sign.Plus y x} (signs_typed t sign.Plus (type_of a) y x (ap is_integer fits.2 ∙ fits.3) fits.3 hx)))
     typed (Unary sign.Minus a y) want t fits =
         reads want y (eval (Unary sign.Minus a y) Value (here t)) fits.1
         (chain P (typed a Value t fits.0)
-        (λ x hx. gives P {a = signed_as (here t) sign.Minus y x} (signs_typed t sign.Minus (type_of a) y x fits.2 fits.3 hx)))
+        (λ x hx. gives P {a = signed_as (here t) sign.Minus y x} (signs_typed t sign.Minus (type_of a) y x (ap is_integer fits.2 ∙ fits.3) fits.3 hx)))
     typed (Unary sign.Complement a y) want t fits =
         reads want y (eval (Unary sign.Complement a y) Value (here t)) fits.1
         (chain P (typed a Value t fits.0)
-        (λ x hx. gives P {a = signed_as (here t) sign.Complement y x} (signs_typed t sign.Complement (type_of a) y x fits.2 fits.3 hx)))
+        (λ x hx. gives P {a = signed_as (here t) sign.Complement y x} (signs_typed t sign.Complement (type_of a) y x (ap is_integer fits.2 ∙ fits.3) fits.3 hx)))
     typed (PreInc d a y) want t fits = pre_typed d a y (λ w n f. typed a w n f) want t fits
     typed (PostInc d a y) want t fits = post_typed d a y (λ w n f. typed a w n f) want t fits
     typed (SizeofExpr a n y) want t fits =

@@ -63,6 +63,32 @@ operands_fit o t u =
     then is_scalar t && is_scalar u
     else ((is_integer t && is_integer u) || (compares_pointers o && (is_pointer t && is_pointer u)))
 
+-- both sides are brought to one type (C11 6.3.1.8), but for shifts and logical operators
+abbrev pub in_one_type : BinaryOp → Bool
+in_one_type op.ShiftLeft = false
+in_one_type op.ShiftRight = false
+in_one_type op.And = false
+in_one_type op.Or = false
+in_one_type _ = true
+
+-- comparisons and logical operators give a truth, any other operator a value of the type on its left
+abbrev pub gives_truth : BinaryOp → Bool
+gives_truth op.Less = true
+gives_truth op.Greater = true
+gives_truth op.LessEqual = true
+gives_truth op.GreaterEqual = true
+gives_truth op.Equal = true
+gives_truth op.NotEqual = true
+gives_truth op.And = true
+gives_truth op.Or = true
+gives_truth _ = false
+
+-- The types by which an operator works: numbers that are combined or compared have one type, and what is no truth has
+-- the type of the left side.
+pub record TypesMeet (o : BinaryOp) (left right whole : Ty) : Type 0 where
+  pub same : in_one_type o ≡ true → is_integer left ≡ true → left ≡ right
+  pub keeps : gives_truth o ≡ false → whole ≡ left
+
 -- Conversions (C11 6.3): to `void` from anything; of an array or a function to a pointer; of an integer to a scalar
 -- type; of a pointer to a pointer or to `_Bool`.
 abbrev pub converts_to : (from to : Ty) → Bool
@@ -147,17 +173,18 @@ module _ (p : Layout) where
     Fits want (Assign None works a b t) = Fits Place' a × Fits (if_scalar t) b × (type_of a ≡ t) × (type_of b ≡ t)
     Fits want (Assign (Some o) works a b t) =
         Fits Place' a × Fits Value b × (type_of a ≡ t) × (is_integer t ≡ true) × (is_integer works ≡ true)
-        × (is_integer (type_of b) ≡ true)
+        × (is_integer (type_of b) ≡ true) × TypesMeet o works (type_of b) works
     Fits want (Cond a b c t) =
         Fits Value a × Fits want b × Fits want c × (is_scalar (type_of a) ≡ true) × (type_of b ≡ t) × (type_of c ≡ t)
     Fits want (Binary o a b t) =
         Fits Value a × Fits Value b × IsRead want × (is_integer t ≡ true)
-        × (operands_fit o (type_of a) (type_of b) ≡ true)
+        × (operands_fit o (type_of a) (type_of b) ≡ true) × TypesMeet o (type_of a) (type_of b) t
     Fits want (Cast a t) = Fits (unless_array (type_of a)) a × IsRead want × (converts_to (type_of a) t ≡ true)
     Fits want (Unary sign.Address a t) = Fits Place' a × IsRead want × (is_pointer t ≡ true)
     Fits want (Unary sign.Deref a t) = Fits Value a × (is_pointer (type_of a) ≡ true)
     Fits want (Unary sign.Not a t) = Fits Value a × IsRead want × (is_scalar (type_of a) ≡ true) × (is_integer t ≡ true)
-    Fits want (Unary o a t) = Fits Value a × IsRead want × (is_integer (type_of a) ≡ true) × (is_integer t ≡ true)
+    -- the operand is promoted (C11 6.5.3.3)
+    Fits want (Unary o a t) = Fits Value a × IsRead want × (type_of a ≡ t) × (is_integer t ≡ true)
     Fits want (PreInc d a t) = Fits Place' a × IsRead want × (type_of a ≡ t) × (is_integer t ≡ true)
     Fits want (PostInc d a t) = Fits Place' a × IsRead want × (type_of a ≡ t) × (is_integer t ≡ true)
     Fits want (SizeofExpr a n t) = IsRead want × (is_integer t ≡ true)
