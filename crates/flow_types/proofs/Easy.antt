@@ -35,6 +35,7 @@ module _ (p : Layout) (k : Kinds) where
     h.3,
     h.4,
     h.5,
+    h.6,
   )
   easy_fits want (Cond a b c t) i h = absurd (false≢true i)
   easy_fits want (Binary o a b t) i h =
@@ -44,6 +45,7 @@ module _ (p : Layout) (k : Kinds) where
         h.2,
         h.3,
         h.4,
+        h.5,
       )
   easy_fits want (Cast a t) i h = (easy_fits (unless_array (type_of a)) a i h.0, h.1, h.2)
   easy_fits want (Unary sign.Address a t) i h = (easy_fits Place' a i h.0, h.1, h.2)

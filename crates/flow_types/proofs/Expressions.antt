@@ -9,7 +9,7 @@ use Rattle.sc_world.specs.Tree.{Ty, is_integer, is_pointer, is_array, Exp, Comma
 use Rattle.sc_world.specs.Source.{Source}
 use Rattle.sc_world.specs.Layout.{Layout, same_pos, site_at}
 use Rattle.sc_world.specs.Eval.{Want, Value, Place', is_name, is_logical}
-use Rattle.run_laws.specs.Fits.{Fits, FitAll, Unless, CallFits, Indexed, compares_pointers, operands_fit, converts_to, is_scalar, if_scalar, unless_array, IsRead}
+use Rattle.run_laws.specs.Fits.{Fits, FitAll, Unless, CallFits, Indexed, compares_pointers, operands_fit, TypesMeet, converts_to, is_scalar, if_scalar, unless_array, IsRead}
 use Rattle.flow_graph.specs.Nodes.{Node, CallOf}
 use Rattle.flow_graph.specs.Growing.{Growing, Build, put, fresh, numbers}
 use Rattle.flow_graph.specs.Expressions.{Part, Goal, kept, one, two, comma, logical, assigning, binary, converted, unary, indexed, called, count, unroll, unroll_all}
@@ -83,15 +83,15 @@ module _ (s : Source) (p : Layout) where
       (λ k x y h i. (h, i, left, right)) ol or'
 
   binary_typed : (c : Bool) (o : BinaryOp) (a b : Exp) (t : Ty) (l r : Part) → is_logical o ≡ c → is_integer t ≡ true
-      → operands_fit o (type_of a) (type_of b) ≡ true → Typed Value (type_of a) l → Typed Value (type_of b) r
+      → operands_fit o (type_of a) (type_of b) ≡ true → TypesMeet o (type_of a) (type_of b) t → Typed Value (type_of a) l → Typed Value (type_of b) r
       → Typed Value t (if c then logical o t l r else two Value l Value r (λ x y. Binary o (Temp x (type_of a)) (Temp y (type_of b)) t))
-  binary_typed true o a b t l r is sort fit ol or' =
+  binary_typed true o a b t l r is sort fit meet ol or' =
       let scalars : (is_scalar (type_of a) && is_scalar (type_of b)) ≡ true = scalars_of o (type_of a) (type_of b) is fit in
       logical_typed s p o t (type_of a) (type_of b) l r sort (left_of (is_scalar (type_of a)) (is_scalar (type_of b)) scalars)
       (right_of (is_scalar (type_of a)) (is_scalar (type_of b)) scalars) ol or'
-  binary_typed false o a b t l r is sort fit ol or' =
+  binary_typed false o a b t l r is sort fit meet ol or' =
       two_typed s p Value t Value (type_of a) l Value (type_of b) r (λ x y. Binary o (Temp x (type_of a)) (Temp y (type_of b)) t)
-      (λ x y. refl) (λ k x y h i. ((tt, h), (tt, i), tt, sort, fit)) ol or'
+      (λ x y. refl) (λ k x y h i. ((tt, h), (tt, i), tt, sort, fit, meet)) ol or'
 
   cast_typed : (c : Bool) (a : Exp) (t : Ty) (l : Part) → is_array (type_of a) ≡ c → converts_to (type_of a) t ≡ true
       → Typed (if c then Place' else Value) (type_of a) l
@@ -182,7 +182,7 @@ module _ (s : Source) (p : Layout) where
         (expression_typed b turn (if_scalar t) h.1))
     expression_typed (Assign (Some o) works a b t) turn want h =
         plainly_typed s p want (Assign (Some o) works a b t) (assigning (Some o) works a b t (unroll a turn) (unroll b turn)) h
-        (updating_typed s p (record { op = o; works = works; ctype = t }) want (type_of b) (unroll a turn) (unroll b turn) h.3 h.4 h.5
+        (updating_typed s p (record { op = o; works = works; ctype = t }) want (type_of b) (unroll a turn) (unroll b turn) h.3 h.4 h.5 h.6
         (subst (λ z. Typed Place' z (unroll a turn)) h.2 (expression_typed a turn Place' h.0)) (expression_typed b turn Value h.1))
     expression_typed (Cond c a b t) turn want h =
         conditional_typed s p want t (type_of c) (unroll c turn) (unroll a turn) (unroll b turn) h.3 (expression_typed c turn Value h.0)
@@ -191,7 +191,7 @@ module _ (s : Source) (p : Layout) where
     expression_typed (Binary o a b t) turn want h =
         plainly_typed s p want (Binary o a b t) (binary o a b t (unroll a turn) (unroll b turn)) h
         (read_typed want t (binary o a b t (unroll a turn) (unroll b turn)) h.2
-        (binary_typed (is_logical o) o a b t (unroll a turn) (unroll b turn) refl h.3 h.4 (expression_typed a turn Value h.0)
+        (binary_typed (is_logical o) o a b t (unroll a turn) (unroll b turn) refl h.3 h.4 h.5 (expression_typed a turn Value h.0)
         (expression_typed b turn Value h.1)))
     expression_typed (Cast a t) turn want h =
         plainly_typed s p want (Cast a t) (converted a (λ x. Cast x t) (unroll a turn)) h

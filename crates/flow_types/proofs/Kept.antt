@@ -8,10 +8,10 @@ use Rattle.sc_world.specs.Source.{Source}
 use Rattle.sc_world.specs.Layout.{Layout}
 use Rattle.sc_world.specs.Eval.{Want, Value, Place'}
 use Rattle.run_laws.specs.Fits.{if_scalar, unless_array}
-use Rattle.flow_graph.specs.Nodes.{Node, Keep, KeepCells, CallOf, Update, Set, Fill, Branch, Choose, Mark, MarkSwitch, Exit, SetAside}
+use Rattle.flow_graph.specs.Nodes.{Node, Keep, KeepCells, CallOf, Update, Updating, Set, Fill, Branch, Choose, Mark, MarkSwitch, Exit, SetAside}
 use Rattle.flow_graph.specs.Growing.{Growing, Build, put, fresh}
 use Rattle.flow_types.specs.Kinds.{Kind, ValueOf, PlaceOf, Kinds, IsKept, KeepsSome, IsFor, FitsOver}
-use Rattle.flow_types.specs.Nodes.{KeepArguments, KeepParts, local, NodeFits, AllFit}
+use Rattle.flow_types.specs.Nodes.{KeepArguments, KeepParts, KeepsOperand, local, NodeFits, AllFit}
 
 get_more : {A : Type 0} (xs ys : List A) (n : ℕ) (x : A) → slice_get xs n ≡ Some x → slice_get (xs ++ ys) n ≡ Some x
 get_more [] ys n x h = absurd (cc h)
@@ -73,9 +73,9 @@ module _ (p : Layout) {k l : Kinds} (x : Extends k l) where
   pub over_on : (want : Want) (e : Exp) → FitsOver k p want e → FitsOver l p want e
   over_on want (Comma a b t) h = (over_on Value a h.0, over_on want b h.1, h.2)
   over_on want (Assign None works a b t) h = (over_on Place' a h.0, over_on (if_scalar t) b h.1, h.2, h.3)
-  over_on want (Assign (Some o) works a b t) h = (over_on Place' a h.0, over_on Value b h.1, h.2, h.3, h.4, h.5)
+  over_on want (Assign (Some o) works a b t) h = (over_on Place' a h.0, over_on Value b h.1, h.2, h.3, h.4, h.5, h.6)
   over_on want (Cond a b c t) h = h
-  over_on want (Binary o a b t) h = (over_on Value a h.0, over_on Value b h.1, h.2, h.3, h.4)
+  over_on want (Binary o a b t) h = (over_on Value a h.0, over_on Value b h.1, h.2, h.3, h.4, h.5)
   over_on want (Cast a t) h = (over_on (unless_array (type_of a)) a h.0, h.1, h.2)
   over_on want (Unary sign.Address a t) h = (over_on Place' a h.0, h.1, h.2)
   over_on want (Unary sign.Deref a t) h = (over_on Value a h.0, h.1)
@@ -115,6 +115,9 @@ module _ (s : Source) (p : Layout) where
     parts_on at (n ∷ ns) [] h = h
     parts_on at (n ∷ ns) (y ∷ ys) h = (x.slots n (type_of y.value) h.0, h.1, parts_on at ns ys h.2)
 
+    operand_on : (u : Updating) (n : ℕ) → KeepsOperand s p k u n → KeepsOperand s p l u n
+    operand_on u n (t, h, i, m) = (t, x.temps n (ValueOf t) h, i, m)
+
     node_on : (n : Node) → NodeFits s p k n → NodeFits s p l n
     node_on (Keep want t e next) h = (over_on p x want e h.0, for_on x want (type_of e) t h.1)
     node_on (KeepCells n e next) h = (over_on p x (if_scalar (type_of e)) e h.0, x.slots n (type_of e) h.1)
@@ -123,7 +126,7 @@ module _ (s : Source) (p : Layout) where
     node_on (Update u want at old right t next) h = (
       x.temps at (PlaceOf u.ctype) h.0,
       x.temps old (ValueOf u.ctype) h.1,
-      some_on x _ right h.2,
+      operand_on u right h.2,
       h.3,
       h.4,
       for_on x want u.ctype t h.5,

@@ -8,7 +8,7 @@ use Rattle.sc_world.specs.Tree.{Ty, Int, is_integer, is_pointer, Exp, Number, Te
 use Rattle.sc_world.specs.Source.{Source}
 use Rattle.sc_world.specs.Layout.{Layout}
 use Rattle.sc_world.specs.Eval.{Want, Value, Place'}
-use Rattle.run_laws.specs.Fits.{Fits, is_scalar}
+use Rattle.run_laws.specs.Fits.{Fits, TypesMeet, is_scalar}
 use Rattle.flow_graph.specs.Nodes.{Keep, Update, Updating, Branch}
 use Rattle.flow_graph.specs.Growing.{Growing, Build, put, fresh}
 use Rattle.flow_graph.specs.Expressions.{Aim, Into, Test, Part, Goal, goal, kept, plainly, one, two, comma, conditional, Sides, sides, first_test, logical, updating, address, called, as_scalar, easy}
@@ -109,8 +109,8 @@ module _ (s : Source) (p : Layout) where
       second j g = b (Into right (g.temps + 1) (length g.nodes)) (behind j g)
 
   pub updating_typed : (u : Updating) (want : Want) (t : Ty) (l r : Part) → is_integer u.ctype ≡ true → is_integer u.works ≡ true
-      → is_integer t ≡ true → Typed Place' u.ctype l → Typed Value t r → Typed want u.ctype (updating u l r)
-  updating_typed u want t l r sort works of ol or' =
+      → is_integer t ≡ true → TypesMeet u.op u.works t u.works → Typed Place' u.ctype l → Typed Value t r → Typed want u.ctype (updating u l r)
+  updating_typed u want t l r sort works of meet ol or' =
       typed_goal want u.ctype (λ j g. l (Into Place' g.temps (length (right j g).1.nodes)) (old j g))
       (λ x next g k w h.
       let j : Goal = record { want = want; temp = x; next = next } in
@@ -131,7 +131,7 @@ module _ (s : Source) (p : Layout) where
       (kept.via s p
       (or'.into (g.temps + 1 + 1) (length g.nodes) (behind j g) third
       (kept.good_put s p (Update u want g.temps (g.temps + 1) (g.temps + 1 + 1) x next)
-      (place, former, (t, operand, of), sort, works, for_on all want u.ctype x h)
+      (place, former, (t, operand, of, meet), sort, works, for_on all want u.ctype x h)
       (kept.good_temp s p (ValueOf t) better))
       operand)
       (λ m more o. ol.into g.temps (length (right j g).1.nodes) (old j g) m

@@ -5,7 +5,7 @@ use Rattle.sc_world.specs.declared.run.Origin.TheVariants as origin
 use Rattle.sc_world.specs.Tree.{Ty, is_integer, is_pointer, is_array, target_or_void, Exp, Comma, Assign, Cond, Binary, Cast, Unary, PreInc, PostInc, SizeofExpr, SizeofType, Index, Call, Field, Param, Local, Global, Function, Number, Str, Convert, Temp, TempPlace, type_of}
 use Rattle.sc_world.specs.Layout.{Layout}
 use Rattle.sc_world.specs.Eval.{Want, Value, Place'}
-use Rattle.run_laws.specs.Fits.{operands_fit, converts_to, is_scalar, unless_array, if_scalar, IsRead, IsTypedThere, IsStubThere, Indexed, MemberFits}
+use Rattle.run_laws.specs.Fits.{operands_fit, TypesMeet, converts_to, is_scalar, unless_array, if_scalar, IsRead, IsTypedThere, IsStubThere, Indexed, MemberFits}
 
 -- a value of a type, or the place of an object of a type
 pub data Kind : Type 0 where
@@ -40,18 +40,17 @@ module _ (k : Kinds) where
         FitsOver Place' a × FitsOver (if_scalar t) b × (type_of a ≡ t) × (type_of b ≡ t)
     FitsOver want (Assign (Some o) works a b t) =
         FitsOver Place' a × FitsOver Value b × (type_of a ≡ t) × (is_integer t ≡ true) × (is_integer works ≡ true)
-        × (is_integer (type_of b) ≡ true)
+        × (is_integer (type_of b) ≡ true) × TypesMeet o works (type_of b) works
     FitsOver want (Cond a b c t) = ⊥
     FitsOver want (Binary o a b t) =
         FitsOver Value a × FitsOver Value b × IsRead want × (is_integer t ≡ true)
-        × (operands_fit o (type_of a) (type_of b) ≡ true)
+        × (operands_fit o (type_of a) (type_of b) ≡ true) × TypesMeet o (type_of a) (type_of b) t
     FitsOver want (Cast a t) = FitsOver (unless_array (type_of a)) a × IsRead want × (converts_to (type_of a) t ≡ true)
     FitsOver want (Unary sign.Address a t) = FitsOver Place' a × IsRead want × (is_pointer t ≡ true)
     FitsOver want (Unary sign.Deref a t) = FitsOver Value a × (is_pointer (type_of a) ≡ true)
     FitsOver want (Unary sign.Not a t) =
         FitsOver Value a × IsRead want × (is_scalar (type_of a) ≡ true) × (is_integer t ≡ true)
-    FitsOver want (Unary o a t) =
-        FitsOver Value a × IsRead want × (is_integer (type_of a) ≡ true) × (is_integer t ≡ true)
+    FitsOver want (Unary o a t) = FitsOver Value a × IsRead want × (type_of a ≡ t) × (is_integer t ≡ true)
     FitsOver want (PreInc d a t) = FitsOver Place' a × IsRead want × (type_of a ≡ t) × (is_integer t ≡ true)
     FitsOver want (PostInc d a t) = FitsOver Place' a × IsRead want × (type_of a ≡ t) × (is_integer t ≡ true)
     FitsOver want (SizeofExpr a n t) = IsRead want × (is_integer t ≡ true)

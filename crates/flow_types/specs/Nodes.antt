@@ -1,13 +1,13 @@
 -- Nodes that fit: each reads from a temp or a slot what is kept there, and keeps there what it is for.
 use Rattle.std.specs.Prelude.{◌≡◌, ℕ, true, Some, None, List, [], ◌∷◌, length, slice_get}
 use Rattle.sc_world.specs.declared.run.Origin.TheVariants as origin
-use Rattle.sc_world.specs.Tree.{is_integer, Exps, NoExps, Exps', type_of, Given}
+use Rattle.sc_world.specs.Tree.{Ty, is_integer, Exps, NoExps, Exps', type_of, Given}
 use Rattle.sc_world.specs.Source.{Source}
 use Rattle.sc_world.specs.Layout.{Layout, location, location_of, has_type, same_pos, site_at}
 use Rattle.sc_world.specs.Exec.{part_at, env_of}
-use Rattle.run_laws.specs.Fits.{is_scalar, if_scalar, IsThere, CallFits}
+use Rattle.run_laws.specs.Fits.{is_scalar, if_scalar, IsThere, TypesMeet, CallFits}
 use Rattle.run_laws.specs.Functions.{FunctionFits}
-use Rattle.flow_graph.specs.Nodes.{Node, Keep, KeepCells, CallOf, Update, Set, Fill, Branch, Choose, Mark, MarkSwitch, Exit, SetAside}
+use Rattle.flow_graph.specs.Nodes.{Node, Keep, KeepCells, CallOf, Update, Updating, Set, Fill, Branch, Choose, Mark, MarkSwitch, Exit, SetAside}
 use Rattle.flow_graph.specs.Unrolled.{flow}
 use Rattle.flow_types.specs.Kinds.{ValueOf, PlaceOf, Kinds, IsKept, KeepsSome, IsFor, FitsOver}
 
@@ -29,6 +29,10 @@ module _ (s : Source) (p : Layout) (k : Kinds) where
       × ((to : ℕ) → part_at (env_of s p []) at x.way ≡ Some to → has_type (location p to) (type_of x.value) ≡ true)
       × KeepParts at ns xs
 
+  -- the temp keeps the right side of an assignment by an operator, brought to the type in which it works
+  abbrev pub KeepsOperand : Updating → ℕ → Type 0
+  KeepsOperand u n = (t : Ty) × IsKept k n (ValueOf t) × (is_integer t ≡ true) × TypesMeet u.op u.works t u.works
+
   abbrev pub local : ℕ → ℕ
   local n = location_of p (origin.Local n)
 
@@ -41,7 +45,7 @@ module _ (s : Source) (p : Layout) (k : Kinds) where
       (es : Exps) × KeepArguments args es × CallFits es c.result (site_at p c.place.token).site.effect
       × (same_pos c.place.token (site_at p c.place.token).site.bracket ≡ true) × IsKept k n (ValueOf c.result)
   NodeFits (Update u want at old right n next) =
-      IsKept k at (PlaceOf u.ctype) × IsKept k old (ValueOf u.ctype) × KeepsSome k is_integer right
+      IsKept k at (PlaceOf u.ctype) × IsKept k old (ValueOf u.ctype) × KeepsOperand u right
       × (is_integer u.ctype ≡ true) × (is_integer u.works ≡ true) × IsFor k want u.ctype n
   NodeFits (Set n e next) =
       IsThere p (origin.Local n) × FitsOver k p (if_scalar (type_of e)) e
