@@ -13,4 +13,5 @@ mod sites;
 
 pub use calls::Calls;
 pub use evaluate::eval;
+pub use names::{character, operator};
 pub use room::Room;
