@@ -1,22 +1,22 @@
 -- An expression that is typed, and that was found, fits the layout.
-use Rattle.std.proofs.Common.{inl, inr, ◌≡◌, ◌⊎◌, ℕ, ◌+◌, Bool, true, false, ◌&&◌, List, [], ◌∷◌, refl, sym, ap, subst, ◌∙◌, nat_eq}
-use Rattle.std.specs.Prelude.{Option, Some, None, slice_get, if◌then◌else◌}
+use Rattle.std.proofs.Common.{inl, inr, ◌≡◌, ℕ, ◌+◌, Bool, true, false, ◌&&◌, List, [], ◌∷◌, refl, sym, ap, subst, ◌∙◌, nat_eq}
+use Rattle.std.specs.Prelude.{Some, None, if◌then◌else◌}
 use Rattle.sc_base.specs.declared.pos.Pos.{Pos}
 use Rattle.sc_base.specs.declared.pos.NameId.{NameId}
 use Rattle.sc_tree.specs.declared.op.UnaryOp.TheVariants as sign
 use Rattle.sc_tree.specs.declared.expr.Place.{Place}
 use Rattle.sc_world.specs.declared.run.Origin.TheVariants as origin
-use Rattle.sc_world.specs.Tree.{Ty, Array, Struct, is_array, is_pointer, target_or_void, Exp, Comma, Assign, Cond, Binary, Cast, Unary, PreInc, PostInc, SizeofExpr, SizeofType, Index, Call, Field, Param, Local, Global, Function, Number, Str, Convert, Temp, TempPlace, Exps, NoExps, Exps', type_of}
-use Rattle.sc_world.specs.Source.{Source, Effect, effect}
+use Rattle.sc_world.specs.Tree.{Ty, is_array, target_or_void, Exp, Comma, Assign, Cond, Binary, Cast, Unary, PreInc, PostInc, SizeofExpr, SizeofType, Index, Call, Field, Param, Local, Global, Function, Number, Str, Convert, Temp, TempPlace, Exps, NoExps, Exps', type_of}
+use Rattle.sc_world.specs.Source.{Source, effect}
 use Rattle.sc_world.specs.Gather.{Found, Site}
-use Rattle.sc_world.specs.Layout.{Layout, Placed, no_site, site_from, site_at, same_pos}
+use Rattle.sc_world.specs.Layout.{Layout, site_from, site_at, same_pos}
 use Rattle.sc_world.specs.Objects.{is_named}
 use Rattle.sc_world.specs.Eval.{Want, Value, Place', is_name}
 use Rattle.run_laws.specs.Fits.{Fits, FitAll, CallFits, Indexed, MemberFits, Unless, unless_array, if_scalar}
 use Rattle.layout_laws.specs.Origins.{IsAmong, IsLaidFor}
-use Rattle.fitting_laws.specs.Found.{HasCall, IfValue, IsFound, AllFound}
-use Rattle.fitting_laws.specs.Typed.{names_function, BracketsTell, HasMember, HasMemberOf, IsIndexed, IsTyped, AllTyped}
-use Rattle.fitting_laws.proofs.Finding.{clash, both, number_same, number_is, param_there, local_there, global_there, literal_there, elements_fit, member_fits}
+use Rattle.fitting_laws.specs.Found.{HasCall, IsFound, AllFound}
+use Rattle.fitting_laws.specs.Typed.{names_function, BracketsTell, HasMemberOf, IsIndexed, IsTyped, AllTyped}
+use Rattle.fitting_laws.proofs.Finding.{clash, both, number_same, param_there, local_there, global_there, literal_there, elements_fit, member_fits}
 
 pos_self : (q : Pos) → same_pos q q ≡ true
 pos_self q =
@@ -93,9 +93,9 @@ module _ (s : Source) (f : Found) (p : Layout) (laid : IsLaidFor s f p.locations
     pub fits : (want : Want) (e : Exp) → IsTyped s want e → IsFound s f e true → Fits p want e
     fits want (Comma a b t) h k = (fits Value a h.0 k.0, fits want b h.1 k.1, h.2)
     fits want (Assign None works a b t) h k = (fits Place' a h.0 k.0, fits (if_scalar t) b h.1 k.1, h.2, h.3)
-    fits want (Assign (Some o) works a b t) h k = (fits Place' a h.0 k.0, fits Value b h.1 k.1, h.2, h.3, h.4, h.5)
+    fits want (Assign (Some o) works a b t) h k = (fits Place' a h.0 k.0, fits Value b h.1 k.1, h.2, h.3, h.4, h.5, h.6)
     fits want (Cond a b c t) h k = (fits Value a h.0 k.0, fits want b h.1 k.1, fits want c h.2 k.2, h.3, h.4, h.5)
-    fits want (Binary o a b t) h k = (fits Value a h.0 k.0, fits Value b h.1 k.1, h.2, h.3, h.4)
+    fits want (Binary o a b t) h k = (fits Value a h.0 k.0, fits Value b h.1 k.1, h.2, h.3, h.4, h.5)
     fits want (Cast a t) h k = (fits (unless_array (type_of a)) a h.0 k, h.1, h.2)
     fits want (Unary sign.Address a t) h k = (fits Place' a h.0 k, h.1, h.2)
     fits want (Unary sign.Deref a t) h k = (fits Value a h.0 k, h.1)

@@ -1,6 +1,6 @@
 -- Expressions as typing makes them (C11 6.5): the operands of each operator have the types that it wants, and what an
 -- expression names has its type where it is declared. No layout is asked.
-use Rattle.std.specs.Prelude.{◌≡◌, ℕ, Bool, true, false, Option, Some, None, List, [], ◌∷◌, slice_get}
+use Rattle.std.specs.Prelude.{◌≡◌, ℕ, Bool, true, false, Option, Some, None, List, slice_get}
 use Rattle.sc_base.specs.declared.pos.NameId.{NameId}
 use Rattle.sc_tree.specs.declared.op.UnaryOp.TheVariants as sign
 use Rattle.sc_world.specs.Tree.{Ty, Array, Struct, is_integer, is_pointer, is_array, target_or_void, Exp, Comma, Assign, Cond, Binary, Cast, Unary, PreInc, PostInc, SizeofExpr, SizeofType, Index, Call, Field, Param, Local, Global, Function, Number, Str, Convert, Temp, TempPlace, Exps, NoExps, Exps', type_of}
@@ -9,7 +9,7 @@ use Rattle.sc_world.specs.Gather.{Site}
 use Rattle.sc_world.specs.Layout.{same_pos}
 use Rattle.sc_world.specs.Objects.{members_of}
 use Rattle.sc_world.specs.Eval.{Want, Value, Place', is_name}
-use Rattle.run_laws.specs.Fits.{may_be_stub, is_scalar, operands_fit, converts_to, unless_array, if_scalar, IsRead, Unless, CallFits}
+use Rattle.run_laws.specs.Fits.{may_be_stub, is_scalar, operands_fit, TypesMeet, converts_to, unless_array, if_scalar, IsRead, Unless, CallFits}
 use Rattle.layout_laws.specs.Origins.{IsAmong}
 
 -- a function's name, also behind conversions
@@ -44,17 +44,17 @@ module _ (s : Source) where
         IsTyped Place' a × IsTyped (if_scalar t) b × (type_of a ≡ t) × (type_of b ≡ t)
     IsTyped want (Assign (Some o) works a b t) =
         IsTyped Place' a × IsTyped Value b × (type_of a ≡ t) × (is_integer t ≡ true) × (is_integer works ≡ true)
-        × (is_integer (type_of b) ≡ true)
+        × (is_integer (type_of b) ≡ true) × TypesMeet o works (type_of b) works
     IsTyped want (Cond a b c t) =
         IsTyped Value a × IsTyped want b × IsTyped want c × (is_scalar (type_of a) ≡ true) × (type_of b ≡ t) × (type_of c ≡ t)
     IsTyped want (Binary o a b t) =
         IsTyped Value a × IsTyped Value b × IsRead want × (is_integer t ≡ true)
-        × (operands_fit o (type_of a) (type_of b) ≡ true)
+        × (operands_fit o (type_of a) (type_of b) ≡ true) × TypesMeet o (type_of a) (type_of b) t
     IsTyped want (Cast a t) = IsTyped (unless_array (type_of a)) a × IsRead want × (converts_to (type_of a) t ≡ true)
     IsTyped want (Unary sign.Address a t) = IsTyped Place' a × IsRead want × (is_pointer t ≡ true)
     IsTyped want (Unary sign.Deref a t) = IsTyped Value a × (is_pointer (type_of a) ≡ true)
     IsTyped want (Unary sign.Not a t) = IsTyped Value a × IsRead want × (is_scalar (type_of a) ≡ true) × (is_integer t ≡ true)
-    IsTyped want (Unary o a t) = IsTyped Value a × IsRead want × (is_integer (type_of a) ≡ true) × (is_integer t ≡ true)
+    IsTyped want (Unary o a t) = IsTyped Value a × IsRead want × (type_of a ≡ t) × (is_integer t ≡ true)
     IsTyped want (PreInc d a t) = IsTyped Place' a × IsRead want × (type_of a ≡ t) × (is_integer t ≡ true)
     IsTyped want (PostInc d a t) = IsTyped Place' a × IsRead want × (type_of a ≡ t) × (is_integer t ≡ true)
     IsTyped want (SizeofExpr a n t) = IsRead want × (is_integer t ≡ true)
