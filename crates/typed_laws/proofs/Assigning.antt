@@ -5,6 +5,7 @@ use Rattle.std.specs.Prelude.{Option, Some, None, if◌then◌else◌}
 use Rattle.sc_base.specs.declared.skip.Unsupported.TheVariants as u
 use Rattle.sc_base.specs.declared.skip.IllTyped.TheVariants as i
 use Rattle.sc_tree.specs.declared.op.BinaryOp.{BinaryOp}
+use Rattle.sc_tree.specs.declared.op.BinaryOp.TheVariants as op
 use Rattle.sc_tree.specs.declared.op.AssignOp.{AssignOp}
 use Rattle.sc_tree.specs.declared.op.AssignOp.TheVariants as assign
 use Rattle.sc_tree.specs.declared.op.Step.{Step}
@@ -34,7 +35,7 @@ use Rattle.sc_world.specs.Tree.{Ty, Int, Exp, Assign, PreInc, PostInc}
 use Rattle.sc_world.specs.Source.{Source}
 use Rattle.sc_world.specs.View.{type, exp, operator}
 use Rattle.sc_world.specs.Eval.{Want, Value, Place'}
-use Rattle.run_laws.specs.Fits.{is_scalar, if_scalar}
+use Rattle.run_laws.specs.Fits.{is_scalar, if_scalar, in_one_type, TypesMeet}
 use Rattle.fitting_laws.specs.Typed.{IsTyped}
 use Rattle.typed_laws.specs.Named.{NamesAgree}
 use Rattle.typed_laws.proofs.Types.{integer_seen, type_int}
@@ -59,6 +60,16 @@ integer_no_object t h = layer (out-CType t) h
     layer CType-F.Bool h = refl
     layer (CType-F.Int k) h = refl
     layer _ h = never h
+
+-- only a shift leaves its sides in two types
+abbrev Apart : Manner → BinaryOp → Type 0
+Apart by.Shifting o = in_one_type o ≡ false
+Apart _ o = Unit {0}
+
+apart_by : (o : BinaryOp) → Apart (manner_of o) o
+apart_by op.ShiftLeft = refl
+apart_by op.ShiftRight = refl
+apart_by _ = tt
 
 module _ (s : Source) where
   -- `++` and `--`
@@ -129,24 +140,32 @@ module _ (s : Source) where
   Works None a r = Given s (type_of a) r.right
   Works (Some o) a r =
       (typed.is_integer (type_of a) ≡ true) × (tree.is_integer (type r.ctype) ≡ true) × (NamesAgree s (seen s r.right) → IsTyped s Value (seen s r.right))
-      × (tree.is_integer (tree.type_of (seen s r.right)) ≡ true)
+      × (tree.is_integer (tree.type_of (seen s r.right)) ≡ true) × TypesMeet o (type r.ctype) (tree.type_of (seen s r.right)) (type r.ctype)
 
-  in_works : (o : BinaryOp) (a : TExpr) (k j : IntKind) (y : TExpr) → typed.is_integer (type_of a) ≡ true → Brought s (ty.Int j) y → Works (Some o) a (working_in (ty.Int k) y)
-  in_works o a k j y h r = (h, int_seen k, r.value, brought_integer s j y r)
+  in_works : (o : BinaryOp) (a : TExpr) (k j : IntKind) (y : TExpr) → typed.is_integer (type_of a) ≡ true → Brought s (ty.Int j) y → (in_one_type o ≡ true → k ≡ j)
+      → Works (Some o) a (working_in (ty.Int k) y)
+  in_works o a k j y h r same = (
+    h,
+    int_seen k,
+    r.value,
+    brought_integer s j y r,
+    record { same = λ one integer. ap (λ n. type (ty.Int n)) (same one) ∙ sym r.type; keeps = λ other. refl },
+  )
 
-  working_works : (o : BinaryOp) (m : Manner) (w : Widths) (a b : TExpr) → typed.is_integer (type_of a) ≡ true → typed.is_integer (type_of b) ≡ true → Valued s b → Works (Some o) a (working_by m w a b)
-  working_works o by.Shifting w a b h k v =
+  working_works : (o : BinaryOp) (m : Manner) (w : Widths) (a b : TExpr) → Apart m o → typed.is_integer (type_of a) ≡ true → typed.is_integer (type_of b) ≡ true → Valued s b → Works (Some o) a (working_by m w a b)
+  working_works o by.Shifting w a b apart h k v =
       in_works o a (typed.promoted_kind (type_of a)) (typed.promoted_kind (type_of b)) (promote b) h (in_integer s (typed.promoted_kind (type_of b)) b v k)
-  working_works o _ w a b h k v =
+      (λ one. clash one apart)
+  working_works o _ w a b apart h k v =
       in_works o a (common w (typed.promoted_kind (type_of a)) (typed.promoted_kind (type_of b))) (common w (typed.promoted_kind (type_of a)) (typed.promoted_kind (type_of b))) (to (common_of w a b) b) h
-      (in_integer s (common w (typed.promoted_kind (type_of a)) (typed.promoted_kind (type_of b))) b v k)
+      (in_integer s (common w (typed.promoted_kind (type_of a)) (typed.promoted_kind (type_of b))) b v k) (λ one. refl)
 
   compound_works : (w : Widths) (o : BinaryOp) (p : Place) (a b : TExpr) → Valued s b → Gives (Works (Some o) a) (compound w o p a b)
   compound_works w o p a b v =
       by_if (OnSome (Works (Some o) a)) (is_additive (manner_of o) && some_pointer a b) _ _ (λ h. by_fault (Works (Some o) a) (unsupported_at u.Arith p.token)) (λ h.
       by_unless (Works (Some o) a) (both_integers a b) _ (ill_typed_at i.Operand p.token) (λ k.
       let both = and_parts (typed.is_integer (type_of a)) (typed.is_integer (type_of b)) k in
-      by_some (Works (Some o) a) (working_by (manner_of o) w a b) (working_works o (manner_of o) w a b both.0 both.1 v)))
+      by_some (Works (Some o) a) (working_by (manner_of o) w a b) (working_works o (manner_of o) w a b (apart_by o) both.0 both.1 v)))
 
   for_works : (w : Widths) (o : Option BinaryOp) (p : Place) (a b : TExpr) → Valued s b → Gives (Works o a) (working_for w o p a b)
   for_works w (Some o) p a b v = compound_works w o p a b v
@@ -166,7 +185,7 @@ module _ (s : Source) where
       → NamesAgree s (Assign o (type r.ctype) (seen s a) (seen s r.right) (type (type_of a))) → IsTyped s want (Assign o (type r.ctype) (seen s a) (seen s r.right) (type (type_of a)))
   any_assigned None a r h place want names = (place names.0, h.stored names.1, typed_of s.structs a, h.type)
   any_assigned (Some o) a r h place want names =
-      (place names.0, h.2 names.1, typed_of s.structs a, integer_seen (type_of a) ∙ h.0, h.1, h.3)
+      (place names.0, h.2 names.1, typed_of s.structs a, integer_seen (type_of a) ∙ h.0, h.1, h.3, h.4)
 
   same_operator : (o : AssignOp) → assigned_operator o ≡ operator o
   same_operator assign.Set = refl

@@ -42,7 +42,7 @@ use Rattle.typed_laws.proofs.Types.{integer_seen, pointer_seen, void_seen, scala
 use Rattle.typed_laws.proofs.Trees.{typed_of, unary_seen, cast_seen, cast_value, sizeof_seen, sizeof_value, sizeof_type_seen, sizeof_type_value, index_seen, int_seen, int_value, char_seen, char_value, address_value, not_value, plus_value, minus_value, complement_value}
 use Rattle.typed_laws.proofs.Steps.{OnSome, Every, Gives, by_then, by_done, by_some, by_none, by_fault, by_if, by_unless}
 use Rattle.typed_laws.proofs.Made.{clash, is_object, seen, Made, Fresh, Valued, Brought, read_made, any_made, value_typed, unless_place, seen_integer, seen_pointer, seen_scalar, seen_array, brought, integer_to}
-use Rattle.typed_laws.proofs.Operators.{int_scalar, int_no_object, in_integer, brought_integer}
+use Rattle.typed_laws.proofs.Operators.{int_scalar, int_no_object, in_integer}
 use Rattle.typed_laws.proofs.Operators as operators
 use Rattle.typed_laws.proofs.Values.{pointer_no_object, scalar_goes}
 
@@ -142,17 +142,17 @@ module _ (s : Source) where
   plus_made : Promotes sign.Plus
   plus_made p k y r =
       read_made s (node (what.Unary sign.Plus y) (ty.Int k) p) (Unary sign.Plus (seen s y) (type (ty.Int k))) refl (unary_seen s.structs sign.Plus y (ty.Int k) p) (plus_value y (ty.Int k) p) (int_no_object k)
-      (λ names. (r.value names, tt, brought_integer s k y r, operators.int_seen k))
+      (λ names. (r.value names, tt, r.type, operators.int_seen k))
 
   minus_made : Promotes sign.Minus
   minus_made p k y r =
       read_made s (node (what.Unary sign.Minus y) (ty.Int k) p) (Unary sign.Minus (seen s y) (type (ty.Int k))) refl (unary_seen s.structs sign.Minus y (ty.Int k) p) (minus_value y (ty.Int k) p) (int_no_object k)
-      (λ names. (r.value names, tt, brought_integer s k y r, operators.int_seen k))
+      (λ names. (r.value names, tt, r.type, operators.int_seen k))
 
   complement_made : Promotes sign.Complement
   complement_made p k y r =
       read_made s (node (what.Unary sign.Complement y) (ty.Int k) p) (Unary sign.Complement (seen s y) (type (ty.Int k))) refl (unary_seen s.structs sign.Complement y (ty.Int k) p) (complement_value y (ty.Int k) p) (int_no_object k)
-      (λ names. (r.value names, tt, brought_integer s k y r, operators.int_seen k))
+      (λ names. (r.value names, tt, r.type, operators.int_seen k))
 
   promoting_made : (o : UnaryOp) (p : Place) (a : TExpr) → Promotes o → Valued s a → Gives (Fresh s) (promoting o p a)
   promoting_made o p a r v =
