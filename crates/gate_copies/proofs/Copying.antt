@@ -1,6 +1,6 @@
 -- All cells are read, and then stored, as a run does.
-use Rattle.std.proofs.Common.{◌≡◌, ℕ, zero, suc, ◌+◌, ◌-◌, ◌<◌, ◌≤◌, Bool, true, false, nat_lt, ◌||◌, Some, None, List, [], ◌∷◌, ◌++◌, Result, Ok, length, map, take, get_or, if◌then◌else◌, inl, inr, refl, sym, ◌∙◌, ap, subst, arith}
-use Rattle.std.specs.Prelude.{Option, slice_get, slice_index_or}
+use Rattle.std.proofs.Common.{◌≡◌, ℕ, zero, suc, ◌+◌, ◌-◌, ◌<◌, ◌≤◌, Bool, true, false, ◌||◌, Some, None, List, [], ◌∷◌, ◌++◌, Ok, length, map, get_or, if◌then◌else◌, inl, inr, refl, sym, ◌∙◌, ap, subst, arith}
+use Rattle.std.specs.Prelude.{Option, slice_get}
 use Rattle.std.proofs.lemmas.Bool.{lt-ltb}
 use Rattle.std.proofs.lemmas.List.{length-map}
 use Rattle.bit_net.specs.declared.nodes.Node.{Node}
@@ -11,13 +11,13 @@ use Rattle.gl_sets.specs.Guards.{Points, guards_top, targets_of}
 use Rattle.gl_sets.specs.Sets.{IsMoved}
 use Rattle.gl_store.specs.declared.values.Val.TheVariants.{Set}
 use Rattle.gl_store.specs.declared.stores.Location.{Location}
-use Rattle.gl_store.specs.Meets.{MeetsAll, kinds, locations_top}
+use Rattle.gl_store.specs.Meets.{MeetsAll, locations_top}
 use Rattle.run_store.specs.Concrete.{Cell, Number, Pointer, Nothing, Place, nth_cell}
 use Rattle.sc_world.specs.Tree.{Ty}
 use Rattle.sc_world.specs.Source.{Source}
 use Rattle.sc_world.specs.Layout.{Layout, location, has_type, is_stub}
-use Rattle.sc_world.specs.World.{World, Ended, Run, goes_on, done, target_of}
-use Rattle.sc_world.specs.Eval.{Place', place_of, cells_of, load_all, store_all, copy, assign_struct}
+use Rattle.sc_world.specs.World.{World, goes_on, done, target_of}
+use Rattle.sc_world.specs.Eval.{Place', place_of, cells_of, store_all, copy, assign_struct}
 use Rattle.run_laws.specs.Fits.{StandsAt}
 use Rattle.run_values.proofs.Cells.{load_is}
 use Rattle.gate_runs.specs.declared.ends.Ends.{Ends}
@@ -25,10 +25,10 @@ use Rattle.gate_runs.specs.Standing.{Standing, On, Over, stand, after}
 use Rattle.gate_runs.specs.Stands.{Stands, Does, Any}
 use Rattle.gate_places.specs.Places.{GoodFor, env_of}
 use Rattle.gate_copies.specs.declared.readings.Reading.{Reading}
-use Rattle.gate_copies.specs.Objects.{may_stand, most, object_targets}
+use Rattle.gate_copies.specs.Objects.{cell_with, may_stand, most, object_targets}
 use Rattle.gate_copies.specs.Widths.{number_at, widths}
 use Rattle.gate_copies.specs.Readings.{MeetsOne, Reads, AreRead, IsPut, found, guarded_top, readings_top, stored_at}
-use Rattle.gate_copies.specs.Copies.{cell_with, stored_all, IsReading, HaveRead, IsStoredIn, HaveStored, DoesCopy}
+use Rattle.gate_copies.specs.Copies.{stored_all, IsReading, HaveRead, IsStoredIn, HaveStored, DoesCopy}
 use Rattle.gate_copies.proofs.Listing.{map_twice, most_at}
 use Rattle.gate_copies.proofs.Collecting.{AreCells, cells_are}
 use Rattle.gate_copies.proofs.Widening.{number_known}

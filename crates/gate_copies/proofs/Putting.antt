@@ -10,7 +10,7 @@ use Rattle.gl_store.specs.declared.stores.Location.{Location}
 use Rattle.gl_store.specs.Meets.{Meets, MeetsAll, val_top, kinds, locations_top}
 use Rattle.gl_store.specs.Steps.{IsStored, IsMarkedWhere, marked_target}
 use Rattle.run_store.specs.declared.Flag.TheVariants as flag
-use Rattle.run_store.specs.Concrete.{Cell, Place, Marks, with_flag, marked, write}
+use Rattle.run_store.specs.Concrete.{Cell, Place, marked, write}
 use Rattle.gate_copies.specs.declared.readings.Guarded.{Guarded}
 use Rattle.gate_copies.specs.Readings.{guarded_top, IsCell, MeetsIf, MeetsOne, stored_at, IsStoredWhere, IsPut}
 

@@ -1,12 +1,11 @@
 -- The widths of cells, and what is read where a cell of a width is wanted.
-use Rattle.std.proofs.Common.{◌≡◌, ℕ, zero, suc, ◌+◌, ◌<◌, ◌≤◌, Bool, true, false, not, nat_eq, nat_lt, ◌||◌, Some, None, List, [], ◌∷◌, length, if◌then◌else◌, refl, sym, ◌∙◌, ap, subst, arith}
+use Rattle.std.proofs.Common.{◌≡◌, ℕ, zero, suc, ◌+◌, ◌<◌, Bool, true, false, nat_eq, nat_lt, Some, None, List, [], ◌∷◌, length, refl, sym, ◌∙◌, ap, arith}
 use Rattle.std.specs.Prelude.{Option, slice_index_or}
 use Rattle.std.proofs.lemmas.Bool.{eqb-false, lt-ltb, le-ltb, ltb-true, ltb-false}
-use Rattle.gl_store.specs.declared.values.Val.{Val}
 use Rattle.gl_store.specs.declared.stores.Location.{Location}
-use Rattle.gl_store.specs.Meets.{Meets, MeetsAll}
+use Rattle.gl_store.specs.Meets.{MeetsAll}
 use Rattle.gl_store.proofs.ValueLemmas.{Meets-kind, put_same}
-use Rattle.run_store.specs.Concrete.{Cell, Kind, Numbers, Pointers, NoCell, Place, kind_of, blank, nth_cell, load, width_kind}
+use Rattle.run_store.specs.Concrete.{Kind, Numbers, Pointers, NoCell, Place, kind_of, blank, nth_cell, load, width_kind}
 use Rattle.sc_tree.specs.declared.ctype.IntKind.{IntKind}
 use Rattle.sc_tree.specs.declared.ctype.IntKind.TheVariants as kind
 use Rattle.sc_tree.specs.declared.ctype.Widths.{Widths}
@@ -18,7 +17,7 @@ use Rattle.sc_world.specs.Layout as layouts
 use Rattle.sc_world.specs.World.{kind_of_type}
 use Rattle.gate_steps.specs.Steps.{kind_at}
 use Rattle.gate_places.specs.Places.{IsLaid}
-use Rattle.gate_copies.specs.Widths.{cell_width, number_at, of_width, width_at, width_number}
+use Rattle.gate_copies.specs.Widths.{cell_width, number_at, width_at, width_number}
 
 -- the width with the number of this one stands for that kind of cells
 pub record IsWidth (width : ℕ) (k : Kind) : Type 0 where

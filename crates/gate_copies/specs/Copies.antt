@@ -1,5 +1,5 @@
 -- Assignment of objects as gates: what the gates promise of it for every choice.
-use Rattle.std.specs.Prelude.{◌≡◌, ℕ, zero, suc, ◌≤◌, Bool, true, Option, List, length, map, slice_index_or, if◌then◌else◌}
+use Rattle.std.specs.Prelude.{◌≡◌, ℕ, zero, suc, ◌≤◌, Bool, Option, List, length, map, if◌then◌else◌}
 use Rattle.bit_net.specs.declared.nodes.Node.{Node}
 use Rattle.bit_net.specs.Runs.{Runs}
 use Rattle.gl_sets.specs.declared.pairs.Pair.{Pair}
@@ -18,13 +18,9 @@ use Rattle.gate_runs.specs.declared.ends.Ends.{Ends}
 use Rattle.gate_runs.specs.Stands.{Does}
 use Rattle.gate_places.specs.Places.{GoodFor, env_of}
 use Rattle.gate_copies.specs.declared.readings.Reading.{Reading}
-use Rattle.gate_copies.specs.Objects.{most}
+use Rattle.gate_copies.specs.Objects.{cell_with}
 use Rattle.gate_copies.specs.Widths.{widths}
 use Rattle.gate_copies.specs.Readings.{MeetsOne, Reads, found, guarded_top, readings_top, stored_at}
-
--- the target of the cell with that number; null where there is none
-abbrev pub cell_with : List ℕ → (number : ℕ) → ℕ
-cell_with cells number = slice_index_or cells number 0
 
 -- The cells of the object to which each pair leads are given as a list for each pair; g says which these are for a target.
 

@@ -1,5 +1,5 @@
 -- The cells of the objects to which targets lead. The target of location n is n + 1, and that of null is 0.
-use Rattle.std.specs.Prelude.{ℕ, zero, suc, Bool, ◌||◌, List, [], ◌∷◌, length, map, max, if◌then◌else◌}
+use Rattle.std.specs.Prelude.{ℕ, zero, suc, Bool, ◌||◌, List, [], ◌∷◌, length, map, max, slice_index_or, if◌then◌else◌}
 use Rattle.sc_world.specs.Tree.{Ty}
 use Rattle.sc_world.specs.Layout.{Layout, location, has_type, is_stub}
 use Rattle.sc_world.specs.Eval.{cells_of}
@@ -20,6 +20,10 @@ object_targets p t (suc at) = if may_stand p t at then cell_targets p at else []
 
 abbrev pub cells_in : Object → List ℕ
 cells_in object = object.cells.items
+
+-- the target of the cell with that number; null where there is none
+abbrev pub cell_with : List ℕ → (number : ℕ) → ℕ
+cell_with cells number = slice_index_or cells number 0
 
 -- how long a list is at most
 abbrev pub most : List (List ℕ) → ℕ

@@ -1,18 +1,18 @@
 //! The cells of the objects to which targets lead.
 
-ghost use Rattle.std.specs.Prelude.{◌≡◌, ℕ, ◌+◌, ◌<◌, ◌≤◌, ◌^◌, ◌++◌, suc, length, map, max, slice_index_or, IfOk, OnOk};
+ghost use Rattle.std.specs.Prelude.{◌≡◌, ℕ, ◌+◌, ◌<◌, ◌^◌, ◌++◌, suc, length, map, max, IfOk, OnOk};
 ghost use Rattle.gl_sets.specs.Guards.{targets_of};
 ghost use Rattle.layout_base.specs.Seen as laid;
 ghost use Rattle.sc_world.specs.Eval as spec;
 ghost use Rattle.sc_world.specs.Layout as layouts;
 ghost use Rattle.sc_world.specs.View.{type};
 ghost use Rattle.run_values.specs.Objects.{is_cell_of, cells_from};
-ghost use Rattle.gate_copies.specs.Objects.{cell_targets, may_stand, object_targets, cells_in, most};
+ghost use Rattle.gate_copies.specs.Objects.{cell_targets, cell_with, cells_in, may_stand, most, object_targets};
 
 use bit_net::OutOfMemory;
 use gl_sets::Pair;
 use layout_base::{Kind, Places};
-use layout_lookup::{is_cell, is_stub};
+use layout_lookup::is_cell;
 use run_world::same_type;
 use sc_tree::ctype::CType;
 use sc_world::Origin;
@@ -164,7 +164,7 @@ pub fn most_cells(objects: &[Object]) -> usize
 
 // The target of the cell with that number; null where there is none.
 fn cell_with(object: &Object, number: usize) -> u32
-    ensures { result ≡ slice_index_or object.now.cells.items number 0 }
+    ensures { result ≡ cell_with object.now.cells.items number }
 {
     match object.cells.get(number) {
         None => 0,
@@ -174,7 +174,7 @@ fn cell_with(object: &Object, number: usize) -> u32
 
 /// For each object the target of the cell with that number; null where there is none.
 pub fn cells_with(alloc: Global, objects: &[Object], number: usize) -> Result<Vec<u32>, OutOfMemory>
-    ensures { IfOk result (λ r. r.items ≡ map (λ cells. slice_index_or cells number 0) (map cells_in objects.now)) }
+    ensures { IfOk result (λ r. r.items ≡ map (λ cells. cell_with cells number) (map cells_in objects.now)) }
 {
     let mut targets = Vec::new(alloc);
     for object in objects {

@@ -1,8 +1,6 @@
 //! The widths of cells, by their numbers.
 
-ghost use Rattle.std.specs.Prelude.{◌≡◌, ℕ, ◌<◌, Some, not, nat_lt, map, IfOk};
-ghost use Rattle.std.specs.List.{list_any};
-ghost use Rattle.layout_base.specs.Seen as laid;
+ghost use Rattle.std.specs.Prelude.{◌≡◌, ℕ, Some, map, IfOk};
 ghost use Rattle.sc_world.specs.View.{type};
 ghost use Rattle.run_world.specs.Seen as seen;
 ghost use Rattle.gate_copies.specs.Widths.{cell_width, leads_to_some, number_at, of_width, width_at, width_number};

@@ -1,8 +1,7 @@
 use Rattle.std.proofs.Common.{ap, subst, length, map, ◌∙◌}
-use Rattle.std.specs.Prelude.{slice_index_or}
 use Rattle.std.proofs.lemmas.List.{length-map}
 use Rattle.run_world.specs.Seen as seen
-use Rattle.gate_copies.specs.Objects.{cells_in}
+use Rattle.gate_copies.specs.Objects.{cell_with, cells_in}
 use Rattle.gate_copies.specs.Widths.{widths}
 use Rattle.gate_copies.specs.Readings.{AreRead}
 use Rattle.gate_copies.proofs.Copying.{is_read}
@@ -11,7 +10,7 @@ use Rattle.gate_copies.proofs.copies.read_number.Goals as goal
 pub read_cell-requires-clause-wide : goal.read_cell-requires-clause-wide
 read_cell-requires-clause-wide c =
     ap length (c.as_slice.ensures.value ∙ c.in_ok-cells.ensures)
-    ∙ length-map (map cells_in c.args.objects.now) (λ cells. slice_index_or cells c.args.number 0) ∙ length-map c.args.objects.now cells_in ∙ c.requires.wide
+    ∙ length-map (map cells_in c.args.objects.now) (λ cells. cell_with cells c.args.number) ∙ length-map c.args.objects.now cells_in ∙ c.requires.wide
 
 pub returns-clause-ok : goal.returns-clause-ok
 returns-clause-ok c =

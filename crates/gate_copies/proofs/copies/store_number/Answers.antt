@@ -1,8 +1,7 @@
-use Rattle.std.proofs.Common.{ap, subst, length, map, ◌∙◌, arith}
-use Rattle.std.specs.Prelude.{slice_index_or}
+use Rattle.std.proofs.Common.{ap, subst, length, map, ◌∙◌}
 use Rattle.std.proofs.lemmas.List.{length-map}
 use Rattle.gl_sets.specs.Sets.{IsMoved}
-use Rattle.gate_copies.specs.Objects.{cells_in}
+use Rattle.gate_copies.specs.Objects.{cell_with, cells_in}
 use Rattle.gate_copies.specs.Readings.{IsPut}
 use Rattle.gate_copies.proofs.Copying.{is_stored}
 use Rattle.gate_copies.proofs.copies.store_number.Goals as goal
@@ -10,7 +9,7 @@ use Rattle.gate_copies.proofs.copies.store_number.Goals as goal
 pub moved-requires-clause-wide : goal.moved-requires-clause-wide
 moved-requires-clause-wide c =
     ap length (c.as_slice.ensures.value ∙ c.in_ok-cells.ensures)
-    ∙ length-map (map cells_in c.args.objects.now) (λ cells. slice_index_or cells c.args.number 0) ∙ length-map c.args.objects.now cells_in ∙ c.requires.wide
+    ∙ length-map (map cells_in c.args.objects.now) (λ cells. cell_with cells c.args.number) ∙ length-map c.args.objects.now cells_in ∙ c.requires.wide
 
 pub returns-clause-ok : goal.returns-clause-ok
 returns-clause-ok c =

@@ -1,4 +1,4 @@
-use Rattle.std.proofs.Common.{◌≡◌, false, sym, ap, subst, length, ◌∙◌}
+use Rattle.std.proofs.Common.{sym, ap, subst, length, ◌∙◌}
 use Rattle.std.proofs.lemmas.List.{length-map}
 use Rattle.gl_sets.specs.Sets.{IsMoved}
 use Rattle.run_world.specs.Seen as seen
