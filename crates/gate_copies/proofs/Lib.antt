@@ -1,0 +1,6 @@
+mod Listing
+mod Collecting
+mod Widening
+mod Counting
+mod Putting
+mod Copying

@@ -1,0 +1,4 @@
+pub mod Objects
+pub mod Widths
+pub mod Readings
+pub mod Copies
