@@ -1,0 +1,4 @@
+mod Choosing
+mod Filling
+mod Naming
+mod Making
