@@ -2,3 +2,4 @@ mod Choosing
 mod Filling
 mod Naming
 mod Making
+mod Reading
