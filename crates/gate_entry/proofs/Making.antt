@@ -19,7 +19,7 @@ use Rattle.layout_base.specs.declared.layout.Location.{Location as Laid}
 use Rattle.layout_base.specs.Seen.{layout_of, location_of}
 use Rattle.run_world.specs.declared.pointers.Here.{Here}
 use Rattle.run_world.specs.Seen.{env}
-use Rattle.gate_entry.specs.Entry.{AreMade, ArePut, IsCell, IsChoiceOf, IsEntered, IsState, IsUnmarked, ReadsWithin, cell_kind, state_kind}
+use Rattle.gate_entry.specs.Entry.{AreMade, ArePut, IsCell, IsChoiceOf, IsEntered, IsState, IsUnmarked, KindOf, PlaceOf, ReadsWithin, cell_kind, state_kind}
 
 pub unmarked : (ns : List Node) (g : Gate) → Gives ns g.at (λ choice v. false)
     → IsUnmarked ns record { touched = g; written = g; allocated = g; freed = g; escaped = g }
@@ -73,13 +73,13 @@ choice_last s p ls l bits (inr all) =
 
 -- One location more.
 
-pub record IsMade (s : Source) (p : Layout) (ns : List Node) (kind : Location → Kind) (place : List Bool → Location → Place) (l : Location) (made : Guarded) : Type 0 where
+pub record IsMade (s : Source) (p : Layout) (ns : List Node) (kind : KindOf) (place : PlaceOf) (l : Location) (made : Guarded) : Type 0 where
   pub below : val_top made.val ≤ length ns
   pub flags : flags_top made.flags ≤ length ns
   pub same : val_kind made.val ≡ kind l
   pub meets : (bits : List Bool) (v : ℕ → Bool) → Runs ns (bit_at bits) v → (length bits ≤ p.bits) ⊎ ReadsWithin s p l → MeetsPlace v made (place bits l)
 
-module _ (s : Source) (p : Layout) (kind : Location → Kind) (place : List Bool → Location → Place) where
+module _ (s : Source) (p : Layout) (kind : KindOf) (place : PlaceOf) where
   made_none : (ns : List Node) → AreMade s p ns kind place [] []
   made_none ns = record { below = top_none (length ns); same = refl; meets = λ bits v runs has. tt }
 

@@ -88,14 +88,21 @@ pub record IsUnmarked (ns : List Node) (flags : Flags) : Type 0 where
 abbrev pub IsChoiceOf : Source → Layout → List Location → List Bool → Type 0
 IsChoiceOf s p ls bits = (length bits ≤ p.bits) ⊎ All (ReadsWithin s p) ls
 
+-- the kind that is made for a location, and the place that a choice gives for it
+abbrev pub KindOf : Type 0
+KindOf = Location → Kind
+
+abbrev pub PlaceOf : Type 0
+PlaceOf = List Bool → Location → Place
+
 -- for each location there is one that has the kind, and is the place that the choice gives
-pub record AreMade (s : Source) (p : Layout) (ns : List Node) (kind : Location → Kind) (place : List Bool → Location → Place) (ls : List Location) (made : List Guarded) : Type 0 where
+pub record AreMade (s : Source) (p : Layout) (ns : List Node) (kind : KindOf) (place : PlaceOf) (ls : List Location) (made : List Guarded) : Type 0 where
   pub below : locations_top made ≤ length ns
   pub same : kinds made ≡ map kind ls
   pub meets : (bits : List Bool) (v : ℕ → Bool) → Runs ns (bit_at bits) v → IsChoiceOf s p ls bits → MeetsAll v made (map (place bits) ls)
 
 -- such locations were put behind those that were there
-pub record ArePut (s : Source) (p : Layout) (ns : List Node) (kind : Location → Kind) (place : List Bool → Location → Place) (ls : List Location) (old new : List Guarded) : Type 0 where
+pub record ArePut (s : Source) (p : Layout) (ns : List Node) (kind : KindOf) (place : PlaceOf) (ls : List Location) (old new : List Guarded) : Type 0 where
   pub put : List Guarded
   pub is : new ≡ old ++ put
   pub made : AreMade s p ns kind place ls put
