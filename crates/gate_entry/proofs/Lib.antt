@@ -1,0 +1,5 @@
+mod Choosing
+mod Filling
+mod Naming
+mod Making
+mod Reading
