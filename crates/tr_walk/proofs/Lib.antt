@@ -1,0 +1,9 @@
+pub mod Can
+pub mod Kept
+pub mod Arms
+pub mod Made
+pub mod Beginning
+pub mod Seen
+pub mod Operands
+pub mod Joined
+pub mod Parts

@@ -1,0 +1,10 @@
+use Rattle.std.proofs.Common.{false, refl, sym}
+use Rattle.sc_world.specs.Tree.{type_of}
+use Rattle.run_values.specs.Seen.{want_of}
+use Rattle.tr_walk.specs.Around.{exp_of}
+use Rattle.tr_walk.proofs.Parts as parts
+use Rattle.tr_walk.proofs.sides.indexed_pointer.Goals as goal
+
+pub returns-clause-can : goal.returns-clause-can
+returns-clause-can c =
+    parts.index_value c.args.around.now (want_of c.args.want) c.args.e.now c.args.a.now c.args.b.now c.requires.is c.get.result.now c.args.a.now (type_of (exp_of c.args.around.now c.args.a.now)) false c.get.ensures refl refl (sym c.requires.pointer) refl c.requires.can
