@@ -59,7 +59,6 @@ followed {A = A} v l0 l1 l2 g0 g1 g2 m f Good Fine first next =
     bind v l0 l1 l2 g0 g1 g2 m f (λ (a : A). Good a × (v g1.live.at ≡ true → v g0.live.at ≡ true)) Fine
     (does_narrow v l0 l1 g0 g1 m Good first) (λ a h. next a h.0 h.1)
 
-
 -- a value that is only read
 read_good : (v : ℕ → Bool) (g : Ends) (p : Layout) (want : Want) (t : Ty) (x : Val) (c : Cell) → IsRead want → Meets v x c → GoodFor v g p want t x c
 read_good v g p Value t x c read h = h
@@ -161,6 +160,7 @@ module _ (a : Around) where
       object_kind : (w : Want) → wanted_kind (source_of a) w t ≡ Pointers
       object_kind Value = ap (λ b. if b then kind_of_type (source_of a) (Some t) else Pointers) cell
       object_kind Place' = refl
+
       -- the place of an object is its value, too
       either : (v : ℕ → Bool) (k0 k1 : List Location) (g : Ends) (m : Run Cell) (w : Want) → Does v k0 g m k1 g (GoodFor v g (layout_of a) Place' t r)
           → Does v k0 g m k1 g (GoodFor v g (layout_of a) w t r)
@@ -408,7 +408,7 @@ module _ (a : Around) where
       → (choice v : ℕ → Bool) → Runs n4 choice v → (k : flow.Kinds) → flow.FitsOver k (layout_of a) Place' x
       → (bits : List Bool) (cells : List Cell) (turn : ℕ) → AreKept v (v g0.live.at) (layout_of a) k.temps (temps_of a) cells
       → Does v l0 g0 (eval x Place' (env bits cells turn) >>= λ c. load (place_of c) >>= λ b. counted (env bits cells turn) d t b >>= λ e. store (place_of c) e
-          >>= λ w. done (pick b e)) l2 g2 (Meets v r)
+      >>= λ w. done (pick b e)) l2 g2 (Meets v r)
   counting n1 n2 n3 n4 d x t l0 l1 l2 g0 g1 g2 q old new r pick grown2 grown3 grown4 integer is first found made stored picked choice v runs k fits bits cells turn kept =
       let r3 = grown4.runs choice v runs in
       let r2 = grown3.runs choice v r3 in
@@ -572,8 +572,8 @@ module _ (a : Around) where
   leaf : (n0 ns : List Node) (want : Want) (e : Exp) (l : List Location) (g : Ends) (r : Val) → Grown n0 ns → IsReady a n0 l g → val_top r ≤ length ns
       → HasKindFor (source_of a) want (type_of e) r
       → ((choice v : ℕ → Bool) → Runs ns choice v → (k : flow.Kinds) → flow.FitsOver k (layout_of a) want e → (bits : List Bool) (cells : List Cell) (turn : ℕ)
-          → AreKept v (v g.live.at) (layout_of a) k.temps (temps_of a) cells
-          → Does v l g (eval e want (env bits cells turn)) l g (GoodFor v g (layout_of a) want (type_of e) r))
+      → AreKept v (v g.live.at) (layout_of a) k.temps (temps_of a) cells
+      → Does v l g (eval e want (env bits cells turn)) l g (GoodFor v g (layout_of a) want (type_of e) r))
       → Walks a ns want e l l g g r
   leaf n0 ns want e l g r grown ready below kind does =
       record {

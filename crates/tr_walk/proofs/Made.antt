@@ -47,9 +47,6 @@ no_set s t x e h = numbers_pointers (int_bits s.widths t) (sym (integer_kind s t
 pub no_empty : (s : Source) (t : Ty) → is_integer t ≡ true → HasKindFor s Value t Empty → ⊥
 no_empty s t e h = numbers_none (int_bits s.widths t) (sym (integer_kind s t e) ∙ sym (cell_kind s t Empty (integer_scalar t e) h))
 
-
-
-
 pub constant_low : (s : Source) (t : Ty) (n : ℕ) → fits_width s t n ≡ true → n < 2 ^ int_bits s.widths t
 constant_low s t n e = ltb-true n (2 ^ int_bits s.widths t) e
 
@@ -109,11 +106,13 @@ converts_value s ns from to x r v array f e h =
   where
     kind_is : (t : Ty) → is_scalar t ≡ true → (if is_scalar t then kind_of_type s (Some t) else Pointers) ≡ kind_of_type s (Some t)
     kind_is t e = ap (λ b. if b then kind_of_type s (Some t) else Pointers) e
+
     bool_scalar : (t : Ty) → is_pointer t || is_bool t ≡ true → is_scalar t ≡ true
     bool_scalar Bool' e = refl
     bool_scalar (Int k) e = refl
     bool_scalar (Ptr t) e = refl
     bool_scalar _ e = absurd (true≢false (sym e))
+
     becomes_scalar : (u t : Ty) → is_void t ≡ false → is_array u ≡ false → is_function u ≡ false → converts_to u t ≡ true → is_scalar t ≡ true
     becomes_scalar Bool' t v r f e = or_second (is_void t) (is_scalar t) v e
     becomes_scalar (Int k) t v r f e = or_second (is_void t) (is_scalar t) v e
@@ -179,6 +178,7 @@ function_pointer s ns from to x r f v b e kind top same =
     or_first : (a b : Bool) → b ≡ false → a || b ≡ true → a ≡ true
     or_first true b e h = refl
     or_first false b e h = absurd (true≢false (sym h ∙ e))
+
     pointer_is : (t : Ty) → is_pointer t ≡ true → (if is_scalar t then kind_of_type s (Some t) else Pointers) ≡ Pointers
     pointer_is (Ptr t) e = refl
     pointer_is _ e = absurd (true≢false (sym e))

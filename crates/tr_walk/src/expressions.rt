@@ -7,16 +7,18 @@ ghost use Rattle.tr_walk.specs.Around.{exp_of};
 ghost use Rattle.tr_walk.specs.Walks.{CanWalk, IsReady, Walks};
 
 use crate::around::{Around, member_name, type_of};
-use crate::sides::{
-    assign_left, assign_object, assign_operand, assign_value, binary_left, binary_right, comma_left, comma_right, index_of,
-    indexed_array, indexed_pointer,
-};
 use crate::leaves::{as_set, as_word, convert, kept_place, number_of, temp};
+use crate::sides::{
+    assign_left, assign_object, assign_operand, assign_value, binary_left, binary_right,
+    comma_left, comma_right, index_of, indexed_array, indexed_pointer,
+};
 use bit_net::{Net, OutOfMemory};
 use gate_changes::{combined, counted};
 use gate_copies::copy;
 use gate_elements::array_index;
-use gate_places::{assign, first_element, indirection, member_behind, member_of, pointer_index, wanted};
+use gate_places::{
+    assign, first_element, indirection, member_behind, member_of, pointer_index, wanted,
+};
 use gate_runs::Ends;
 use gate_steps::store;
 use gl_store::{Store, Val};
@@ -69,7 +71,16 @@ pub fn walk(
                         let right = assign_object(around, want, e, *op, works, a, b);
                         let y = walk(around, net, stored, ends, Want::Place, right)?;
                         let from = as_set(net, y);
-                        let made = copy(around.here, around.layout, net, stored, ends, t, &place, &from)?;
+                        let made = copy(
+                            around.here,
+                            around.layout,
+                            net,
+                            stored,
+                            ends,
+                            t,
+                            &place,
+                            &from,
+                        )?;
                         Ok(made)
                     }
                 }
@@ -149,7 +160,17 @@ pub fn walk(
                 let right = index_of(around, want, e, a, b);
                 let y = walk(around, net, stored, ends, Want::Value, right)?;
                 let index = as_word(around, net, type_of(around, right), y)?;
-                let made = array_index(around.here, around.layout, net, stored, ends, want, t, &array, &index)?;
+                let made = array_index(
+                    around.here,
+                    around.layout,
+                    net,
+                    stored,
+                    ends,
+                    want,
+                    t,
+                    &array,
+                    &index,
+                )?;
                 Ok(made)
             } else {
                 let left = indexed_pointer(around, want, e, a, b);
@@ -158,7 +179,16 @@ pub fn walk(
                 let right = index_of(around, want, e, a, b);
                 let y = walk(around, net, stored, ends, Want::Value, right)?;
                 let index = as_word(around, net, type_of(around, right), y)?;
-                let made = pointer_index(around.here, net, stored, ends, want, t, &pointer, &index)?;
+                let made = pointer_index(
+                    around.here,
+                    net,
+                    stored,
+                    ends,
+                    want,
+                    t,
+                    &pointer,
+                    &index,
+                )?;
                 Ok(made)
             }
         }
@@ -168,25 +198,70 @@ pub fn walk(
                 let x = walk(around, net, stored, ends, Want::Value, a.get())?;
                 let pointer = as_set(net, x);
                 let from = type_of(around, a.get());
-                let made = member_behind(around.here, around.layout, net, stored, ends, want, from, t, name, &pointer)?;
+                let made = member_behind(
+                    around.here,
+                    around.layout,
+                    net,
+                    stored,
+                    ends,
+                    want,
+                    from,
+                    t,
+                    name,
+                    &pointer,
+                )?;
                 Ok(made)
             } else {
                 let x = walk(around, net, stored, ends, Want::Place, a.get())?;
                 let object = as_set(net, x);
-                let made = member_of(around.here, around.layout, net, stored, ends, want, t, name, &object)?;
+                let made = member_of(
+                    around.here,
+                    around.layout,
+                    net,
+                    stored,
+                    ends,
+                    want,
+                    t,
+                    name,
+                    &object,
+                )?;
                 Ok(made)
             }
         }
         What::Param(n) => {
-            let made = named(around.here, around.layout, net, stored, want, t, Origin::Param(*n))?;
+            let made = named(
+                around.here,
+                around.layout,
+                net,
+                stored,
+                want,
+                t,
+                Origin::Param(*n),
+            )?;
             Ok(made)
         }
         What::Local(n) => {
-            let made = named(around.here, around.layout, net, stored, want, t, Origin::Local(*n))?;
+            let made = named(
+                around.here,
+                around.layout,
+                net,
+                stored,
+                want,
+                t,
+                Origin::Local(*n),
+            )?;
             Ok(made)
         }
         What::Global(n) => {
-            let made = named(around.here, around.layout, net, stored, want, t, Origin::Global(*n))?;
+            let made = named(
+                around.here,
+                around.layout,
+                net,
+                stored,
+                want,
+                t,
+                Origin::Global(*n),
+            )?;
             Ok(made)
         }
         What::Function(name, _) => {

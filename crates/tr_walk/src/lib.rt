@@ -7,8 +7,8 @@
 
 mod around;
 mod evaled;
-mod leaves;
 mod expressions;
+mod leaves;
 mod sides;
 
 pub use around::Around;

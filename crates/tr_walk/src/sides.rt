@@ -18,7 +18,13 @@ use sc_tree::op::{AssignOp, BinaryOp};
 use sc_typed::TExpr;
 
 /// The left side of a comma.
-pub fn comma_left<'e>(around: &Around, want: Want, e: &TExpr, a: &'e Boxed<TExpr>, b: &Boxed<TExpr>) -> &'e TExpr
+pub fn comma_left<'e>(
+    around: &Around,
+    want: Want,
+    e: &TExpr,
+    a: &'e Boxed<TExpr>,
+    b: &Boxed<TExpr>,
+) -> &'e TExpr
     requires can { CanWalk around.now (want_of want) (exp_of around.now e.now) }
     requires is { (out-TExpr e.now).what ≡ what.Comma a.now b.now }
     ensures can { CanWalk around.now eval.Value (exp_of around.now result.now) }
@@ -28,7 +34,13 @@ pub fn comma_left<'e>(around: &Around, want: Want, e: &TExpr, a: &'e Boxed<TExpr
 }
 
 /// The right side of a comma.
-pub fn comma_right<'e>(around: &Around, want: Want, e: &TExpr, a: &Boxed<TExpr>, b: &'e Boxed<TExpr>) -> &'e TExpr
+pub fn comma_right<'e>(
+    around: &Around,
+    want: Want,
+    e: &TExpr,
+    a: &Boxed<TExpr>,
+    b: &'e Boxed<TExpr>,
+) -> &'e TExpr
     requires can { CanWalk around.now (want_of want) (exp_of around.now e.now) }
     requires is { (out-TExpr e.now).what ≡ what.Comma a.now b.now }
     ensures can { CanWalk around.now (want_of want) (exp_of around.now result.now) }
@@ -38,7 +50,14 @@ pub fn comma_right<'e>(around: &Around, want: Want, e: &TExpr, a: &Boxed<TExpr>,
 }
 
 /// The left side of an operator.
-pub fn binary_left<'e>(around: &Around, want: Want, e: &TExpr, op: BinaryOp, a: &'e Boxed<TExpr>, b: &Boxed<TExpr>) -> &'e TExpr
+pub fn binary_left<'e>(
+    around: &Around,
+    want: Want,
+    e: &TExpr,
+    op: BinaryOp,
+    a: &'e Boxed<TExpr>,
+    b: &Boxed<TExpr>,
+) -> &'e TExpr
     requires can { CanWalk around.now (want_of want) (exp_of around.now e.now) }
     requires is { (out-TExpr e.now).what ≡ what.Binary op a.now b.now }
     ensures can { CanWalk around.now eval.Value (exp_of around.now result.now) }
@@ -48,7 +67,14 @@ pub fn binary_left<'e>(around: &Around, want: Want, e: &TExpr, op: BinaryOp, a: 
 }
 
 /// The right side of an operator.
-pub fn binary_right<'e>(around: &Around, want: Want, e: &TExpr, op: BinaryOp, a: &Boxed<TExpr>, b: &'e Boxed<TExpr>) -> &'e TExpr
+pub fn binary_right<'e>(
+    around: &Around,
+    want: Want,
+    e: &TExpr,
+    op: BinaryOp,
+    a: &Boxed<TExpr>,
+    b: &'e Boxed<TExpr>,
+) -> &'e TExpr
     requires can { CanWalk around.now (want_of want) (exp_of around.now e.now) }
     requires is { (out-TExpr e.now).what ≡ what.Binary op a.now b.now }
     ensures can { CanWalk around.now eval.Value (exp_of around.now result.now) }
@@ -136,7 +162,13 @@ pub fn assign_operand<'e>(
 }
 
 /// The array of `a [ b ]`.
-pub fn indexed_array<'e>(around: &Around, want: Want, e: &TExpr, a: &'e Boxed<TExpr>, b: &Boxed<TExpr>) -> &'e TExpr
+pub fn indexed_array<'e>(
+    around: &Around,
+    want: Want,
+    e: &TExpr,
+    a: &'e Boxed<TExpr>,
+    b: &Boxed<TExpr>,
+) -> &'e TExpr
     requires can { CanWalk around.now (want_of want) (exp_of around.now e.now) }
     requires is { (out-TExpr e.now).what ≡ what.Index a.now b.now }
     requires array { tree.is_array (tree.type_of (exp_of around.now a.now)) ≡ true }
@@ -147,7 +179,13 @@ pub fn indexed_array<'e>(around: &Around, want: Want, e: &TExpr, a: &'e Boxed<TE
 }
 
 /// The pointer of `a [ b ]`.
-pub fn indexed_pointer<'e>(around: &Around, want: Want, e: &TExpr, a: &'e Boxed<TExpr>, b: &Boxed<TExpr>) -> &'e TExpr
+pub fn indexed_pointer<'e>(
+    around: &Around,
+    want: Want,
+    e: &TExpr,
+    a: &'e Boxed<TExpr>,
+    b: &Boxed<TExpr>,
+) -> &'e TExpr
     requires can { CanWalk around.now (want_of want) (exp_of around.now e.now) }
     requires is { (out-TExpr e.now).what ≡ what.Index a.now b.now }
     requires pointer { tree.is_array (tree.type_of (exp_of around.now a.now)) ≡ false }
@@ -158,7 +196,13 @@ pub fn indexed_pointer<'e>(around: &Around, want: Want, e: &TExpr, a: &'e Boxed<
 }
 
 /// The index of `a [ b ]`.
-pub fn index_of<'e>(around: &Around, want: Want, e: &TExpr, a: &Boxed<TExpr>, b: &'e Boxed<TExpr>) -> &'e TExpr
+pub fn index_of<'e>(
+    around: &Around,
+    want: Want,
+    e: &TExpr,
+    a: &Boxed<TExpr>,
+    b: &'e Boxed<TExpr>,
+) -> &'e TExpr
     requires can { CanWalk around.now (want_of want) (exp_of around.now e.now) }
     requires is { (out-TExpr e.now).what ≡ what.Index a.now b.now }
     ensures can { CanWalk around.now eval.Value (exp_of around.now result.now) }

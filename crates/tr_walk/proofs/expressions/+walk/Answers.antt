@@ -187,41 +187,42 @@ returns-in-Temp-clause-ok t c =
 pub returns-in-SizeofExpr-clause-ok : goal.returns-in-SizeofExpr-clause-ok
 returns-in-SizeofExpr-clause-ok t c =
     elim c.in-SizeofExpr.is [
-    inl h ↦
-    (let tree = seen.size (source_of c.args.around.now).structs c.args.e.now h.0 c.in-SizeofExpr.n h.1 in
-    rw tree (arms.walks_size c.args.around.now _ (want_of c.args.want) _ _ _ _ _ _ c.requires.ready (rw tree at c.requires.can) c.in_ok-made-in-SizeofExpr.ensures))
-    | inr h ↦
-    elim h [
-    inl is ↦
-    (let tree = seen.size_of (source_of c.args.around.now).structs c.args.e.now c.in-SizeofExpr.n is in
-    rw tree (arms.walks_size_of c.args.around.now _ (want_of c.args.want) _ _ _ _ _ c.requires.ready (rw tree at c.requires.can) c.in_ok-made-in-SizeofExpr.ensures))
-    | inr is ↦
-    (let tree = seen.integer (source_of c.args.around.now).structs c.args.e.now c.in-SizeofExpr.n is in
-    rw tree (arms.walks_number c.args.around.now _ (want_of c.args.want) _ _ _ _ _ c.requires.ready (rw tree at c.requires.can) c.in_ok-made-in-SizeofExpr.ensures))
-    ] ]
+      | inl h ↦
+          (let tree = seen.size (source_of c.args.around.now).structs c.args.e.now h.0 c.in-SizeofExpr.n h.1 in
+          rw tree (arms.walks_size c.args.around.now _ (want_of c.args.want) _ _ _ _ _ _ c.requires.ready (rw tree at c.requires.can) c.in_ok-made-in-SizeofExpr.ensures))
+      | inr h ↦
+          elim h [
+            | inl is ↦
+                (let tree = seen.size_of (source_of c.args.around.now).structs c.args.e.now c.in-SizeofExpr.n is in
+                rw tree (arms.walks_size_of c.args.around.now _ (want_of c.args.want) _ _ _ _ _ c.requires.ready (rw tree at c.requires.can) c.in_ok-made-in-SizeofExpr.ensures))
+            | inr is ↦
+                (let tree = seen.integer (source_of c.args.around.now).structs c.args.e.now c.in-SizeofExpr.n is in
+                rw tree (arms.walks_number c.args.around.now _ (want_of c.args.want) _ _ _ _ _ c.requires.ready (rw tree at c.requires.can) c.in_ok-made-in-SizeofExpr.ensures))
+          ]
+    ]
 
 pub returns-then-is_array-2-clause-ok : goal.returns-then-is_array-2-clause-ok
 returns-then-is_array-2-clause-ok t c =
     let array = sym c.is_array-in-Cast.ensures ∙ c.if-is_array-2.true in
     elim c.in-Cast.is [
-    inl is ↦
-    (let tree = seen.cast (source_of c.args.around.now).structs c.args.e.now c.in-Cast.a c.get-then-is_array-2.result.now is c.get-then-is_array-2.ensures in
-    rw tree (joined.by_cast_array c.args.around.now (want_of c.args.want) _ _ _ _ _ _ _ _ _ _ _ _ (c.type_of-from-in-Cast.ensures ∙ ap (λ (z : TExpr). type_of (exp_of c.args.around.now z)) (c.get-in-Cast.ensures ∙ sym c.get-then-is_array-2.ensures)) array c.as_set-array-then-is_array-2.ensures (rw tree at c.requires.can) c.in_ok-first-in-Cast.ensures.grown
-    c.in_ok-x-in-Cast.ensures.ok (rw c.requires.ready.same at c.in_ok-first-in-Cast.ensures.ok)))
-    | inr is ↦
-    (let tree = seen.convert (source_of c.args.around.now).structs c.args.e.now c.in-Cast.a c.get-then-is_array-2.result.now is c.get-then-is_array-2.ensures in
-    rw tree (joined.by_array c.args.around.now (want_of c.args.want) _ _ _ _ _ _ _ _ _ _ _ _ (c.type_of-from-in-Cast.ensures ∙ ap (λ (z : TExpr). type_of (exp_of c.args.around.now z)) (c.get-in-Cast.ensures ∙ sym c.get-then-is_array-2.ensures)) array c.as_set-array-then-is_array-2.ensures (rw tree at c.requires.can) c.in_ok-first-in-Cast.ensures.grown
-    c.in_ok-x-in-Cast.ensures.ok (rw c.requires.ready.same at c.in_ok-first-in-Cast.ensures.ok)))
+      | inl is ↦
+          (let tree = seen.cast (source_of c.args.around.now).structs c.args.e.now c.in-Cast.a c.get-then-is_array-2.result.now is c.get-then-is_array-2.ensures in
+          rw tree (joined.by_cast_array c.args.around.now (want_of c.args.want) _ _ _ _ _ _ _ _ _ _ _ _ (c.type_of-from-in-Cast.ensures ∙ ap (λ (z : TExpr). type_of (exp_of c.args.around.now z)) (c.get-in-Cast.ensures ∙ sym c.get-then-is_array-2.ensures)) array c.as_set-array-then-is_array-2.ensures (rw tree at c.requires.can) c.in_ok-first-in-Cast.ensures.grown
+          c.in_ok-x-in-Cast.ensures.ok (rw c.requires.ready.same at c.in_ok-first-in-Cast.ensures.ok)))
+      | inr is ↦
+          (let tree = seen.convert (source_of c.args.around.now).structs c.args.e.now c.in-Cast.a c.get-then-is_array-2.result.now is c.get-then-is_array-2.ensures in
+          rw tree (joined.by_array c.args.around.now (want_of c.args.want) _ _ _ _ _ _ _ _ _ _ _ _ (c.type_of-from-in-Cast.ensures ∙ ap (λ (z : TExpr). type_of (exp_of c.args.around.now z)) (c.get-in-Cast.ensures ∙ sym c.get-then-is_array-2.ensures)) array c.as_set-array-then-is_array-2.ensures (rw tree at c.requires.can) c.in_ok-first-in-Cast.ensures.grown
+          c.in_ok-x-in-Cast.ensures.ok (rw c.requires.ready.same at c.in_ok-first-in-Cast.ensures.ok)))
     ]
 
 pub returns-in-Cast-clause-ok : goal.returns-in-Cast-clause-ok
 returns-in-Cast-clause-ok t c =
     let array = sym c.is_array-in-Cast.ensures ∙ c.if-is_array-2.false in
     elim c.in-Cast.is [
-    inl is ↦
-    (let tree = seen.cast (source_of c.args.around.now).structs c.args.e.now c.in-Cast.a c.get-else-is_array-2.result.now is c.get-else-is_array-2.ensures in
-    rw tree (joined.by_cast c.args.around.now (want_of c.args.want) _ _ _ _ _ _ _ _ _ _ _ (c.type_of-from-in-Cast.ensures ∙ ap (λ (z : TExpr). type_of (exp_of c.args.around.now z)) (c.get-in-Cast.ensures ∙ sym c.get-else-is_array-2.ensures)) array (rw tree at c.requires.can) c.in_ok-made-in-Cast.ensures.grown c.in_ok-x-in-Cast-2.ensures.ok c.in_ok-made-in-Cast.ensures.ok))
-    | inr is ↦
-    (let tree = seen.convert (source_of c.args.around.now).structs c.args.e.now c.in-Cast.a c.get-else-is_array-2.result.now is c.get-else-is_array-2.ensures in
-    rw tree (joined.by_convert c.args.around.now (want_of c.args.want) _ _ _ _ _ _ _ _ _ _ _ (c.type_of-from-in-Cast.ensures ∙ ap (λ (z : TExpr). type_of (exp_of c.args.around.now z)) (c.get-in-Cast.ensures ∙ sym c.get-else-is_array-2.ensures)) array (rw tree at c.requires.can) c.in_ok-made-in-Cast.ensures.grown c.in_ok-x-in-Cast-2.ensures.ok c.in_ok-made-in-Cast.ensures.ok))
+      | inl is ↦
+          (let tree = seen.cast (source_of c.args.around.now).structs c.args.e.now c.in-Cast.a c.get-else-is_array-2.result.now is c.get-else-is_array-2.ensures in
+          rw tree (joined.by_cast c.args.around.now (want_of c.args.want) _ _ _ _ _ _ _ _ _ _ _ (c.type_of-from-in-Cast.ensures ∙ ap (λ (z : TExpr). type_of (exp_of c.args.around.now z)) (c.get-in-Cast.ensures ∙ sym c.get-else-is_array-2.ensures)) array (rw tree at c.requires.can) c.in_ok-made-in-Cast.ensures.grown c.in_ok-x-in-Cast-2.ensures.ok c.in_ok-made-in-Cast.ensures.ok))
+      | inr is ↦
+          (let tree = seen.convert (source_of c.args.around.now).structs c.args.e.now c.in-Cast.a c.get-else-is_array-2.result.now is c.get-else-is_array-2.ensures in
+          rw tree (joined.by_convert c.args.around.now (want_of c.args.want) _ _ _ _ _ _ _ _ _ _ _ (c.type_of-from-in-Cast.ensures ∙ ap (λ (z : TExpr). type_of (exp_of c.args.around.now z)) (c.get-in-Cast.ensures ∙ sym c.get-else-is_array-2.ensures)) array (rw tree at c.requires.can) c.in_ok-made-in-Cast.ensures.grown c.in_ok-x-in-Cast-2.ensures.ok c.in_ok-made-in-Cast.ensures.ok))
     ]
