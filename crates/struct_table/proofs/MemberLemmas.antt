@@ -3,7 +3,7 @@ use Rattle.std.proofs.Common.{◌≡◌, Bor, ℕ, ◌+◌, zero, suc, nat_eq, B
 use Rattle.std.specs.Option.{is_some, option_copied}
 use Rattle.sc_base.specs.declared.pos.NameId.{NameId}
 use Rattle.sc_typed.specs.declared.program.FieldDef.{FieldDef}
-use Rattle.struct_table.specs.Members.{is_called, is_unnamed, is_among, number_from, unnamed_from, first_of, number_if, only_at, IsIndexed}
+use Rattle.struct_table.specs.Members.{is_called, is_unnamed, takes_values, is_among, number_from, unnamed_from, given_from, place_from, first_of, number_if, only_at, IsIndexed}
 
 last_number : (b : Bool) (k j : ℕ) → k ≡ j → (if b then Some k else None) ≡ number_if b j
 last_number true k j same = ap Some same
@@ -40,17 +40,52 @@ unnamed_behind k (g ∷ fs) f =
     unnamed_by (is_unnamed g) k (only_at (is_unnamed f) (k + length (g ∷ fs))) (unnamed_from (k + 1) (fs ++ f ∷ [])) (unnamed_from (k + 1) fs)
     (rest ∙ ap (λ n. unnamed_from (k + 1) fs ++ only_at (is_unnamed f) n) further)
 
+pub given_behind : (k : ℕ) (fs : List FieldDef) (f : FieldDef)
+    → given_from k (fs ++ f ∷ []) ≡ given_from k fs ++ only_at (takes_values f) (k + length fs)
+given_behind k [] f = last_unnamed (takes_values f) k (k + 0) (omega arith)
+given_behind k (g ∷ fs) f =
+    let further : (k + 1) + length fs ≡ k + length (g ∷ fs) = omega arith in
+    let rest = given_behind (k + 1) fs f in
+    unnamed_by (takes_values g) k (only_at (takes_values f) (k + length (g ∷ fs))) (given_from (k + 1) (fs ++ f ∷ [])) (given_from (k + 1) fs)
+    (rest ∙ ap (λ n. given_from (k + 1) fs ++ only_at (takes_values f) n) further)
+
+place_further : (b : Bool) (k j : ℕ) (ks : List ℕ)
+    → (if b then k + 1 else k) + length ks ≡ k + length (if b then j ∷ ks else ks)
+place_further true k j ks = omega arith
+place_further false k j ks = refl
+
+pub place_behind : (k j : ℕ) (name : NameId) (fs : List FieldDef) (f : FieldDef)
+    → place_from k name (fs ++ f ∷ [])
+    ≡ first_of (place_from k name fs) (number_if (is_called name f.name) (k + length (given_from j fs)))
+place_behind k j name [] f = last_number (is_called name f.name) k (k + 0) (omega arith)
+place_behind k j name (g ∷ fs) f =
+    let next : ℕ = if takes_values g then k + 1 else k in
+    number_by (is_called name g.name) k (number_if (is_called name f.name) (k + length (given_from j (g ∷ fs)))) None
+    (place_from next name (fs ++ f ∷ [])) (place_from next name fs)
+    (place_behind next (j + 1) name fs f
+    ∙ ap (λ n. first_of (place_from next name fs) (number_if (is_called name f.name) n))
+    (place_further (takes_values g) k j (given_from (j + 1) fs)))
+
 -- the index of the members and one more
-pub indexed_behind : (numbers numbers' : ℕ → Option ℕ) (unnamed unnamed' : List ℕ) (fs : List FieldDef) (f : FieldDef) → IsIndexed numbers unnamed fs
+pub indexed_behind : (numbers numbers' : ℕ → Option ℕ) (unnamed unnamed' given given' : List ℕ)
+    (places places' : ℕ → Option ℕ) (fs : List FieldDef) (f : FieldDef) → IsIndexed numbers unnamed given places fs
     → ((other : NameId) → numbers' other.at ≡ first_of (numbers other.at) (number_if (is_called other f.name) (length fs)))
     → unnamed' ≡ unnamed ++ only_at (is_unnamed f) (length fs)
-    → IsIndexed numbers' unnamed' (fs ++ f ∷ [])
-indexed_behind numbers numbers' unnamed unnamed' fs f is noted listed = let many : length fs ≡ 0 + length fs = omega arith in record {
-  finds = λ name. noted name ∙ ap (λ n. first_of n (number_if (is_called name f.name) (length fs))) (is.finds name)
-      ∙ ap (λ n. first_of (number_from 0 name fs) (number_if (is_called name f.name) n)) many ∙ sym (number_behind 0 name fs f);
-  lists = listed ∙ ap (λ ns. ns ++ only_at (is_unnamed f) (length fs)) is.lists
-      ∙ ap (λ n. unnamed_from 0 fs ++ only_at (is_unnamed f) n) many ∙ sym (unnamed_behind 0 fs f);
-}
+    → given' ≡ given ++ only_at (takes_values f) (length fs)
+    → ((other : NameId) → places' other.at ≡ first_of (places other.at) (number_if (is_called other f.name) (length given)))
+    → IsIndexed numbers' unnamed' given' places' (fs ++ f ∷ [])
+indexed_behind numbers numbers' unnamed unnamed' given given' places places' fs f is noted listed taken placed =
+    let many : length fs ≡ 0 + length fs = omega arith in
+    let so_many : length given ≡ 0 + length (given_from 0 fs) = ap length is.gives ∙ omega arith in record {
+      finds = λ name. noted name ∙ ap (λ n. first_of n (number_if (is_called name f.name) (length fs))) (is.finds name)
+          ∙ ap (λ n. first_of (number_from 0 name fs) (number_if (is_called name f.name) n)) many ∙ sym (number_behind 0 name fs f);
+      lists = listed ∙ ap (λ ns. ns ++ only_at (is_unnamed f) (length fs)) is.lists
+          ∙ ap (λ n. unnamed_from 0 fs ++ only_at (is_unnamed f) n) many ∙ sym (unnamed_behind 0 fs f);
+      gives = taken ∙ ap (λ ns. ns ++ only_at (takes_values f) (length fs)) is.gives
+          ∙ ap (λ n. given_from 0 fs ++ only_at (takes_values f) n) many ∙ sym (given_behind 0 fs f);
+      puts = λ name. placed name ∙ ap (λ n. first_of n (number_if (is_called name f.name) (length given))) (is.puts name)
+          ∙ ap (λ n. first_of (place_from 0 name fs) (number_if (is_called name f.name) n)) so_many ∙ sym (place_behind 0 0 name fs f);
+    }
 
 among_by : (b : Bool) (k : ℕ) (rest : Option ℕ) (among : Bool) → is_some rest ≡ among → is_some (if b then Some k else rest) ≡ b || among
 among_by true k rest among is = refl

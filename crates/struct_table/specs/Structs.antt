@@ -23,7 +23,7 @@ abbrev pub members_of : StructDef → List FieldDef
 members_of s = fields_of s.fields
 
 abbrev pub Finds : Index → StructDef → Type 0
-Finds i s = IsIndexed (get nat_eq i.numbers) i.unnamed.items (members_of s)
+Finds i s = IsIndexed (get nat_eq i.numbers) i.unnamed.items i.given.items (get nat_eq i.places) (members_of s)
 
 -- each struct has the index of its members
 abbrev pub AllIndexed : List Index → List StructDef → Type 0

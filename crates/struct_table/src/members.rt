@@ -20,20 +20,26 @@ pub fn is_called(name: NameId, member: Option<NameId>) -> bool
     }
 }
 
-// Where members stand: by its name the number of the first that has it, and the numbers of the unnamed ones.
+// Where members stand: by its name the number of the first that has it, the numbers of the unnamed ones and of those
+// that take values, and by its name the place of the first that has it among the latter.
 #[derive(Drop)]
 pub(crate) struct Index {
     pub(crate) numbers: IndexMap<u32, usize>,
     pub(crate) unnamed: Vec<usize>,
+    pub(crate) given: Vec<usize>,
+    pub(crate) places: IndexMap<u32, usize>,
 }
 
 // The index of no member. It takes no memory yet.
 pub(crate) fn no_index(alloc: Global) -> Index
-    ensures { spec.IsIndexed (get nat_eq result.numbers) result.unnamed.items [] }
+    ensures { spec.IsIndexed (get nat_eq result.numbers) result.unnamed.items result.given.items
+        (get nat_eq result.places) [] }
 {
     Index {
         numbers: IndexMap::new(alloc),
         unnamed: Vec::new(alloc),
+        given: Vec::new(alloc),
+        places: IndexMap::new(alloc),
     }
 }
 
@@ -77,6 +83,24 @@ fn note_unnamed(
     Ok(())
 }
 
+// Whether a member takes a value in an initialiser: all but bit fields without a name do.
+fn takes_values(field: &FieldDef) -> bool
+    ensures { result ≡ spec.takes_values field.now }
+{
+    field.name.is_some() || field.bits.is_none()
+}
+
+// Notes the number of a member among those of the members that take values, if it is one.
+fn note_given(given: &mut Vec<usize>, field: &FieldDef, number: usize) -> Result<(), OutOfMemory>
+    ensures { OnOk result (given.new.items
+        ≡ given.old.items ++ spec.only_at (spec.takes_values field.now) number) }
+{
+    if takes_values(field) {
+        given.push(number)?;
+    }
+    Ok(())
+}
+
 /// The members of a struct or union so far, in their order. Contracts see the plain list of them.
 #[derive(Drop)]
 pub struct Members {
@@ -98,7 +122,8 @@ impl Model for Members {
 
     ghost view = { λ m. m.fields };
 
-    ghost invariant = { λ m. IsIndexed (get nat_eq m.index.numbers) m.index.unnamed.items m.fields };
+    ghost invariant = { λ m. IsIndexed (get nat_eq m.index.numbers) m.index.unnamed.items m.index.given.items
+        (get nat_eq m.index.places) m.fields };
 }
 
 impl Members {
@@ -121,8 +146,11 @@ impl Members {
             mut index,
         } = self;
         let number = fields.len();
+        let place = index.given.len();
         note_name(&mut index.numbers, field.name, number)?;
         note_unnamed(&mut index.unnamed, &field, number)?;
+        note_name(&mut index.places, field.name, place)?;
+        note_given(&mut index.given, &field, number)?;
         fields.push(field)?;
         Ok(Members { fields, index })
     }

@@ -2,7 +2,7 @@
 
 ghost use Rattle.std.specs.Prelude.{◌≡◌, ◌++◌, [], OnOk, OnErr, Some};
 ghost use Rattle.sc_typed.specs.Extents.{struct_at, no_struct};
-ghost use Rattle.struct_table.specs.Members.{number_from, unnamed_from};
+ghost use Rattle.struct_table.specs.Members.{number_from, unnamed_from, given_from, place_from};
 ghost use Rattle.struct_table.specs.Structs as spec;
 
 use crate::members::{Index, Members, no_index};
@@ -117,6 +117,28 @@ impl Structs {
         match self.indices.get(number as usize) {
             None => &[],
             Some(index) => index.unnamed.as_slice(),
+        }
+    }
+
+    /// The numbers of those members of one that take values in an initialiser (C11 6.7.9, 9): all but bit fields
+    /// without a name.
+    pub fn given(&self, number: u32) -> &[usize]
+        ensures { result.now ≡ given_from 0 (spec.members_of (struct_at self.now number)) }
+    {
+        match self.indices.get(number as usize) {
+            None => &[],
+            Some(index) => index.given.as_slice(),
+        }
+    }
+
+    /// The place of the member of that name among those of a struct or union that take values: of the first, were
+    /// there two. `None` where there is none, and while the struct is incomplete.
+    pub fn place(&self, number: u32, name: NameId) -> Option<usize>
+        ensures { result ≡ place_from 0 name (spec.members_of (struct_at self.now number)) }
+    {
+        match self.indices.get(number as usize) {
+            None => None,
+            Some(index) => index.places.get(&name.at).copied(),
         }
     }
 }

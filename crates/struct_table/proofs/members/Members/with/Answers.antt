@@ -1,4 +1,4 @@
-use Rattle.std.proofs.Common.{◌≡◌, nat_eq}
+use Rattle.std.proofs.Common.{◌≡◌, ◌∙◌, nat_eq}
 use Rattle.indexmap.specs.IndexMap.{get}
 use Rattle.struct_table.proofs.MemberLemmas.{indexed_behind}
 use Rattle.struct_table.proofs.members.Members.with.Goals as goal
@@ -7,5 +7,9 @@ pub invariant_of-result : goal.invariant_of-result
 invariant_of-result c =
     let noted = rw c.len-number.ensures at c.in_ok-note_name.ensures in
     let listed = rw c.len-number.ensures at c.in_ok-note_unnamed.ensures in
+    let taken = rw c.len-number.ensures at c.in_ok-note_given.ensures in
+    let placed = rw (c.len-place.ensures ∙ c.self.inside.index.given.ok.0) at c.in_ok-note_name-2.ensures in
     rw c.in_ok-push.ensures.ok (indexed_behind (get nat_eq c.self.inside.index.numbers) (get nat_eq c.note_name.new.numbers)
-    c.self.inside.index.unnamed.items c.note_unnamed.new.unnamed.items c.self.inside.fields c.args.field c.self.invariant noted listed)
+    c.self.inside.index.unnamed.items c.note_unnamed.new.unnamed.items c.self.inside.index.given.items
+    c.note_given.new.given.items (get nat_eq c.self.inside.index.places) (get nat_eq c.note_name-2.new.numbers)
+    c.self.inside.fields c.args.field c.self.invariant noted listed taken placed)
