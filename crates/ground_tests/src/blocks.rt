@@ -1,62 +1,71 @@
 //! A file's names as C11 6.2.1 has them, with what they mean as a text: each call once, at a type
 //! with heap values.
 
-use sc_base::NameId;
+use sc_base::{NameId, OutOfMemory};
 use scopes::Scopes;
-use std::test::Fail;
+use std::alloc::Global;
 
 const X: NameId = NameId { at: 7 };
 
 const Y: NameId = NameId { at: 3 };
 
+fn is_text(found: Option<&String>, text: &str) -> bool {
+    match found {
+        Some(found) => found.as_str() == text,
+        None => false,
+    }
+}
+
 // int x; void f(void) { char x; } int g = x;
-#[test]
-fn an_inner_name_hides_the_outer_one_up_to_the_end_of_its_block(
-    rt: HostRuntime,
-) -> Result<(), Fail> {
-    let mut scopes = Scopes::new(rt.alloc());
-    scopes.declare(X, String::from_str(rt.alloc(), "int")?)?;
+fn hides(alloc: Global) -> Result<bool, OutOfMemory> {
+    let mut scopes = Scopes::new(alloc);
+    scopes.declare(X, String::from_str(alloc, "int")?)?;
     scopes.keep();
     scopes.open()?;
-    assert_eq!(rt; scopes.get(X).map(|text| text.as_str()), Some("int"));
-    assert!(rt; scopes.get_here(X).is_none());
-    scopes.declare(X, String::from_str(rt.alloc(), "char")?)?;
-    assert_eq!(rt; scopes.get(X).map(|text| text.as_str()), Some("char"));
-    assert_eq!(rt; scopes.get_here(X).map(|text| text.as_str()), Some("char"));
+    let outer = is_text(scopes.get(X), "int") && scopes.get_here(X).is_none();
+    scopes.declare(X, String::from_str(alloc, "char")?)?;
+    let inner = is_text(scopes.get(X), "char") && is_text(scopes.get_here(X), "char");
     scopes.drop_block();
-    assert_eq!(rt; scopes.get(X).map(|text| text.as_str()), Some("int"));
-    Ok(())
+    Ok(outer && inner && is_text(scopes.get(X), "int"))
+}
+
+#[test]
+fn an_inner_name_hides_the_outer_one_up_to_the_end_of_its_block(rt: HostRuntime) {
+    assert!(rt; hides(rt.alloc()) == Ok(true));
 }
 
 // void f(short x, float y) {..}: the scope of the parameters opens again for the body
-#[test]
-fn a_block_that_was_closed_opens_again(rt: HostRuntime) -> Result<(), Fail> {
-    let mut scopes = Scopes::new(rt.alloc());
+fn opens_again(alloc: Global) -> Result<bool, OutOfMemory> {
+    let mut scopes = Scopes::new(alloc);
     scopes.open()?;
-    scopes.declare(X, String::from_str(rt.alloc(), "long")?)?;
-    scopes.declare(X, String::from_str(rt.alloc(), "short")?)?;
-    scopes.declare(Y, String::from_str(rt.alloc(), "float")?)?;
+    scopes.declare(X, String::from_str(alloc, "long")?)?;
+    scopes.declare(X, String::from_str(alloc, "short")?)?;
+    scopes.declare(Y, String::from_str(alloc, "float")?)?;
     let block = scopes.close()?;
-    assert!(rt; scopes.is_file());
-    assert!(rt; scopes.get(X).is_none());
+    let closed = scopes.is_file() && scopes.get(X).is_none();
     scopes.reopen(block)?;
-    assert_eq!(rt; scopes.get_here(X).map(|text| text.as_str()), Some("short"));
-    assert_eq!(rt; scopes.get(Y).map(|text| text.as_str()), Some("float"));
-    Ok(())
+    Ok(closed && is_text(scopes.get_here(X), "short") && is_text(scopes.get(Y), "float"))
+}
+
+#[test]
+fn a_block_that_was_closed_opens_again(rt: HostRuntime) {
+    assert!(rt; opens_again(rt.alloc()) == Ok(true));
 }
 
 // a declaration that is skipped takes its names back, one that is taken keeps them
-#[test]
-fn a_declaration_is_kept_or_forgotten(rt: HostRuntime) -> Result<(), Fail> {
-    let mut scopes = Scopes::new(rt.alloc());
-    scopes.declare(X, String::from_str(rt.alloc(), "int")?)?;
+fn is_forgotten(alloc: Global) -> Result<bool, OutOfMemory> {
+    let mut scopes = Scopes::new(alloc);
+    scopes.declare(X, String::from_str(alloc, "int")?)?;
     scopes.keep();
-    scopes.declare(X, String::from_str(rt.alloc(), "char")?)?;
-    scopes.declare(Y, String::from_str(rt.alloc(), "long")?)?;
+    scopes.declare(X, String::from_str(alloc, "char")?)?;
+    scopes.declare(Y, String::from_str(alloc, "long")?)?;
     scopes.forget();
-    assert_eq!(rt; scopes.get(X).map(|text| text.as_str()), Some("int"));
-    assert!(rt; scopes.get(Y).is_none());
+    let kept = is_text(scopes.get(X), "int") && scopes.get(Y).is_none();
     scopes.clear();
-    assert!(rt; scopes.get(X).is_none());
-    Ok(())
+    Ok(kept && scopes.get(X).is_none())
+}
+
+#[test]
+fn a_declaration_is_kept_or_forgotten(rt: HostRuntime) {
+    assert!(rt; is_forgotten(rt.alloc()) == Ok(true));
 }

@@ -1,8 +1,7 @@
 //! Machine files whose answers are known, each limit at its edge, and the files of `examples/machines`.
 
-use fsm_spec::{MachineAnswer, OutOfMemory, locks, machine};
+use fsm_spec::{MachineAnswer, MachineSpec, OutOfMemory, locks, machine};
 use std::alloc::{AllocError, Global};
-use std::test::Fail;
 
 /// Interrupts with one level of nesting.
 const NESTED: &[u8] =
@@ -17,24 +16,27 @@ fn broken_line(alloc: Global, bytes: &[u8]) -> Result<Option<u32>, OutOfMemory> 
     }
 }
 
+fn is_nested(irq: &MachineSpec) -> bool {
+    irq.name() == "irq"
+        && irq.states() == 3
+        && irq.state_name(1) == "on"
+        && irq.operations() == 2
+        && irq.find("irq_off") == Some(1)
+        && irq.find("irq_o") == None
+        && irq.target(0, 1) == Some(2)
+        && irq.target(0, 2) == None
+        && irq.on_any(1) == Some(0)
+        && !irq.is_zero(0)
+}
+
 #[test]
-fn a_machine_of_three_states(rt: HostRuntime) -> Result<(), Fail> {
-    let irq = machine(rt.alloc(), NESTED)?;
-    assert_eq!(rt; irq.name(), "irq");
-    assert_eq!(rt; irq.states(), 3);
-    assert_eq!(rt; irq.state_name(1), "on");
-    assert_eq!(rt; irq.operations(), 2);
-    assert_eq!(rt; irq.find("irq_off"), Some(1));
-    assert_eq!(rt; irq.find("irq_o"), None);
-    assert_eq!(rt; irq.target(0, 1), Some(2));
-    assert_eq!(rt; irq.target(0, 2), None);
-    assert_eq!(rt; irq.on_any(1), Some(0));
-    assert!(rt; !irq.is_zero(0));
-    Ok(())
+fn a_machine_of_three_states(rt: HostRuntime) {
+    let irq = machine(rt.alloc(), NESTED);
+    assert!(rt; matches!(&irq, Ok(irq) if is_nested(irq)));
 }
 
 /// Lines that break the form: (the file, the number of the line).
-const BROKEN: [(&[u8], u32); 29] = [
+const BROKEN: &[(&[u8], u32)] = &[
     // Missing lines, and files that end within a line.
     (b"", 1),
     (b"mach", 1),
@@ -79,15 +81,14 @@ const BROKEN: [(&[u8], u32); 29] = [
 ];
 
 #[test]
-fn lines_that_break_the_form(rt: HostRuntime) -> Result<(), Fail> {
-    for (file, line) in BROKEN {
-        assert_eq!(rt; broken_line(rt.alloc(), file)?, Some(line));
+fn lines_that_break_the_form(rt: HostRuntime) {
+    for &(file, line) in BROKEN {
+        assert!(rt; broken_line(rt.alloc(), file) == Ok(Some(line)));
     }
-    Ok(())
 }
 
 /// Files that have the form.
-const WHOLE: [&[u8]; 4] = [
+const WHOLE: &[&[u8]] = &[
     b"machine m\nstates a b\nop f void a>b b>a",
     b"machine a234567890123456789012345678901\nstates a b\nop f void a>! b>!\n",
     b"machine m\nstates a b c d e f g h\nop f zero a>a b>a c>a d>a e>a f>a g>a h>a\n",
@@ -95,11 +96,10 @@ const WHOLE: [&[u8]; 4] = [
 ];
 
 #[test]
-fn files_at_the_edge_of_the_form(rt: HostRuntime) -> Result<(), Fail> {
+fn files_at_the_edge_of_the_form(rt: HostRuntime) {
     for file in WHOLE {
-        assert_eq!(rt; broken_line(rt.alloc(), file)?, None);
+        assert!(rt; broken_line(rt.alloc(), file) == Ok(None));
     }
-    Ok(())
 }
 
 /// A file with this many operations.
@@ -112,27 +112,31 @@ fn with_operations(alloc: Global, count: u32) -> Result<String, AllocError> {
     Ok(text)
 }
 
-#[test]
-fn sixty_four_operations(rt: HostRuntime) -> Result<(), Fail> {
-    let most = with_operations(rt.alloc(), 64)?;
-    assert_eq!(rt; broken_line(rt.alloc(), most.as_str().as_bytes())?, None);
-    let more = with_operations(rt.alloc(), 65)?;
-    assert_eq!(rt;
-        broken_line(rt.alloc(), more.as_str().as_bytes())?,
-        Some(67)
-    );
-    Ok(())
+/// The line that breaks the form in a file with this many operations.
+fn broken_of(alloc: Global, count: u32) -> Result<Option<u32>, OutOfMemory> {
+    let text = with_operations(alloc, count)?;
+    broken_line(alloc, text.as_str().as_bytes())
 }
 
 #[test]
-fn a_line_of_eight_mebibytes(rt: HostRuntime) -> Result<(), Fail> {
-    let line = vec![in rt.alloc(); b'a'; 8 * 1024 * 1024]?;
-    assert_eq!(rt; broken_line(rt.alloc(), line.as_slice())?, Some(1));
-    Ok(())
+fn sixty_four_operations(rt: HostRuntime) {
+    assert!(rt; broken_of(rt.alloc(), 64) == Ok(None));
+    assert!(rt; broken_of(rt.alloc(), 65) == Ok(Some(67)));
+}
+
+/// The line that breaks the form in a file of one line of eight mebibytes.
+fn broken_of_a_long_line(alloc: Global) -> Result<Option<u32>, OutOfMemory> {
+    let line = vec![in alloc; b'a'; 8 * 1024 * 1024]?;
+    broken_line(alloc, line.as_slice())
+}
+
+#[test]
+fn a_line_of_eight_mebibytes(rt: HostRuntime) {
+    assert!(rt; broken_of_a_long_line(rt.alloc()) == Ok(Some(1)));
 }
 
 /// The files of `examples/machines`: (the text of the file, a function, a state in which it is an error).
-const EXAMPLES: [(&[u8], &str, usize); 7] = [
+const EXAMPLES: &[(&[u8], &str, usize)] = &[
     (
         b"machine irq\nstates on off\nop local_irq_disable void on>off off>!\nop local_irq_enable void on>! off>on\n",
         "local_irq_disable",
@@ -170,38 +174,45 @@ const EXAMPLES: [(&[u8], &str, usize); 7] = [
     ),
 ];
 
-#[test]
-fn the_example_files(rt: HostRuntime) -> Result<(), Fail> {
-    for (file, function, state) in EXAMPLES {
-        let machine = machine(rt.alloc(), file)?;
-        let op = machine
-            .find(function)
-            .ok_or("the machine has the function")?;
-        assert_eq!(rt; machine.target(op, state), None);
+/// Whether that function, which the machine has, is an error in that state.
+fn is_error(machine: &MachineSpec, function: &str, state: usize) -> bool {
+    match machine.find(function) {
+        Some(op) => machine.target(op, state) == None,
+        None => false,
     }
-    Ok(())
+}
+
+#[test]
+fn the_example_files(rt: HostRuntime) {
+    for &(file, function, state) in EXAMPLES {
+        let found = machine(rt.alloc(), file);
+        let holds = matches!(&found, Ok(machine) if is_error(machine, function, state));
+        assert!(rt; holds, "{function}");
+    }
 }
 
 /// A machine of its own for the nine names of locks.
 const NINE: &[u8] =
     b"machine m\nstates a b\nop spin_lock void a>b b>a\nop mutex_lock void a>b b>a\nop pthread_mutex_lock zero a>b b>a\nop spin_unlock void a>b b>a\nop mutex_unlock void a>b b>a\nop pthread_mutex_unlock zero a>b b>a\nop spin_trylock void a>b b>!\nop mutex_trylock zero a>b b>a\nop pthread_mutex_trylock zero a>b b>a\n";
 
-#[test]
-fn operations_on_all_names_of_locks(rt: HostRuntime) -> Result<(), Fail> {
-    let nine = machine(rt.alloc(), NINE)?;
-    assert_eq!(rt; nine.operations(), 9);
-    assert_eq!(rt; nine.find("spin_trylock"), Some(6));
-    assert_eq!(rt; nine.target(6, 0), Some(1));
-    assert_eq!(rt; nine.target(6, 1), None);
-    assert!(rt; !nine.is_zero(6));
-    assert_eq!(rt; nine.find("pthread_mutex_trylock"), Some(8));
-    assert!(rt; nine.is_zero(8));
-    Ok(())
+fn has_nine(nine: &MachineSpec) -> bool {
+    nine.operations() == 9
+        && nine.find("spin_trylock") == Some(6)
+        && nine.target(6, 0) == Some(1)
+        && nine.target(6, 1) == None
+        && !nine.is_zero(6)
+        && nine.find("pthread_mutex_trylock") == Some(8)
+        && nine.is_zero(8)
 }
 
 #[test]
-fn the_machine_of_locks(rt: HostRuntime) -> Result<(), Fail> {
-    let locks = locks(rt.alloc())?;
-    assert_eq!(rt; locks.find("mutex_unlock"), Some(4));
-    Ok(())
+fn operations_on_all_names_of_locks(rt: HostRuntime) {
+    let nine = machine(rt.alloc(), NINE);
+    assert!(rt; matches!(&nine, Ok(nine) if has_nine(nine)));
+}
+
+#[test]
+fn the_machine_of_locks(rt: HostRuntime) {
+    let locks = locks(rt.alloc());
+    assert!(rt; matches!(&locks, Ok(locks) if locks.find("mutex_unlock") == Some(4)));
 }
