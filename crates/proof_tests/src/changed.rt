@@ -6,7 +6,6 @@ use rup_check::Checked;
 use sat_base::{Clause, ClauseList, Lit, OutOfMemory, Step};
 use std::alloc::Global;
 use std::process::Abort;
-use std::test::Fail;
 
 /// The number of variables, and that of clauses.
 const VARS: u16 = 5;
@@ -17,7 +16,7 @@ const CLAUSES: u32 = 26;
 const ROUNDS: u32 = 500;
 
 /// Numbers in a fixed order without a pattern.
-#[derive(Debug, Drop)]
+#[derive(Drop)]
 struct Numbers {
     state: u64,
 }
@@ -65,7 +64,7 @@ impl Numbers {
 }
 
 /// One change of a certificate.
-#[derive(Clone, Copy, Debug, PartialEq, Eq)]
+#[derive(Clone, Copy)]
 enum Change {
     /// The first literal of the step goes.
     Shorter,
@@ -168,7 +167,7 @@ fn changed(
 }
 
 /// How many certificates were changed, and how many of them are certificates still.
-#[derive(Clone, Copy, Debug, PartialEq, Eq)]
+#[derive(Clone, Copy)]
 struct Counts {
     changed: u32,
     accepted: u32,
@@ -201,7 +200,8 @@ fn round(
     let change = change_of(numbers);
     let other = changed(alloc, &formula, &steps, place, change)?;
     let checked = judge(rt, alloc, &formula, &other)?;
-    assert_eq!(rt; checked, slow_check(alloc, VARS, &formula, &other)?);
+    let defined = slow_check(alloc, VARS, &formula, &other)?;
+    assert!(rt; checked == defined);
     Ok(counted(counts, checked))
 }
 
@@ -222,9 +222,11 @@ fn rounds(rt: &impl Abort, alloc: Global) -> Result<Counts, OutOfMemory> {
 
 /// Both answers come often enough to mean something.
 #[test]
-fn changed_certificates_are_judged_as_defined(rt: HostRuntime) -> Result<(), Fail> {
-    let counts = rounds(&rt, rt.alloc())?;
-    assert_eq!(rt; counts.changed, ROUNDS);
-    assert!(rt; 50 < counts.accepted && counts.accepted < 450);
-    Ok(())
+fn changed_certificates_are_judged_as_defined(rt: HostRuntime) {
+    let counts = rounds(&rt, rt.alloc());
+    let are_many = matches!(
+        counts,
+        Ok(counts) if counts.changed == ROUNDS && 50 < counts.accepted && counts.accepted < 450
+    );
+    assert!(rt; are_many);
 }

@@ -11,7 +11,7 @@ use std::alloc::Global;
 use std::process::Abort;
 
 /// A formula over so many variables.
-#[derive(Debug, Drop)]
+#[derive(Drop)]
 pub struct Formula {
     pub vars: usize,
     pub clauses: ClauseList,

@@ -5,7 +5,6 @@ use rup_check::Checked;
 use sat_base::{Clause, ClauseList, Lit, OutOfMemory, Step};
 use std::alloc::Global;
 use std::process::Abort;
-use std::test::Fail;
 
 /// The number of variables of the tests.
 const VARS: usize = 3;
@@ -62,76 +61,61 @@ fn answer(
     judge(rt, alloc, &formula, &proof)
 }
 
-#[test]
-fn opposite_units_are_refuted_at_once(rt: HostRuntime) -> Result<(), Fail> {
-    let found = answer(&rt, rt.alloc(), &[1, 0, -1, 0], &[0])?;
-    assert_eq!(rt; found, Checked::Yes);
-    Ok(())
+/// Whether that is said of them.
+fn is_said(rt: &HostRuntime, clauses: &[i8], steps: &[i8], want: Checked) -> bool {
+    answer(rt, rt.alloc(), clauses, steps) == Ok(want)
 }
 
 #[test]
-fn a_step_that_does_not_follow_is_named(rt: HostRuntime) -> Result<(), Fail> {
-    let found = answer(&rt, rt.alloc(), &[1, 2, 0, -1, 2, 0], &[2, 0, 0])?;
-    assert_eq!(rt; found, Checked::No(1));
-    Ok(())
+fn opposite_units_are_refuted_at_once(rt: HostRuntime) {
+    assert!(rt; is_said(&rt, &[1, 0, -1, 0], &[0], Checked::Yes));
 }
 
 #[test]
-fn a_certificate_ends_with_the_empty_clause(rt: HostRuntime) -> Result<(), Fail> {
-    let allowed = answer(&rt, rt.alloc(), &[1, 2, 0, -1, 2, 0], &[2, 0])?;
-    assert_eq!(rt; allowed, Checked::No(1));
-    let nothing = answer(&rt, rt.alloc(), &[1, 0, -1, 0], &[])?;
-    assert_eq!(rt; nothing, Checked::No(0));
-    Ok(())
+fn a_step_that_does_not_follow_is_named(rt: HostRuntime) {
+    assert!(rt; is_said(&rt, &[1, 2, 0, -1, 2, 0], &[2, 0, 0], Checked::No(1)));
 }
 
 #[test]
-fn one_of_two_equal_clauses_is_taken_out(rt: HostRuntime) -> Result<(), Fail> {
+fn a_certificate_ends_with_the_empty_clause(rt: HostRuntime) {
+    assert!(rt; is_said(&rt, &[1, 2, 0, -1, 2, 0], &[2, 0], Checked::No(1)));
+    assert!(rt; is_said(&rt, &[1, 0, -1, 0], &[], Checked::No(0)));
+}
+
+#[test]
+fn one_of_two_equal_clauses_is_taken_out(rt: HostRuntime) {
     let clauses = [1, 2, 0, 2, 1, 2, 0, -1, 0];
-    let once = answer(&rt, rt.alloc(), &clauses, &[D, 1, 2, 0, 2, 0])?;
-    assert_eq!(rt;
-        once,
-        Checked::No(2),
-        "the other one forces the second variable"
-    );
-    let twice = answer(&rt, rt.alloc(), &clauses, &[D, 1, 2, 0, D, 2, 1, 0, 2, 0])?;
-    assert_eq!(rt; twice, Checked::No(2), "none is left");
-    let thrice = answer(
+    let once = is_said(&rt, &clauses, &[D, 1, 2, 0, 2, 0], Checked::No(2));
+    assert!(rt; once, "the other one forces the second variable");
+    let twice = is_said(
         &rt,
-        rt.alloc(),
         &clauses,
-        &[D, 1, 2, 0, D, 1, 2, 0, D, 1, 2, 0],
-    )?;
-    assert_eq!(rt; thrice, Checked::No(2), "there is nothing to take out");
-    Ok(())
+        &[D, 1, 2, 0, D, 2, 1, 0, 2, 0],
+        Checked::No(2),
+    );
+    assert!(rt; twice, "none is left");
+    let steps = [D, 1, 2, 0, D, 1, 2, 0, D, 1, 2, 0];
+    let thrice = is_said(&rt, &clauses, &steps, Checked::No(2));
+    assert!(rt; thrice, "there is nothing to take out");
 }
 
 #[test]
-fn what_a_clause_forced_is_forgotten_with_it(rt: HostRuntime) -> Result<(), Fail> {
+fn what_a_clause_forced_is_forgotten_with_it(rt: HostRuntime) {
     let clauses = [1, 0, -1, 2, 0, -2, 0];
-    let kept = answer(&rt, rt.alloc(), &clauses, &[0])?;
-    assert_eq!(rt; kept, Checked::Yes);
-    let gone = answer(&rt, rt.alloc(), &clauses, &[D, 1, 0, 0])?;
-    assert_eq!(rt; gone, Checked::No(1));
-    Ok(())
+    assert!(rt; is_said(&rt, &clauses, &[0], Checked::Yes));
+    assert!(rt; is_said(&rt, &clauses, &[D, 1, 0, 0], Checked::No(1)));
 }
 
 #[test]
-fn a_tautology_needs_a_conflict(rt: HostRuntime) -> Result<(), Fail> {
-    let alone = answer(&rt, rt.alloc(), &[2, 0], &[1, -1, 0])?;
-    assert_eq!(rt; alone, Checked::No(0));
-    let doubled = answer(&rt, rt.alloc(), &[1, 1, 0, -1, -1, 0], &[0])?;
-    assert_eq!(rt; doubled, Checked::Yes);
-    Ok(())
+fn a_tautology_needs_a_conflict(rt: HostRuntime) {
+    assert!(rt; is_said(&rt, &[2, 0], &[1, -1, 0], Checked::No(0)));
+    assert!(rt; is_said(&rt, &[1, 1, 0, -1, -1, 0], &[0], Checked::Yes));
 }
 
 /// Of three things at least two, and of each two at most one.
 #[test]
-fn a_step_helps_the_next(rt: HostRuntime) -> Result<(), Fail> {
+fn a_step_helps_the_next(rt: HostRuntime) {
     let clauses = [1, 2, 0, 1, 3, 0, 2, 3, 0, -1, -2, 0, -1, -3, 0, -2, -3, 0];
-    let found = answer(&rt, rt.alloc(), &clauses, &[-1, 0, 0])?;
-    assert_eq!(rt; found, Checked::Yes);
-    let early = answer(&rt, rt.alloc(), &clauses, &[0])?;
-    assert_eq!(rt; early, Checked::No(0));
-    Ok(())
+    assert!(rt; is_said(&rt, &clauses, &[-1, 0, 0], Checked::Yes));
+    assert!(rt; is_said(&rt, &clauses, &[0], Checked::No(0)));
 }
