@@ -1,5 +1,5 @@
 -- Which expressions of a graph have gates: they fit the layout over temps, without calls and branches.
-use Rattle.std.specs.Prelude.{◌≡◌, ℕ, ◌^◌, nat_lt, Bool, true, ◌&&◌, List}
+use Rattle.std.specs.Prelude.{◌≡◌, ℕ, ◌^◌, nat_lt, Bool, true, ◌&&◌}
 use Rattle.sc_world.specs.Tree.{Ty, int_bits, Exp, Comma, Assign, Cond, Binary, Cast, Unary, PreInc, PostInc, SizeofExpr, SizeofType, Index, Call, Field, Param, Local, Global, Function, Number, Str, Convert, Temp, TempPlace}
 use Rattle.sc_world.specs.Source.{Source}
 use Rattle.sc_world.specs.Eval.{Want}
