@@ -57,6 +57,11 @@ conversion_fits want u t = is_read want && converts_to u t
 abbrev pub number_fits : Want → Ty → Bool
 number_fits want t = is_read want && is_integer t
 
+-- what is wanted of what stands before `->` or `.`
+abbrev pub object_wanted : (arrow : Bool) → Want
+object_wanted true = Value
+object_wanted false = Place'
+
 -- whether each number below that one passes
 abbrev pub each_below : (ℕ → Bool) → ℕ → Bool
 each_below test zero = true
@@ -96,6 +101,11 @@ module _ (p : Layout) where
   abbrev pub members_behind_fit : (pointer : Ty) → NameId → (member : Ty) → Bool
   members_behind_fit u n t = is_pointer u && members_fit (target_or_void u) n t
 
+  -- of `->` and of `.`
+  abbrev pub field_fits : (arrow : Bool) → (object : Ty) → NameId → (member : Ty) → Bool
+  field_fits true u n t = members_behind_fit u n t
+  field_fits false u n t = members_fit u n t
+
   -- an element of what stands somewhere with that type
   abbrev pub is_element_of : Ty → Origin → Bool
   is_element_of u (origin.Part up (step.Elem k)) = stands_at u up
@@ -131,8 +141,7 @@ module _ (p : Layout) where
       fits_here (unless_array (type_of a)) a
       && (fits_here Value b && (is_integer (type_of b) && indexed_fits (is_array (type_of a)) (type_of a) t))
   fits_here want (Call x f es t) = false
-  fits_here want (Field a n true t) = fits_here Value a && members_behind_fit (type_of a) n t
-  fits_here want (Field a n false t) = fits_here Place' a && members_fit (type_of a) n t
+  fits_here want (Field a n arrow t) = fits_here (object_wanted arrow) a && field_fits arrow (type_of a) n t
   fits_here want (Param n t) = is_typed_there (origin.Param n) t
   fits_here want (Local n t) = is_typed_there (origin.Local n) t
   fits_here want (Global n t) = is_typed_there (origin.Global n) t

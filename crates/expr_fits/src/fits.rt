@@ -9,10 +9,10 @@ ghost use Rattle.expr_fits.specs.Fits as spec;
 ghost use Rattle.expr_fits.specs.Here.{fits_here};
 
 use crate::around::{Around, member_name, type_of};
-use crate::places::{indexed_fits, is_stub_there, is_typed_there, members_behind_fit, members_fit};
+use crate::places::{field_fits, indexed_fits, is_stub_there, is_typed_there};
 use crate::types::{
-    assign_fits, binary_fits, conversion_fits, count_fits, is_read, number_fits, operand_wanted,
-    right_wanted, unary_fits, unless_array,
+    assign_fits, binary_fits, conversion_fits, count_fits, is_read, number_fits, object_wanted,
+    operand_wanted, right_wanted, unary_fits, unless_array,
 };
 use run_entry::integer_bits;
 use run_exprs::{character, operator};
@@ -123,13 +123,8 @@ fn fits(around: &Around, want: Want, e: &TExpr) -> bool
         }
         What::Field(a, number, member, arrow) => {
             let name = member_name(around, *number, *member);
-            let whole = type_of(around, a.get());
-            if *arrow {
-                fits(around, Want::Value, a.get())
-                    && members_behind_fit(around.layout, whole, name, t)
-            } else {
-                fits(around, Want::Place, a.get()) && members_fit(around.layout, whole, name, t)
-            }
+            fits(around, object_wanted(*arrow), a.get())
+                && field_fits(around.layout, *arrow, type_of(around, a.get()), name, t)
         }
         What::Param(n) => is_typed_there(around.layout, Origin::Param(*n), t),
         What::Local(n) => is_typed_there(around.layout, Origin::Local(*n), t),

@@ -2,7 +2,7 @@
 
 ghost use Rattle.std.specs.Prelude.{◌≡◌, ◌<◌, ◌^◌, length};
 ghost use Rattle.sc_world.specs.Layout as layouts;
-ghost use Rattle.sc_world.specs.Tree.{target_or_void, is_array};
+ghost use Rattle.sc_world.specs.Tree.{is_array};
 ghost use Rattle.sc_world.specs.View.{type};
 ghost use Rattle.layout_base.specs.Seen as laid;
 ghost use Rattle.expr_fits.specs.Here as here;
@@ -119,9 +119,9 @@ fn member_fits(layout: &Lookup, whole: &CType, name: NameId, member: &CType, at:
         || has_type_there(layout.places, layout.part(at, Step::Field(name)), member)
 }
 
-/// Whether the member is there, with its type, in each location of the whole type.
+// Whether the member is there, with its type, in each location of the whole type.
 #[tactic(auto, using(crate::proofs::Below::fewer))]
-pub fn members_fit(layout: &Lookup, whole: &CType, name: NameId, member: &CType) -> bool
+fn members_fit(layout: &Lookup, whole: &CType, name: NameId, member: &CType) -> bool
     requires few { length (laid.layout_of layout.now.places.now).locations < 2 ^ 32 }
     ensures { result ≡ here.members_fit (laid.layout_of layout.now.places.now) (type whole.now) name (type member.now) }
 {
@@ -135,8 +135,8 @@ pub fn members_fit(layout: &Lookup, whole: &CType, name: NameId, member: &CType)
     true
 }
 
-/// The same behind a pointer of that type.
-pub fn members_behind_fit(layout: &Lookup, pointer: &CType, name: NameId, member: &CType) -> bool
+// The same behind a pointer of that type.
+fn members_behind_fit(layout: &Lookup, pointer: &CType, name: NameId, member: &CType) -> bool
     requires few { length (laid.layout_of layout.now.places.now).locations < 2 ^ 32 }
     ensures { result ≡ here.members_behind_fit (laid.layout_of layout.now.places.now) (type pointer.now) name (type member.now) }
 {
@@ -150,6 +150,24 @@ pub fn members_behind_fit(layout: &Lookup, pointer: &CType, name: NameId, member
         | CType::Union(_)
         | CType::Func(_)
         | CType::Opaque(_) => false,
+    }
+}
+
+/// Whether the member is there, with its type: for `->` behind a pointer, for `.` in an object.
+pub fn field_fits(
+    layout: &Lookup,
+    arrow: bool,
+    object: &CType,
+    name: NameId,
+    member: &CType,
+) -> bool
+    requires few { length (laid.layout_of layout.now.places.now).locations < 2 ^ 32 }
+    ensures { result ≡ here.field_fits (laid.layout_of layout.now.places.now) arrow (type object.now) name (type member.now) }
+{
+    if arrow {
+        members_behind_fit(layout, object, name, member)
+    } else {
+        members_fit(layout, object, name, member)
     }
 }
 

@@ -2,7 +2,7 @@
 
 ghost use Rattle.std.specs.Prelude.{◌≡◌};
 ghost use Rattle.sc_world.specs.Tree as tree;
-ghost use Rattle.sc_world.specs.View.{operator, type};
+ghost use Rattle.sc_world.specs.View.{type};
 ghost use Rattle.run_laws.specs.Fits as laws;
 ghost use Rattle.run_values.specs.Seen.{want_of};
 ghost use Rattle.expr_fits.specs.Here as here;
@@ -79,6 +79,13 @@ pub fn operand_wanted(op: UnaryOp) -> Want
         UnaryOp::Deref | UnaryOp::Not | UnaryOp::Plus | UnaryOp::Minus | UnaryOp::Complement =>
             Want::Value,
     }
+}
+
+/// What is wanted of what stands before `->` or `.`.
+pub fn object_wanted(arrow: bool) -> Want
+    ensures { want_of result ≡ here.object_wanted arrow }
+{
+    if arrow { Want::Value } else { Want::Place }
 }
 
 fn compares_pointers(op: BinaryOp) -> bool
