@@ -43,11 +43,12 @@ use Rattle.flow_types.specs.Kinds as flow
 use Rattle.tr_expr.specs.Evals.{Operates, IsOfUnary, of_unary}
 use Rattle.tr_expr.specs.Names.{DoesName, DoesAddress}
 use Rattle.tr_expr.proofs.TypeKinds.{integer_kind, pointer_kind}
-use Rattle.tr_walk.specs.declared.around.Around.{Around}
-use Rattle.tr_walk.specs.Around.{layout_of, source_of, temps_of}
+use Rattle.expr_fits.specs.declared.around.Around.{Around}
+use Rattle.expr_fits.specs.Around.{layout_of, source_of, temps_of}
 use Rattle.tr_walk.specs.Leaves.{Converts, temp_at}
-use Rattle.tr_walk.specs.Temps.{AreKept, HasKindFor}
-use Rattle.tr_walk.specs.Walks.{CanWalk, IsReady, Walks, changes, takes_value}
+use Rattle.expr_fits.specs.Temps.{AreKept, HasKindFor}
+use Rattle.expr_fits.specs.Fits.{CanWalk}
+use Rattle.tr_walk.specs.Walks.{IsReady, Walks, changes, takes_value}
 use Rattle.tr_walk.proofs.Can.{read_kind}
 use Rattle.tr_walk.proofs.Kept.{all_stay, ends_grow, kept_at, kind_at, temp_low}
 

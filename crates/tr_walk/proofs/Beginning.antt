@@ -15,10 +15,10 @@ use Rattle.sc_world.specs.Layout.{Layout}
 use Rattle.sc_world.specs.World.{World}
 use Rattle.sc_world.specs.Eval.{Want, Value, Place'}
 use Rattle.flow_types.specs.Kinds as flow
-use Rattle.tr_walk.specs.declared.around.Around.{Around}
-use Rattle.tr_walk.specs.Around.{layout_of, temps_of}
+use Rattle.expr_fits.specs.declared.around.Around.{Around}
+use Rattle.expr_fits.specs.Around.{layout_of, temps_of}
 use Rattle.tr_walk.specs.Evaled.{IsEvaled, IsFor, Leaves}
-use Rattle.tr_walk.specs.Temps.{AreKept}
+use Rattle.expr_fits.specs.Temps.{AreKept}
 use Rattle.tr_walk.specs.Walks.{Walks}
 
 good_for : (v : ℕ → Bool) (g : Ends) (p : Layout) (want : Want) (t : Ty) (x : Val) (c : Cell) → GoodFor v g p want t x c → IsFor v (v g.live.at) p want t x c

@@ -23,10 +23,11 @@ use Rattle.flow_types.specs.Kinds as flow
 use Rattle.gate_values.specs.Operators.{is_shift, is_test}
 use Rattle.gate_changes.specs.Changes.{CombineFits}
 use Rattle.tr_expr.specs.Plain.{AreAlike, Integers, PointersBoth, BinaryFits, ConvertFits, SignFits, UnaryFits}
-use Rattle.tr_walk.specs.declared.around.Around.{Around}
-use Rattle.tr_walk.specs.Around.{layout_of, source_of}
-use Rattle.tr_walk.specs.Temps.{HasKindFor}
-use Rattle.tr_walk.specs.Walks.{CanWalk, changes, constants_fit, gives_pointer, takes_value}
+use Rattle.expr_fits.specs.declared.around.Around.{Around}
+use Rattle.expr_fits.specs.Around.{layout_of, source_of}
+use Rattle.expr_fits.specs.Temps.{HasKindFor}
+use Rattle.expr_fits.specs.Fits.{CanWalk, constants_fit}
+use Rattle.tr_walk.specs.Walks.{changes, gives_pointer, takes_value}
 
 -- Both of two tests hold.
 

@@ -26,11 +26,12 @@ use Rattle.sc_world.specs.Tree as tree
 use Rattle.sc_world.specs.Tree.{Ty, is_integer, is_pointer, is_array, is_void, int_bits, target_or_void, Exp, Comma, Assign, Binary, Cast, Unary, PreInc, PostInc, Index, Field, Param, Local, Convert, Temp, TempPlace, type_of}
 use Rattle.sc_world.specs.Eval.{Want, Value, Place'}
 use Rattle.tr_expr.specs.Evals.{Operates, IsOfUnary}
-use Rattle.tr_walk.specs.declared.around.Around.{Around}
-use Rattle.tr_walk.specs.Around.{layout_of, source_of}
+use Rattle.expr_fits.specs.declared.around.Around.{Around}
+use Rattle.expr_fits.specs.Around.{layout_of, source_of}
 use Rattle.tr_walk.specs.Leaves.{Converts}
-use Rattle.tr_walk.specs.Temps.{HasKindFor}
-use Rattle.tr_walk.specs.Walks.{CanWalk, Walks, takes_value}
+use Rattle.expr_fits.specs.Temps.{HasKindFor}
+use Rattle.expr_fits.specs.Fits.{CanWalk}
+use Rattle.tr_walk.specs.Walks.{Walks, takes_value}
 use Rattle.tr_walk.proofs.Arms as arms
 use Rattle.tr_walk.proofs.Can as can
 

@@ -14,10 +14,10 @@ use Rattle.sc_world.specs.Layout.{Layout}
 use Rattle.sc_world.specs.Eval.{Want}
 use Rattle.flow_types.specs.Kinds as flow
 use Rattle.gate_places.proofs.Assigning.{stays_laid}
-use Rattle.tr_walk.specs.declared.around.Around.{Around}
-use Rattle.tr_walk.specs.Around.{layout_of, source_of}
+use Rattle.expr_fits.specs.declared.around.Around.{Around}
+use Rattle.expr_fits.specs.Around.{layout_of, source_of}
 use Rattle.tr_walk.specs.Leaves.{temp_at}
-use Rattle.tr_walk.specs.Temps.{AreKept, HasKind, HaveKinds, IsKept, temps_top}
+use Rattle.expr_fits.specs.Temps.{AreKept, HasKind, HaveKinds, IsKept, temps_top}
 use Rattle.tr_walk.specs.Walks.{IsReady, Walks}
 
 -- Where the run goes on behind a step, it went on before; so a place that was good stays good.

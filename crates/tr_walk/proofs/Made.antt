@@ -23,8 +23,8 @@ use Rattle.tr_expr.specs.Evals.{IsConverted}
 use Rattle.tr_expr.specs.Plain.{ConvertFits}
 use Rattle.tr_expr.proofs.TypeKinds.{bits_some, bits_few, integer_kind, numbers_width}
 use Rattle.tr_walk.specs.Leaves.{Converts}
-use Rattle.tr_walk.specs.Temps.{HasKindFor}
-use Rattle.tr_walk.specs.Walks.{fits_width}
+use Rattle.expr_fits.specs.Temps.{HasKindFor}
+use Rattle.expr_fits.specs.Fits.{fits_width}
 use Rattle.tr_walk.proofs.Can.{cell_kind}
 
 -- Numbers.

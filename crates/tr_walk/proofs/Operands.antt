@@ -23,10 +23,11 @@ use Rattle.sc_world.specs.View.{operator}
 use Rattle.sc_world.specs.World.{kind_of_type}
 use Rattle.sc_world.specs.Eval.{Want, Value, Place'}
 use Rattle.tr_expr.specs.Plain.{AreAlike, Integers, PointersBoth, BinaryFits, UnaryFits}
-use Rattle.tr_walk.specs.declared.around.Around.{Around}
-use Rattle.tr_walk.specs.Around.{layout_of, source_of}
-use Rattle.tr_walk.specs.Temps.{HasKindFor}
-use Rattle.tr_walk.specs.Walks.{CanWalk, Walks, fits_width, takes_value}
+use Rattle.expr_fits.specs.declared.around.Around.{Around}
+use Rattle.expr_fits.specs.Around.{layout_of, source_of}
+use Rattle.expr_fits.specs.Temps.{HasKindFor}
+use Rattle.expr_fits.specs.Fits.{CanWalk, fits_width}
+use Rattle.tr_walk.specs.Walks.{Walks, takes_value}
 use Rattle.tr_walk.proofs.Can as can
 use Rattle.tr_walk.proofs.Can.{cell_kind, set_kind}
 

@@ -15,9 +15,10 @@ use Rattle.sc_typed.specs.Arith.{wrapped}
 use Rattle.sc_world.specs.Tree.{Ty, is_integer, is_pointer, is_array, int_bits, Assign, Index, Number, type_of}
 use Rattle.sc_world.specs.View.{type, operator}
 use Rattle.sc_world.specs.Eval.{Want, Value, Place'}
-use Rattle.tr_walk.specs.declared.around.Around.{Around}
-use Rattle.tr_walk.specs.Around.{exp_of, source_of}
-use Rattle.tr_walk.specs.Walks.{CanWalk, IsReady, Walks}
+use Rattle.expr_fits.specs.declared.around.Around.{Around}
+use Rattle.expr_fits.specs.Around.{exp_of, source_of}
+use Rattle.expr_fits.specs.Fits.{CanWalk}
+use Rattle.tr_walk.specs.Walks.{IsReady, Walks}
 use Rattle.tr_walk.proofs.Can as can
 use Rattle.tr_walk.proofs.Operands as operands
 use Rattle.tr_walk.proofs.Seen as seen

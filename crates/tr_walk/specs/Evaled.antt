@@ -16,10 +16,10 @@ use Rattle.sc_world.specs.Layout.{Layout}
 use Rattle.sc_world.specs.Eval.{Want, Value, Place', eval}
 use Rattle.flow_types.specs.Kinds as flow
 use Rattle.gate_places.specs.Places.{env_of}
-use Rattle.tr_walk.specs.declared.around.Around.{Around}
+use Rattle.expr_fits.specs.declared.around.Around.{Around}
 use Rattle.tr_walk.specs.declared.evaled.Evaled.{Evaled}
-use Rattle.tr_walk.specs.Around.{layout_of, source_of, temps_of}
-use Rattle.tr_walk.specs.Temps.{AreKept, HasKindFor}
+use Rattle.expr_fits.specs.Around.{layout_of, source_of, temps_of}
+use Rattle.expr_fits.specs.Temps.{AreKept, HasKindFor}
 
 -- the value is the cell; that of a place leads to an object of its type where the run goes on
 abbrev pub IsFor : (v : ℕ → Bool) → (on : Bool) → Layout → Want → Ty → Val → Cell → Type 0

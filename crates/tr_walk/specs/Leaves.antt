@@ -11,7 +11,7 @@ use Rattle.sc_world.specs.Source.{Source}
 use Rattle.sc_world.specs.Layout.{Layout}
 use Rattle.sc_world.specs.Eval as eval
 use Rattle.gate_places.specs.Places.{env_of}
-use Rattle.tr_walk.specs.Temps.{HasKindFor}
+use Rattle.expr_fits.specs.Temps.{HasKindFor}
 
 abbrev pub temp_at : List Val → ℕ → Val
 temp_at xs n = slice_index_or xs n val.Unit

@@ -1,5 +1,5 @@
 -- What the gates of an expression promise: for every choice they do what its evaluation does in a run.
-use Rattle.std.specs.Prelude.{◌≡◌, ℕ, ◌^◌, ◌≤◌, ◌<◌, nat_lt, Bool, true, false, ◌&&◌, List, length}
+use Rattle.std.specs.Prelude.{◌≡◌, ℕ, ◌^◌, ◌≤◌, ◌<◌, Bool, true, false, List, length}
 use Rattle.bit_net.specs.declared.nodes.Node.{Node}
 use Rattle.bit_net.specs.Runs.{Runs}
 use Rattle.gl_store.specs.declared.values.Val.{Val}
@@ -11,52 +11,15 @@ use Rattle.run_store.specs.Concrete.{Cell}
 use Rattle.sc_tree.specs.declared.op.Step.{Step}
 use Rattle.sc_tree.specs.declared.op.UnaryOp.{UnaryOp}
 use Rattle.sc_tree.specs.declared.op.UnaryOp.TheVariants as sign
-use Rattle.sc_world.specs.Tree.{Ty, int_bits, is_pointer, Exp, Comma, Assign, Cond, Binary, Cast, Unary, PreInc, PostInc, SizeofExpr, SizeofType, Index, Call, Field, Param, Local, Global, Function, Number, Str, Convert, Temp, TempPlace, type_of}
+use Rattle.sc_world.specs.Tree.{Ty, is_pointer, Exp, PreInc, PostInc, type_of}
 use Rattle.sc_world.specs.Source.{Source}
 use Rattle.sc_world.specs.Eval.{Want, Value, Place', eval}
 use Rattle.layout_base.specs.Seen as laid
-use Rattle.flow_graph.specs.Conditions.{is_plain}
 use Rattle.flow_types.specs.Kinds as flow
 use Rattle.gate_places.specs.Places.{GoodFor, IsLaid, env_of}
-use Rattle.tr_walk.specs.declared.around.Around.{Around}
-use Rattle.tr_walk.specs.Around.{layout_of, source_of, temps_of}
-use Rattle.tr_walk.specs.Temps.{AreKept, HasKindFor, HaveKinds, temps_top}
-
--- each constant, and each size, is a number of the width of its type
-abbrev pub fits_width : Source → Ty → ℕ → Bool
-fits_width s t n = nat_lt n (2 ^ int_bits s.widths t)
-
-abbrev pub constants_fit : Source → Exp → Bool
-constants_fit s (Comma a b t) = constants_fit s a && constants_fit s b
-constants_fit s (Assign o works a b t) = constants_fit s a && constants_fit s b
-constants_fit s (Cond a b c t) = true
-constants_fit s (Binary o a b t) = constants_fit s a && constants_fit s b
-constants_fit s (Cast a t) = constants_fit s a
-constants_fit s (Unary o a t) = constants_fit s a
-constants_fit s (PreInc d a t) = constants_fit s a
-constants_fit s (PostInc d a t) = constants_fit s a
-constants_fit s (SizeofExpr a n t) = fits_width s t n
-constants_fit s (SizeofType n t) = fits_width s t n
-constants_fit s (Index a b t) = constants_fit s a && constants_fit s b
-constants_fit s (Call x f es t) = true
-constants_fit s (Field a n arrow t) = constants_fit s a
-constants_fit s (Param n t) = true
-constants_fit s (Local n t) = true
-constants_fit s (Global n t) = true
-constants_fit s (Function n b t) = true
-constants_fit s (Number n t) = fits_width s t n
-constants_fit s (Str x t) = true
-constants_fit s (Convert a t) = constants_fit s a
-constants_fit s (Temp n t) = true
-constants_fit s (TempPlace n t) = true
-
--- An expression of a node of a graph: it fits the layout over temps that have their kinds, and has no call and no branch.
-pub record CanWalk (a : Around) (want : Want) (e : Exp) : Type 0 where
-  pub kept : flow.Kinds
-  pub have : HaveKinds (source_of a) kept.temps (temps_of a)
-  pub fits : flow.FitsOver kept (layout_of a) want e
-  pub plain : is_plain e ≡ true
-  pub constants : constants_fit (source_of a) e ≡ true
+use Rattle.expr_fits.specs.declared.around.Around.{Around}
+use Rattle.expr_fits.specs.Around.{layout_of, source_of, temps_of}
+use Rattle.expr_fits.specs.Temps.{AreKept, HasKindFor, temps_top}
 
 -- The look-ups are those of the layout, the store has its cells, and all gates are gates of the net.
 pub record IsReady (a : Around) (ns : List Node) (locations : List Location) (gates : Ends) : Type 0 where

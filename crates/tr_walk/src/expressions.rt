@@ -3,16 +3,17 @@
 ghost use Rattle.std.specs.Prelude.{IfOk};
 ghost use Rattle.bit_net.specs.Runs.{Grown};
 ghost use Rattle.run_values.specs.Seen.{want_of};
-ghost use Rattle.tr_walk.specs.Around.{exp_of};
-ghost use Rattle.tr_walk.specs.Walks.{CanWalk, IsReady, Walks};
+ghost use Rattle.expr_fits.specs.Around.{exp_of};
+ghost use Rattle.expr_fits.specs.Fits.{CanWalk};
+ghost use Rattle.tr_walk.specs.Walks.{IsReady, Walks};
 
-use crate::around::{Around, member_name, type_of};
 use crate::leaves::{as_set, as_word, convert, kept_place, number_of, temp};
 use crate::sides::{
     assign_left, assign_object, assign_operand, assign_value, binary_left, binary_right,
     comma_left, comma_right, index_of, indexed_array, indexed_pointer,
 };
 use bit_net::{Net, OutOfMemory};
+use expr_fits::{Around, member_name, type_of};
 use gate_changes::{combined, counted};
 use gate_copies::copy;
 use gate_elements::array_index;

@@ -2,15 +2,13 @@
 //! behind it.
 //!
 //! `expressions` goes over the tree, and calls for each construct the gates of the crates below once its operands are there.
-//! `sides` has the operands of constructs, `leaves` constants, temps and conversions, `around` what a walk reads.
+//! `sides` has the operands of constructs, `leaves` constants, temps and conversions.
 #![tactic(auto)]
 
-mod around;
 mod evaled;
 mod expressions;
 mod leaves;
 mod sides;
 
-pub use around::Around;
 pub use evaled::{Evaled, eval, place};
 pub use expressions::walk;

@@ -7,10 +7,10 @@ ghost use Rattle.sc_world.specs.Eval as eval;
 ghost use Rattle.sc_world.specs.Tree as tree;
 ghost use Rattle.sc_world.specs.View.{operator, type};
 ghost use Rattle.run_values.specs.Seen.{want_of};
-ghost use Rattle.tr_walk.specs.Around.{exp_of};
-ghost use Rattle.tr_walk.specs.Walks.{CanWalk};
+ghost use Rattle.expr_fits.specs.Around.{exp_of};
+ghost use Rattle.expr_fits.specs.Fits.{CanWalk};
 
-use crate::around::Around;
+use expr_fits::Around;
 use run_values::Want;
 use sc_base::Boxed;
 use sc_tree::ctype::CType;

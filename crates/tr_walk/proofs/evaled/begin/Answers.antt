@@ -1,5 +1,5 @@
 use Rattle.run_values.specs.Seen.{want_of}
-use Rattle.tr_walk.specs.Around.{exp_of}
+use Rattle.expr_fits.specs.Around.{exp_of}
 use Rattle.tr_walk.proofs.Beginning.{is_evaled}
 use Rattle.tr_walk.proofs.evaled.begin.Goals as goal
 

@@ -7,7 +7,7 @@ use Rattle.sc_tree.specs.declared.op.UnaryOp.{UnaryOp}
 use Rattle.sc_world.specs.Tree.{type_of, Unary, Field, Number}
 use Rattle.sc_world.specs.View.{type, member_name}
 use Rattle.run_values.specs.Seen.{want_of}
-use Rattle.tr_walk.specs.Around.{exp_of, source_of}
+use Rattle.expr_fits.specs.Around.{exp_of, source_of}
 use Rattle.tr_walk.specs.Walks.{takes_value}
 use Rattle.tr_walk.proofs.Arms as arms
 use Rattle.tr_walk.proofs.Joined as joined

@@ -1,6 +1,6 @@
 use Rattle.std.proofs.Common.{sym, ◌∙◌}
 use Rattle.sc_world.specs.View.{type}
-use Rattle.tr_walk.specs.Around.{source_of}
+use Rattle.expr_fits.specs.Around.{source_of}
 use Rattle.tr_walk.proofs.Made.{function_truth}
 use Rattle.tr_walk.proofs.leaves.function_to.Goals as goal
 

@@ -5,7 +5,7 @@ use Rattle.gl_store.specs.Steps.{IsSame}
 use Rattle.gl_store.specs.declared.values.Val.{Val}
 use Rattle.sc_world.specs.View.{type}
 use Rattle.run_values.specs.Seen.{want_of}
-use Rattle.tr_walk.specs.Around.{temps_of}
+use Rattle.expr_fits.specs.Around.{temps_of}
 use Rattle.tr_walk.specs.Leaves.{temp_at}
 use Rattle.tr_walk.proofs.Arms.{walks_place, walks_at_place, kept_pointer}
 use Rattle.tr_walk.proofs.Kept.{temp_low}

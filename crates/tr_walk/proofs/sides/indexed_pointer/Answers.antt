@@ -1,7 +1,7 @@
 use Rattle.std.proofs.Common.{false, refl, sym}
 use Rattle.sc_world.specs.Tree.{type_of}
 use Rattle.run_values.specs.Seen.{want_of}
-use Rattle.tr_walk.specs.Around.{exp_of}
+use Rattle.expr_fits.specs.Around.{exp_of}
 use Rattle.tr_walk.proofs.Parts as parts
 use Rattle.tr_walk.proofs.sides.indexed_pointer.Goals as goal
 

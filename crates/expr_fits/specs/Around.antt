@@ -6,14 +6,19 @@ use Rattle.sc_world.specs.Tree.{Exp}
 use Rattle.sc_world.specs.Source.{Source}
 use Rattle.sc_world.specs.Layout.{Layout}
 use Rattle.sc_world.specs.View.{exp}
+use Rattle.layout_base.specs.Seen as laid
 use Rattle.run_world.specs.Seen as seen
-use Rattle.tr_walk.specs.declared.around.Around.{Around}
+use Rattle.expr_fits.specs.declared.around.Around.{Around}
 
 abbrev pub source_of : Around → Source
 source_of a = (seen.env a.here.now).source
 
 abbrev pub layout_of : Around → Layout
 layout_of a = (seen.env a.here.now).layout
+
+-- the layout that the look-ups are made in
+abbrev pub looked_in : Around → Layout
+looked_in a = laid.layout_of a.layout.now.places.now
 
 abbrev pub temps_of : Around → List Val
 temps_of a = a.temps.now

@@ -3,7 +3,7 @@
 ghost use Rattle.std.specs.Prelude.{◌≡◌};
 ghost use Rattle.sc_world.specs.Tree as tree;
 ghost use Rattle.sc_world.specs.View as view;
-ghost use Rattle.tr_walk.specs.Around.{exp_of, source_of};
+ghost use Rattle.expr_fits.specs.Around.{exp_of, source_of};
 
 use gl_store::Val;
 use layout_lookup::Lookup;

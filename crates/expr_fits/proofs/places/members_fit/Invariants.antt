@@ -1,0 +1,18 @@
+use Rattle.std.proofs.Common.{◌≡◌, ◌≤◌, length}
+use Rattle.sc_world.specs.View.{type}
+use Rattle.layout_base.specs.Seen as laid
+use Rattle.expr_fits.specs.Here as here
+use Rattle.expr_fits.proofs.places.members_fit.Given as goal
+
+-- the locations from there on pass
+abbrev pub invariant-loop-at : goal.invariant-loop-at
+invariant-loop-at l =
+    let p = laid.layout_of l.layout.places.now in
+    record {
+      rest : here.each_below (here.member_fits p (type l.whole) l.name (type l.member)) l.at
+          ≡ here.members_fit p (type l.whole) l.name (type l.member);
+      low : l.at ≤ length p.locations;
+    }
+
+abbrev pub decreases-loop-at : goal.decreases-loop-at
+decreases-loop-at l = l.at

@@ -1,0 +1,4 @@
+pub mod Around
+pub mod Temps
+pub mod Fits
+pub mod Here
