@@ -1,0 +1,9 @@
+pub mod Steps
+pub mod Rules
+pub mod Calls
+pub mod Parts
+pub mod Walk
+pub mod Plain
+pub mod Induction
+pub mod Jumped
+pub mod Stated
