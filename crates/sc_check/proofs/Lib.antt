@@ -4,3 +4,5 @@ pub mod Heres
 pub mod Walked
 pub mod Found
 pub mod Named
+pub mod Left
+pub mod Bare

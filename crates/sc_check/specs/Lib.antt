@@ -5,3 +5,4 @@ pub mod Parts
 pub mod Bodied
 pub mod Known
 pub mod Checked
+pub mod Left

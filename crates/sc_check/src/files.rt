@@ -19,8 +19,11 @@ use sc_typed::Function;
 use sc_typing::Tables;
 use std::alloc::Global;
 
-// A declaration at file scope: it stays, or leaves a note and nothing else.
-fn file_declaration(
+/// A declaration at file scope: it stays, or leaves a note and nothing else.
+///
+/// `numbers` has the numbers of the globals of `walk`, before and after. Where memory is refused none of the three
+/// is of further use.
+pub fn file_declaration(
     alloc: Global,
     walk: &mut Walk,
     numbers: &mut GlobalNumbers,
@@ -89,8 +92,8 @@ fn segments(
     Ok(())
 }
 
-// Begins a file.
-fn begin(walk: &mut Walk)
+/// Begins a file.
+pub fn begin(walk: &mut Walk)
     ensures begun { notes_of.begin_file walk.old ≡ (tt, walk.new) }
     ensures kept { walk.new.globals ≡ walk.old.globals }
 {

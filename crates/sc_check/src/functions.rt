@@ -11,6 +11,7 @@ ghost use Rattle.sc_tree.specs.declared.expr.Head.{out-Head};
 ghost use Rattle.sc_tree.specs.declared.expr.Specs.{out-Specs};
 ghost use Rattle.sc_declare.specs.Storage.{has_local};
 ghost use Rattle.sc_check.specs.Files as spec;
+ghost use Rattle.sc_check.specs.Left as left;
 ghost use Rattle.sc_check.specs.Parts as parts;
 
 use crate::heads::{
@@ -18,7 +19,7 @@ use crate::heads::{
 };
 use sc_base::{Boxed, List, NameId, OutOfMemory, Pos};
 use sc_bodies::{Around, bare_statement};
-use sc_declare::{GlobalNumbers, has_local, signature_of};
+use sc_declare::{GlobalNumbers, Parameter, has_local, signature_of};
 use sc_names::Scope;
 use sc_rules::Walk;
 use sc_tree::ctype::CType;
@@ -255,4 +256,68 @@ pub fn function(
     let (name, at) = head_name(here, h);
     let is_local = head_is_local(h);
     function_named(alloc, walk, numbers, here, h, is_local, b, name, at)
+}
+
+// Ends a function of which the head alone was typed.
+fn head_ended(
+    alloc: Global,
+    walk: &mut Walk,
+    name: NameId,
+    at: Pos,
+    params: List<Parameter>,
+) -> Result<(), OutOfMemory>
+    ensures ended { Gives (left.head_ended name at params walk.old) result walk.new }
+    ensures kept { OnOk result (walk.new.globals ≡ walk.old.globals) }
+{
+    drop(finish(alloc, walk, name, at, params, None, None)?);
+    Ok(())
+}
+
+// A function of that name and type without its body.
+fn head_shaped(
+    alloc: Global,
+    walk: &mut Walk,
+    here: &Tables,
+    name: NameId,
+    at: Pos,
+    is_local: bool,
+    t: Option<&CType>,
+    own: Own,
+) -> Result<(), OutOfMemory>
+    ensures typed { Gives (left.head_shaped (tables.here_of here.now) name at is_local (option_copied t.entry)
+        own walk.old) result walk.new }
+    ensures kept { OnOk result (walk.new.globals ≡ walk.old.globals) }
+{
+    judge_head(alloc, walk, here, name, at, is_local, t, &own)?;
+    let Own { params, .. } = own;
+    head_ended(alloc, walk, name, at, params)
+}
+
+// A function of that name, with its head alone.
+fn head_named(
+    alloc: Global,
+    walk: &mut Walk,
+    here: &Tables,
+    h: &Head,
+    is_local: bool,
+    name: NameId,
+    at: Pos,
+) -> Result<(), OutOfMemory>
+    ensures typed { Gives (left.head_named (tables.here_of here.now) (heading (tables.here_of here.now) h.now) is_local
+        (name, at) walk.old) result walk.new }
+    ensures kept { OnOk result (walk.new.globals ≡ walk.old.globals) }
+{
+    let Shape { ctype, own } = shape_of(alloc, walk, here, h, at)?;
+    let own = own_or(alloc, own)?;
+    head_shaped(alloc, walk, here, name, at, is_local, ctype.as_ref(), own)
+}
+
+/// What the head of a function leaves of the walk: its name is declared, and what is declared in it.
+pub fn head_left(alloc: Global, walk: &mut Walk, here: &Tables, h: &Head) -> Result<(), OutOfMemory>
+    ensures typed { Gives (left.head_left (tables.here_of here.now) h.now walk.old) result walk.new }
+    ensures kept { OnOk result (walk.new.globals ≡ walk.old.globals) }
+{
+    let (name, at) = head_name(here, h);
+    let is_local = head_is_local(h);
+    head_named(alloc, walk, here, h, is_local, name, at)
 }

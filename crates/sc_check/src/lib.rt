@@ -2,9 +2,9 @@
 //! the first thing in it that is not taken, and each declaration that is left out has its note.
 //!
 //! `checking` has the whole: it walks over all files twice, since what a variable's type is over all files is known
-//! behind the first walk. `walks` has these walks, `files` one file, `functions` one function, `heads` the steps
-//! of a function's head, `bodied` the functions with bodies of all files, `builtins` the table of built-in
-//! functions, `answer` why there may be no program.
+//! behind the first walk. `walks` has these walks, `passing` one file in the first walk, `files` one file in the
+//! second, `functions` one function, `heads` the steps of a function's head, `bodied` the functions with bodies of
+//! all files, `builtins` the table of built-in functions, `answer` why there may be no program.
 #![tactic(auto)]
 
 mod answer;
@@ -14,6 +14,7 @@ mod checking;
 mod files;
 mod functions;
 mod heads;
+mod passing;
 mod walks;
 
 pub use answer::CheckAnswer;

@@ -6,15 +6,17 @@ ghost use Rattle.sc_declare.specs.Numbers.{keys_of};
 ghost use Rattle.sc_typing.specs.Tables as tables;
 ghost use Rattle.sc_check.specs.Files as files;
 ghost use Rattle.sc_check.specs.Heres.{alone_here, linked_here, known_here};
+ghost use Rattle.sc_check.specs.Left.{file_left, files_left};
 ghost use Rattle.sc_check.specs.Parts.{made, found};
 ghost use Rattle.sc_check.specs.Typed as spec;
 
 use crate::files::file;
+use crate::passing::pass_file;
 use file_tables::FileTables;
 use sc_base::{List, OutOfMemory, Skip};
 use sc_declare::GlobalNumbers;
 use sc_program::Bodied;
-use sc_rules::{Builtin, Walk};
+use sc_rules::{Builtin, Record, Walk};
 use sc_tree::ctype::Widths;
 use sc_tree::unit::Unit;
 use sc_typed::Function;
@@ -77,7 +79,43 @@ fn new_walk(alloc: Global, structs: Structs) -> Walk
     }
 }
 
+// One file in the first walk.
+fn first_file(
+    alloc: Global,
+    walk: &mut Walk,
+    numbers: &mut GlobalNumbers,
+    w: Widths,
+    builtins: &[Option<Builtin>],
+    x: &Unit,
+) -> Result<(), OutOfMemory>
+    requires { numbers.old ≡ keys_of walk.old.globals }
+    ensures left { OnOk result (walk.new ≡ file_left (alone_here w builtins.now x.now.file) x.now.segments walk.old) }
+    ensures tied { OnOk result (numbers.new ≡ keys_of walk.new.globals) }
+{
+    let here = alone_tables(w, x.file, builtins);
+    pass_file(alloc, walk, numbers, &here, x.segments.as_slice())
+}
+
+// The walk that the first walk over all files leaves.
+#[tactic(auto, using(crate::proofs::Left::next_file))]
+fn passed(
+    alloc: Global,
+    w: Widths,
+    builtins: &[Option<Builtin>],
+    units: &[Unit],
+) -> Result<Walk, OutOfMemory>
+    ensures { IfOk result (λ walk. walk ≡ files_left (alone_here w builtins.now) units.now spec.no_walk) }
+{
+    let mut walk = new_walk(alloc, Structs::new(alloc));
+    let mut numbers = GlobalNumbers::new(alloc);
+    for x in units {
+        first_file(alloc, &mut walk, &mut numbers, w, builtins, x)?;
+    }
+    Ok(walk)
+}
+
 /// The first walk, behind which it is known what the variables and functions of all files are.
+#[tactic(auto, using(crate::proofs::Left::walked))]
 pub fn first_walk(
     alloc: Global,
     w: Widths,
@@ -87,23 +125,7 @@ pub fn first_walk(
     ensures { IfOk result (λ walk. walk
         ≡ (spec.walk_files (alone_here w builtins.now) spec.nothing_made units.now spec.no_walk).1) }
 {
-    let mut walk = new_walk(alloc, Structs::new(alloc));
-    let mut numbers = GlobalNumbers::new(alloc);
-    let mut functions = List::new(alloc);
-    let mut notes = List::new(alloc);
-    for x in units {
-        let here = alone_tables(w, x.file, builtins);
-        file(
-            alloc,
-            &mut walk,
-            &mut numbers,
-            &here,
-            &mut functions,
-            &mut notes,
-            x.segments.as_slice(),
-        )?;
-    }
-    Ok(walk)
+    passed(alloc, w, builtins, units)
 }
 
 // One file in the second walk: the tables become those of the file.
@@ -174,6 +196,37 @@ fn linked_walk(
     Ok((functions, (notes, walk)))
 }
 
+// The second walk, behind a first one that left these structs and declarations of variables.
+fn walk_behind(
+    alloc: Global,
+    w: Widths,
+    builtins: &[Option<Builtin>],
+    structs: Structs,
+    records: List<Record>,
+    bodies: &[Bodied],
+    units: &[Unit],
+) -> Result<(List<Function>, (List<Skip>, Walk)), OutOfMemory>
+    ensures { IfOk result (λ r. found r
+        ≡ spec.walk_files (known_here w builtins.now structs records bodies.now) spec.nothing_made
+        units.now (record spec.no_walk { structs = structs })) }
+{
+    let linked = FileTables::of(alloc, w, structs.as_slice(), bodies, records)?;
+    linked_walk(alloc, w, builtins, linked, structs, units)
+}
+
+// What the second walk wants of the first. The rest is dropped, before the second begins.
+fn left_of(first: Walk) -> (Structs, List<Record>)
+    ensures structs { result.0 ≡ first.structs }
+    ensures records { result.1 ≡ first.records }
+{
+    let Walk {
+        structs,
+        records,
+        ..
+    } = first;
+    (structs, records)
+}
+
 /// The second walk, behind a first one that left the other walk: the functions, the notes and the walk that it leaves.
 pub fn second_walk(
     alloc: Global,
@@ -187,11 +240,6 @@ pub fn second_walk(
         ≡ spec.walk_files (known_here w builtins.now first.structs first.records bodies.now) spec.nothing_made
         units.now (record spec.no_walk { structs = first.structs })) }
 {
-    let Walk {
-        structs,
-        records,
-        ..
-    } = first;
-    let linked = FileTables::of(alloc, w, structs.as_slice(), bodies, records)?;
-    linked_walk(alloc, w, builtins, linked, structs, units)
+    let (structs, records) = left_of(first);
+    walk_behind(alloc, w, builtins, structs, records, bodies, units)
 }
