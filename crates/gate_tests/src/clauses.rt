@@ -5,7 +5,7 @@ ghost use Rattle.sat_base.specs.Logic.{LitsBelow};
 use bit_net::Net;
 use clause_builder::load;
 use sat_base::{Answer, Lit, Plain, Solver};
-use std::test::Fail;
+use std::alloc::Global;
 
 /// Whether the variables of these literals are below this number.
 fn all_below(lits: &[Lit], vars: usize) -> bool
@@ -14,24 +14,48 @@ fn all_below(lits: &[Lit], vars: usize) -> bool
     lits.iter().all(|lit| lit.var < vars)
 }
 
-#[test]
-fn an_and_needs_both_inputs(rt: HostRuntime) -> Result<(), Fail> {
-    let mut net = Net::new(rt.alloc(), 3)?;
+/// What the solver answers where the `and` of two inputs holds, and where the first does not hold besides.
+fn answers_on_an_and(alloc: Global) -> Option<(Answer, Answer)> {
+    let Ok(mut net) = Net::new(alloc, 3) else {
+        return None;
+    };
     let first = net.input(0);
     let second = net.input(1);
-    let both = net.and(first, second)?;
-    let _just_one = net.xor(first, second)?;
-    let _not_first = net.not(first)?;
+    let Ok(both) = net.and(first, second) else {
+        return None;
+    };
+    let Ok(_just_one) = net.xor(first, second) else {
+        return None;
+    };
+    let Ok(_not_first) = net.not(first) else {
+        return None;
+    };
     let third = net.input(2);
-    let _some = net.or(first, second)?;
-    let _chosen = net.mux(first, second, third)?;
-    let mut solver = Plain::new(rt.alloc());
-    let lits = load(rt.alloc(), &net, &mut solver)?;
+    let Ok(_some) = net.or(first, second) else {
+        return None;
+    };
+    let Ok(_chosen) = net.mux(first, second, third) else {
+        return None;
+    };
+    let mut solver = Plain::new(alloc);
+    let Ok(lits) = load(alloc, &net, &mut solver) else {
+        return None;
+    };
     let holds = [lits.of(both)];
-    assert!(rt; all_below(&holds, net.len()));
-    assert_eq!(rt; solver.solve(&holds)?, Answer::Model);
     let without_first = [lits.of(both), lits.of(first).negated()];
-    assert!(rt; all_below(&without_first, net.len()));
-    assert_eq!(rt; solver.solve(&without_first)?, Answer::NoModel);
-    Ok(())
+    if !all_below(&holds, net.len()) || !all_below(&without_first, net.len()) {
+        return None;
+    }
+    let Ok(with_both) = solver.solve(&holds) else {
+        return None;
+    };
+    let Ok(with_one) = solver.solve(&without_first) else {
+        return None;
+    };
+    Some((with_both, with_one))
+}
+
+#[test]
+fn an_and_needs_both_inputs(rt: HostRuntime) {
+    assert!(rt; answers_on_an_and(rt.alloc()) == Some((Answer::Model, Answer::NoModel)));
 }

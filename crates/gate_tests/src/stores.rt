@@ -8,13 +8,12 @@ ghost use Rattle.gl_sets.specs.Guards.{Points, guards_top};
 ghost use Rattle.run_store.specs.Concrete.{Place, Numbers, Pointers, load, write};
 ghost use Rattle.gl_store.specs.Meets.{MeetsAll, val_top, locations_top, kinds};
 
-use crate::values::value;
+use crate::values::{is_value, value};
 use bit_net::{Gate, Net, OutOfMemory};
 use bit_words::{Word, constant};
 use gl_sets::{Set, join};
 use gl_store::{Flag, Shape, Store, Val, merge};
-use std::process::Abort;
-use std::test::Fail;
+use std::alloc::Global;
 
 /// The bits of a number.
 fn word(net: &Net, width: usize, number: u64) -> Result<Vec<Gate>, OutOfMemory>
@@ -24,44 +23,48 @@ fn word(net: &Net, width: usize, number: u64) -> Result<Vec<Gate>, OutOfMemory>
     Ok(word.bits)
 }
 
-/// The number that a word spells; all bits set for another value.
-fn number(rt: &impl Abort, net: &Net, choice: &[bool], val: &Val) -> u64
+/// The number that a word spells; none of another value.
+fn number(net: &Net, choice: &[bool], val: &Val) -> Option<u64>
     requires { length choice.now ≡ input_count net.now }
 {
     match val {
         Val::Word(word) => {
             let mut number = 0u64;
             for bit in &word.bits {
-                number = (number << 1) | u64::from(value(rt, net, choice, *bit));
+                number = (number << 1) | u64::from(value(net, choice, *bit)?);
             }
-            number
+            Some(number)
         }
-        _ => u64::MAX,
+        _ => None,
     }
 }
 
-#[test]
-fn marks_where_the_input_holds(rt: HostRuntime) -> Result<(), Fail> {
-    let mut net = Net::new(rt.alloc(), 1)?;
+fn is_marked(alloc: Global) -> Result<bool, OutOfMemory> {
+    let mut net = Net::new(alloc, 1)?;
     let shape = Shape {
-        cells: [8].to_vec(rt.alloc())?,
+        cells: [8].to_vec(alloc)?,
     };
     let mut store = Store::new(&mut net, &shape)?;
     let input = net.input(0);
     store.mark(&mut net, input, 0, Flag::Freed)?;
     let freed = store.flag(0, Flag::Freed);
     let escaped = store.flag(0, Flag::Escaped);
-    assert_eq!(rt; value(&rt, &net, &[true], freed), true);
-    assert_eq!(rt; value(&rt, &net, &[false], freed), false);
-    assert_eq!(rt; value(&rt, &net, &[true], escaped), false);
-    Ok(())
+    Ok(
+        is_value(&net, &[true], freed, true)
+            && is_value(&net, &[false], freed, false)
+            && is_value(&net, &[true], escaped, false),
+    )
 }
 
 #[test]
-fn marks_where_the_pointer_leads(rt: HostRuntime) -> Result<(), Fail> {
-    let mut net = Net::new(rt.alloc(), 1)?;
+fn marks_where_the_input_holds(rt: HostRuntime) {
+    assert!(rt; is_marked(rt.alloc()) == Ok(true));
+}
+
+fn is_marked_where_it_leads(alloc: Global) -> Result<bool, OutOfMemory> {
+    let mut net = Net::new(alloc, 1)?;
     let shape = Shape {
-        cells: [8, 255].to_vec(rt.alloc())?,
+        cells: [8, 255].to_vec(alloc)?,
     };
     let mut store = Store::new(&mut net, &shape)?;
     let input = net.input(0);
@@ -71,26 +74,26 @@ fn marks_where_the_pointer_leads(rt: HostRuntime) -> Result<(), Fail> {
     let always = net.constant(true);
     store.mark_where(&mut net, always, &pointer, Flag::Freed)?;
     let same = store.try_clone(&net)?;
-    assert_eq!(rt; same.flag_anywhere(&net, 0, Flag::Freed), input);
-    assert_eq!(rt;
-        same.flag_anywhere(&net, 1, Flag::Freed),
-        net.constant(false)
-    );
-    assert_eq!(rt;
-        same.flag_anywhere(&net, 2, Flag::Freed),
-        net.constant(false)
-    );
-    Ok(())
+    Ok(
+        same.flag_anywhere(&net, 0, Flag::Freed) == input
+            && same.flag_anywhere(&net, 1, Flag::Freed) == net.constant(false)
+            && same.flag_anywhere(&net, 2, Flag::Freed) == net.constant(false),
+    )
+}
+
+#[test]
+fn marks_where_the_pointer_leads(rt: HostRuntime) {
+    assert!(rt; is_marked_where_it_leads(rt.alloc()) == Ok(true));
 }
 
 /// A store of three cells of 8 bits, at targets 1 to 3, and of two pointers, at targets 4 and 5.
-fn cells_and_pointers(rt: &HostRuntime, net: &mut Net) -> Result<Store, OutOfMemory>
+fn cells_and_pointers(alloc: Global, net: &mut Net) -> Result<Store, OutOfMemory>
     ensures same { net.new ≡ net.old }
     ensures kinds { IfOk result (λ r. kinds r.locations.items ≡ Numbers 8 ∷ Numbers 8 ∷ Numbers 8 ∷ Pointers ∷ Pointers ∷ []) }
     ensures below { IfOk result (λ r. locations_top r.locations.items ≤ length net.new) }
 {
     let shape = Shape {
-        cells: [8, 8, 8, 255, 255].to_vec(rt.alloc())?,
+        cells: [8, 8, 8, 255, 255].to_vec(alloc)?,
     };
     let store = Store::new(net, &shape)?;
     Ok(store)
@@ -187,28 +190,28 @@ fn by_hand(choice: &[bool; 4]) -> [u64; 5] {
 }
 
 /// The first pointer points to cell 0 or 1, the second to cell 1 or 2, as the first two inputs say.
-fn aimed(rt: &HostRuntime, net: &mut Net) -> Result<Store, OutOfMemory>
+fn aimed(alloc: Global, net: &mut Net) -> Result<Store, OutOfMemory>
     requires { input_count net.old ≡ 4 }
     ensures grown { Grown net.old net.new }
     ensures below { IfOk result (λ r. locations_top r.locations.items ≤ length net.new) }
 {
     let first = net.input(0);
     let second = net.input(1);
-    let mut store = cells_and_pointers(rt, net)?;
+    let mut store = cells_and_pointers(alloc, net)?;
     aim(net, &mut store, 4, first, 1, 2)?;
     aim(net, &mut store, 5, second, 2, 3)?;
     Ok(store)
 }
 
 /// Then, where the third input holds, 5 is written through the first pointer, and where the fourth holds, 200 through the second.
-fn written(rt: &HostRuntime, net: &mut Net) -> Result<Store, OutOfMemory>
+fn written(alloc: Global, net: &mut Net) -> Result<Store, OutOfMemory>
     requires { input_count net.old ≡ 4 }
     ensures grown { Grown net.old net.new }
     ensures below { IfOk result (λ r. locations_top r.locations.items ≤ length net.new) }
 {
     let first = net.input(2);
     let second = net.input(3);
-    let mut store = aimed(rt, net)?;
+    let mut store = aimed(alloc, net)?;
     write_through(net, &mut store, first, 4, 5)?;
     write_through(net, &mut store, second, 5, 200)?;
     Ok(store)
@@ -227,21 +230,23 @@ fn read(net: &mut Net, store: &Store) -> Result<[Val; 5], OutOfMemory>
     Ok([first, second, third, through_first, through_second])
 }
 
-/// Holds what was read against the store by hand, for one choice.
-fn agrees(rt: &impl Abort, net: &Net, choice: &[bool; 4], found: &[Val; 5])
+/// Whether what was read is what the store by hand has, for one choice.
+fn agrees(net: &Net, choice: &[bool; 4], found: &[Val; 5]) -> bool
     requires { input_count net.now ≡ 4 }
 {
     let expected = by_hand(choice);
     for i in 0..5 {
-        assert_eq!(rt; number(rt, net, choice, &found[i]), expected[i]);
+        if number(net, choice, &found[i]) != Some(expected[i]) {
+            return false;
+        }
     }
+    true
 }
 
-#[test]
-fn writes_through_two_pointers(rt: HostRuntime) -> Result<(), Fail> {
-    let mut net = Net::new(rt.alloc(), 4)?;
-    let store = written(&rt, &mut net)?;
-    let found = read(&mut net, &store)?;
+/// The same for each choice.
+fn agrees_on_all(net: &Net, found: &[Val; 5]) -> bool
+    requires { input_count net.now ≡ 4 }
+{
     for number in 0..16u32 {
         let choice = [
             number % 2 == 1,
@@ -249,9 +254,23 @@ fn writes_through_two_pointers(rt: HostRuntime) -> Result<(), Fail> {
             number / 4 % 2 == 1,
             number / 8 % 2 == 1,
         ];
-        agrees(&rt, &net, &choice, &found);
+        if !agrees(net, &choice, found) {
+            return false;
+        }
     }
-    Ok(())
+    true
+}
+
+fn is_written_through(alloc: Global) -> Result<bool, OutOfMemory> {
+    let mut net = Net::new(alloc, 4)?;
+    let store = written(alloc, &mut net)?;
+    let found = read(&mut net, &store)?;
+    Ok(agrees_on_all(&net, &found))
+}
+
+#[test]
+fn writes_through_two_pointers(rt: HostRuntime) {
+    assert!(rt; is_written_through(rt.alloc()) == Ok(true));
 }
 
 /// What a caller's proof looks like after three calls in a row: where `live` holds, the number at `from` is written at `to`, and the
@@ -286,12 +305,12 @@ fn copied_in_a_branch(
 }
 
 /// The blank store with 5 in cell 1.
-fn with_five(rt: &HostRuntime, net: &mut Net) -> Result<Store, OutOfMemory>
+fn with_five(alloc: Global, net: &mut Net) -> Result<Store, OutOfMemory>
     ensures grown { Grown net.old net.new }
     ensures kinds { IfOk result (λ r. kinds r.locations.items ≡ Numbers 8 ∷ Numbers 8 ∷ Numbers 8 ∷ Pointers ∷ Pointers ∷ []) }
     ensures below { IfOk result (λ r. locations_top r.locations.items ≤ length net.new) }
 {
-    let mut store = cells_and_pointers(rt, net)?;
+    let mut store = cells_and_pointers(alloc, net)?;
     let always = net.constant(true);
     let at = Set::one(net, 1);
     let five = Val::Word(Word {
@@ -302,20 +321,25 @@ fn with_five(rt: &HostRuntime, net: &mut Net) -> Result<Store, OutOfMemory>
 }
 
 /// The store of the branch has 5 in cell 1, which is copied to cell 2 where the first input holds; the other store is blank.
-#[test]
-fn copies_in_a_branch(rt: HostRuntime) -> Result<(), Fail> {
-    let mut net = Net::new(rt.alloc(), 2)?;
+fn is_copied(alloc: Global) -> Result<bool, OutOfMemory> {
+    let mut net = Net::new(alloc, 2)?;
     let live = net.input(0);
     let branch = net.input(1);
     let from = Set::one(&net, 1);
     let to = Set::one(&net, 2);
-    let other = cells_and_pointers(&rt, &mut net)?;
-    let mut store = with_five(&rt, &mut net)?;
+    let other = cells_and_pointers(alloc, &mut net)?;
+    let mut store = with_five(alloc, &mut net)?;
     let merged = copied_in_a_branch(&mut net, live, &mut store, &from, &to, branch, &other)?;
     let found = cell(&mut net, &merged, 2)?;
-    assert_eq!(rt; number(&rt, &net, &[true, true], &found), 5);
-    assert_eq!(rt; number(&rt, &net, &[false, true], &found), 0);
-    assert_eq!(rt; number(&rt, &net, &[true, false], &found), 0);
-    assert_eq!(rt; number(&rt, &net, &[false, false], &found), 0);
-    Ok(())
+    Ok(
+        number(&net, &[true, true], &found) == Some(5)
+            && number(&net, &[false, true], &found) == Some(0)
+            && number(&net, &[true, false], &found) == Some(0)
+            && number(&net, &[false, false], &found) == Some(0),
+    )
+}
+
+#[test]
+fn copies_in_a_branch(rt: HostRuntime) {
+    assert!(rt; is_copied(rt.alloc()) == Ok(true));
 }

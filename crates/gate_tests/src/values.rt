@@ -4,16 +4,24 @@ ghost use Rattle.std.specs.Prelude.{◌≡◌, length};
 ghost use Rattle.bit_net.specs.Circuit.{input_count};
 
 use bit_net::{Gate, Net};
-use std::process::Abort;
 
-/// The value of a gate of a net of at most 1,024 gates, where the inputs have the values of `choice`.
-pub fn value(rt: &impl Abort, net: &Net, choice: &[bool], gate: Gate) -> bool
+/// The value of a gate of a net of at most 1,024 gates, where the inputs have the values of `choice`; none of a gate of a
+/// larger net.
+pub fn value(net: &Net, choice: &[bool], gate: Gate) -> Option<bool>
     requires { length choice.now ≡ input_count net.now }
 {
     let mut room = [false; 1024];
     let gates = net.len();
-    assert!(rt; gates <= 1024);
-    assert!(rt; gate.at < gates);
+    if gates > 1024 || gate.at >= gates {
+        return None;
+    }
     net.values_into(choice, &mut room[..gates]);
-    room[gate.at]
+    Some(room[gate.at])
+}
+
+/// Whether it is that.
+pub fn is_value(net: &Net, choice: &[bool], gate: Gate, want: bool) -> bool
+    requires { length choice.now ≡ input_count net.now }
+{
+    value(net, choice, gate) == Some(want)
 }

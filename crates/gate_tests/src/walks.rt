@@ -1,11 +1,13 @@
 //! A chain of two pointers, and a ring of objects that each point to the next under an input of their own.
 ghost use Rattle.std.specs.Prelude.{◌≡◌, ◌<◌, ◌≤◌, length, IfOk};
+ghost use Rattle.bit_net.specs.Circuit.{input_count};
+ghost use Rattle.bit_net.specs.Runs.{Grown};
 ghost use Rattle.reach_net.specs.Walks.{rows_of, EachWide, gates_top, rows_top};
 
-use crate::values::value;
+use crate::values::is_value;
 use bit_net::{Gate, Net, OutOfMemory};
 use reach_net::reached;
-use std::test::Fail;
+use std::alloc::Global;
 
 /// A row of `count` gates that never hold, but for `gate` at one place.
 #[tactic(auto, using(reach_net::proofs::RowLemmas::row_laws))]
@@ -52,28 +54,41 @@ fn bits(number: u32) -> [bool; 6] {
     ]
 }
 
-#[test]
+/// The gates of what is reached along a chain of two pointers, in a net without inputs.
 #[tactic(auto, using(reach_net::proofs::RowLemmas::row_laws), unfolding(reach_net::specs::Walks::gates_top))]
-fn follows_a_chain(rt: HostRuntime) -> Result<(), Fail> {
-    let mut net = Net::new(rt.alloc(), 0)?;
+fn reached_by_a_chain(net: &mut Net) -> Result<Vec<Gate>, OutOfMemory>
+    ensures { Grown net.old net.new }
+{
     let yes = net.constant(true);
     let no = net.constant(false);
-    let points = matrix(&net, &[1, 2, 0, 0], &[yes, yes, no, no])?;
-    let roots = row(&net, 4, 0, yes)?;
-    let found = reached(&mut net, &points, &roots)?;
-    assert_eq!(rt; found.len(), 4);
-    assert_eq!(rt; value(&rt, &net, &[], found[0]), true);
-    assert_eq!(rt; value(&rt, &net, &[], found[1]), true);
-    assert_eq!(rt; value(&rt, &net, &[], found[2]), true);
-    assert_eq!(rt; value(&rt, &net, &[], found[3]), false);
-    Ok(())
+    let points = matrix(net, &[1, 2, 0, 0], &[yes, yes, no, no])?;
+    let roots = row(net, 4, 0, yes)?;
+    reached(net, &points, &roots)
 }
 
-/// From object 0 of six an object is reached exactly where the inputs of all objects before it hold.
+fn chain_is_followed(alloc: Global) -> Result<bool, OutOfMemory> {
+    let mut net = Net::new(alloc, 0)?;
+    let found = reached_by_a_chain(&mut net)?;
+    Ok(
+        found.len() == 4
+            && is_value(&net, &[], found[0], true)
+            && is_value(&net, &[], found[1], true)
+            && is_value(&net, &[], found[2], true)
+            && is_value(&net, &[], found[3], false),
+    )
+}
+
 #[test]
+fn follows_a_chain(rt: HostRuntime) {
+    assert!(rt; chain_is_followed(rt.alloc()) == Ok(true));
+}
+
+/// The gates of what is reached from object 0 in a ring of six, each pointer under an input of its own.
 #[tactic(auto, using(reach_net::proofs::RowLemmas::row_laws), unfolding(reach_net::specs::Walks::gates_top))]
-fn goes_round_a_ring(rt: HostRuntime) -> Result<(), Fail> {
-    let mut net = Net::new(rt.alloc(), 6)?;
+fn reached_in_a_ring(net: &mut Net) -> Result<Vec<Gate>, OutOfMemory>
+    requires { input_count net.old ≡ 6 }
+    ensures { Grown net.old net.new }
+{
     let gates = [
         net.input(0),
         net.input(1),
@@ -82,17 +97,42 @@ fn goes_round_a_ring(rt: HostRuntime) -> Result<(), Fail> {
         net.input(4),
         net.input(5),
     ];
-    let points = matrix(&net, &[1, 2, 3, 4, 5, 0], &gates)?;
-    let roots = row(&net, 6, 0, net.constant(true))?;
-    let found = reached(&mut net, &points, &roots)?;
-    assert_eq!(rt; found.len(), 6);
+    let points = matrix(net, &[1, 2, 3, 4, 5, 0], &gates)?;
+    let roots = row(net, 6, 0, net.constant(true))?;
+    reached(net, &points, &roots)
+}
+
+/// Whether each object is reached exactly where the inputs of all objects before it hold.
+fn leads_as_far(net: &Net, found: &[Gate], choice: &[bool; 6]) -> bool
+    requires inputs { input_count net.now ≡ 6 }
+    requires six { length found.now ≡ 6 }
+{
+    let mut leads = true;
+    for i in 0..6 {
+        if !is_value(net, choice, found[i], leads) {
+            return false;
+        }
+        leads = leads && choice[i];
+    }
+    true
+}
+
+fn ring_is_walked(alloc: Global) -> Result<bool, OutOfMemory> {
+    let mut net = Net::new(alloc, 6)?;
+    let found = reached_in_a_ring(&mut net)?;
+    if found.len() != 6 {
+        return Ok(false);
+    }
     for number in 0..64u32 {
-        let choice = bits(number);
-        let mut leads = true;
-        for i in 0..6 {
-            assert_eq!(rt; value(&rt, &net, &choice, found[i]), leads);
-            leads = leads && choice[i];
+        if !leads_as_far(&net, found.as_slice(), &bits(number)) {
+            return Ok(false);
         }
     }
-    Ok(())
+    Ok(true)
+}
+
+/// From object 0 of six an object is reached exactly where the inputs of all objects before it hold.
+#[test]
+fn goes_round_a_ring(rt: HostRuntime) {
+    assert!(rt; ring_is_walked(rt.alloc()) == Ok(true));
 }

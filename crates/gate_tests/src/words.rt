@@ -5,16 +5,16 @@ ghost use Rattle.bit_net.specs.Circuit.{input_count};
 ghost use Rattle.bit_net.specs.Runs.{Grown, Gives};
 ghost use Rattle.bit_words.specs.Number.{top};
 
+use crate::values::is_value;
 use bit_net::{Gate, Net, OutOfMemory};
 use bit_words::{
     Word, add, and_words, constant, convert, div_s, div_u, equal, is_zero, less_s, less_u, mul,
     of_gate, or_words, rem_s, rem_u, select, shl, shr_s, shr_u, sub, xor_words,
 };
 use std::alloc::Global;
-use std::test::Fail;
 
 /// The calls on words, and four conversions.
-#[derive(Clone, Copy, Debug, PartialEq, Eq)]
+#[derive(Clone, Copy, Debug)]
 enum Operation {
     Add,
     Sub,
@@ -252,57 +252,64 @@ fn trial(
     computed(alloc, operation, width, &choice[..end])
 }
 
-#[test]
-fn operations_over_all_operands(rt: HostRuntime) -> Result<(), Fail> {
-    for (width, all) in [(1usize, 2u32), (2, 4), (3, 8), (4, 16)] {
-        assert!(rt; 0 < width && width <= 8);
-        for operation in OPERATIONS {
-            for a in 0..all {
-                for b in 0..all {
-                    let found = trial(rt.alloc(), operation, width, a, b)?;
-                    let wanted = expected(operation, i64::from(all), i64::from(a), i64::from(b));
-                    assert_eq!(rt;
-                        found,
-                        wanted,
-                        "{operation:?} of {a} and {b} in {width} bits"
-                    );
-                }
+/// Whether an operation makes of all pairs of numbers below `all` what Rust's own arithmetic makes of them.
+fn holds_over_all(alloc: Global, operation: Operation, width: usize, all: u32) -> bool
+    requires some { 0 < width }
+    requires small { width ≤ 8 }
+{
+    for a in 0..all {
+        for b in 0..all {
+            let wanted = expected(operation, i64::from(all), i64::from(a), i64::from(b));
+            if trial(alloc, operation, width, a, b) != Ok(wanted) {
+                return false;
             }
         }
     }
-    Ok(())
+    true
 }
 
 #[test]
-fn worked_numbers(rt: HostRuntime) -> Result<(), Fail> {
-    let rows = [
-        (Operation::Add, 255u32, 1u32, 0i64),
-        (Operation::Sub, 3, 5, 254),
-        (Operation::Mul, 16, 17, 16),
-        (Operation::DivS, 249, 2, 253),
-        (Operation::RemS, 249, 2, 255),
-        (Operation::DivU, 200, 7, 28),
-        (Operation::RemU, 200, 7, 4),
-        (Operation::Shl, 1, 7, 128),
-        (Operation::ShrU, 128, 7, 1),
-        (Operation::ShrS, 128, 7, 255),
-        (Operation::And, 12, 10, 8),
-        (Operation::Or, 12, 10, 14),
-        (Operation::Xor, 12, 10, 6),
-        (Operation::LessU, 255, 1, 0),
-        (Operation::LessS, 255, 1, 1),
-        (Operation::Equal, 5, 5, 1),
-        (Operation::WidenS, 255, 0, 65535),
-        (Operation::DivU, 200, 0, 0),
-        (Operation::RemS, 249, 0, 249),
-        (Operation::DivS, 128, 255, 128),
-        (Operation::ShrS, 128, 8, 255),
-    ];
-    for (operation, a, b, wanted) in rows {
-        let found = trial(rt.alloc(), operation, 8, a, b)?;
-        assert_eq!(rt; found, wanted, "{operation:?} of {a} and {b}");
+fn operations_over_all_operands(rt: HostRuntime) {
+    for operation in OPERATIONS {
+        let holds = holds_over_all(rt.alloc(), operation, 1, 2)
+            && holds_over_all(rt.alloc(), operation, 2, 4)
+            && holds_over_all(rt.alloc(), operation, 3, 8)
+            && holds_over_all(rt.alloc(), operation, 4, 16);
+        assert!(rt; holds, "{operation:?}");
     }
-    Ok(())
+}
+
+/// An operation, two operands of 8 bits, and what it makes of them.
+const WORKED: &[(Operation, u32, u32, i64)] = &[
+    (Operation::Add, 255, 1, 0),
+    (Operation::Sub, 3, 5, 254),
+    (Operation::Mul, 16, 17, 16),
+    (Operation::DivS, 249, 2, 253),
+    (Operation::RemS, 249, 2, 255),
+    (Operation::DivU, 200, 7, 28),
+    (Operation::RemU, 200, 7, 4),
+    (Operation::Shl, 1, 7, 128),
+    (Operation::ShrU, 128, 7, 1),
+    (Operation::ShrS, 128, 7, 255),
+    (Operation::And, 12, 10, 8),
+    (Operation::Or, 12, 10, 14),
+    (Operation::Xor, 12, 10, 6),
+    (Operation::LessU, 255, 1, 0),
+    (Operation::LessS, 255, 1, 1),
+    (Operation::Equal, 5, 5, 1),
+    (Operation::WidenS, 255, 0, 65535),
+    (Operation::DivU, 200, 0, 0),
+    (Operation::RemS, 249, 0, 249),
+    (Operation::DivS, 128, 255, 128),
+    (Operation::ShrS, 128, 8, 255),
+];
+
+#[test]
+fn worked_numbers(rt: HostRuntime) {
+    for &(operation, a, b, wanted) in WORKED {
+        let found = trial(rt.alloc(), operation, 8, a, b);
+        assert!(rt; found == Ok(wanted), "{operation:?} of {a} and {b}");
+    }
 }
 
 /// Ten calls on one net in a row: their clauses speak of one `v`, so a proof takes each run back by one `grown` a call, and joins the
@@ -326,33 +333,40 @@ fn ten_calls(net: &mut Net, a: Gate, b: Gate) -> Result<Gate, OutOfMemory>
     Ok(g10)
 }
 
-#[test]
-fn ten_calls_on_one_net(rt: HostRuntime) -> Result<(), Fail> {
-    let mut net = Net::new(rt.alloc(), 2)?;
+fn is_same(alloc: Global) -> Result<bool, OutOfMemory> {
+    let mut net = Net::new(alloc, 2)?;
     let a = net.input(0);
     let b = net.input(1);
     let same = ten_calls(&mut net, a, b)?;
-    let mut room = vec![in rt.alloc(); false; net.len()]?;
-    net.values_into(&[true, true], &mut room);
-    assert!(rt; room[same.at]);
-    Ok(())
+    Ok(is_value(&net, &[true, true], same, true))
+}
+
+#[test]
+fn ten_calls_on_one_net(rt: HostRuntime) {
+    assert!(rt; is_same(rt.alloc()) == Ok(true));
 }
 
 /// The word of a gate, of a number and of a choice; a word once more; and whether a word is zero.
-#[test]
-fn words_of_gates_and_numbers(rt: HostRuntime) -> Result<(), Fail> {
-    let mut net = Net::new(rt.alloc(), 1)?;
+fn are_words(alloc: Global) -> Result<bool, OutOfMemory> {
+    let mut net = Net::new(alloc, 1)?;
     let input = net.input(0);
     let yes = net.constant(true);
     let no = net.constant(false);
     let bit = of_gate(&net, input, 3)?;
-    assert_eq!(rt; bit.bits.as_slice(), [no, no, input].as_slice());
     let zero = is_zero(&mut net, &bit)?;
-    assert_eq!(rt; zero, net.not(input)?);
+    let opposite = net.not(input)?;
     let five = constant(&net, 13, 3)?;
-    assert_eq!(rt; five.bits.as_slice(), [yes, no, yes].as_slice());
     let again = five.try_clone(&net)?;
     let same = select(&mut net, input, &five, &again)?;
-    assert_eq!(rt; same.bits.as_slice(), five.bits.as_slice());
-    Ok(())
+    Ok(
+        bit.bits.as_slice() == [no, no, input].as_slice()
+            && zero == opposite
+            && five.bits.as_slice() == [yes, no, yes].as_slice()
+            && same.bits.as_slice() == five.bits.as_slice(),
+    )
+}
+
+#[test]
+fn words_of_gates_and_numbers(rt: HostRuntime) {
+    assert!(rt; are_words(rt.alloc()) == Ok(true));
 }

@@ -1,10 +1,9 @@
 //! The tokens of small files: each kind of token with its edges, places, refusals and segments.
 
-use sc_base::{NameId, Names, Pos};
+use sc_base::{NameId, Names};
 use sc_lexer::{LexAnswer, tokens};
-use sc_tree::{IntToken, Kind, Punct, Reserved, StrToken, Tokens};
+use sc_tree::{IntToken, Kind, Punct, Reserved, StrToken, Token, Tokens};
 use std::alloc::Global;
-use std::test::*;
 
 /// The tokens of a short file, over names that hold `x`.
 fn lex(alloc: Global, text: &str) -> Result<Tokens, LexAnswer> {
@@ -16,12 +15,18 @@ fn lex(alloc: Global, text: &str) -> Result<Tokens, LexAnswer> {
     tokens(alloc, &mut names, 3, text.as_bytes())
 }
 
-/// What the only token of a file is.
-fn only(alloc: Global, text: &str) -> Result<Option<Kind>, LexAnswer> {
-    let found = lex(alloc, text)?;
-    match found.list.as_slice() {
-        [token] => Ok(Some(token.kind)),
-        _ => Ok(None),
+fn is_only(list: &[Token], want: Kind) -> bool {
+    match list {
+        [token] => token.kind == want,
+        _ => false,
+    }
+}
+
+/// Whether that is the only token of a file.
+fn only(alloc: Global, text: &str, want: Kind) -> bool {
+    match lex(alloc, text) {
+        Ok(found) => is_only(found.list.as_slice(), want),
+        Err(_) => false,
     }
 }
 
@@ -34,42 +39,35 @@ fn refusal(alloc: Global, text: &str) -> Option<(u32, u32, bool)> {
     }
 }
 
-fn int(value: Option<u64>, decimal: bool, unsigned: bool, longs: u8) -> Option<Kind> {
-    Some(Kind::Int(IntToken {
+fn int(value: Option<u64>, decimal: bool, unsigned: bool, longs: u8) -> Kind {
+    Kind::Int(IntToken {
         value: value.unwrap_or(0),
         fits: value.is_some(),
         decimal,
         unsigned,
         longs,
-    }))
+    })
+}
+
+fn is_sum(list: &[Token]) -> bool {
+    match list {
+        [x, plus, _, end] => x.kind == Kind::Word(NameId { at: 0 })
+            && plus.kind == Kind::Punct(Punct::Plus)
+            && end.kind == Kind::Punct(Punct::Semicolon)
+            && (end.pos.file, end.pos.line, end.pos.col) == (3, 1, 4),
+        _ => false,
+    }
 }
 
 #[test]
-fn a_file_has_tokens_ends_and_places(rt: HostRuntime) -> Result<(), Fail> {
-    let found = lex(rt.alloc(), "x+1;")?;
-    assert_eq!(rt; found.file, 3);
-    assert_eq!(rt; found.list.len(), 4);
-    assert_eq!(rt; found.ends.as_slice(), [4].as_slice());
-    assert_eq!(rt; found.list.as_slice()[0].kind, Kind::Word(NameId { at: 0 }));
-    assert_eq!(rt; found.list.as_slice()[1].kind, Kind::Punct(Punct::Plus));
-    assert_eq!(rt;
-        found.list.as_slice()[3].kind,
-        Kind::Punct(Punct::Semicolon)
-    );
-    let last = found.list.as_slice()[3].pos;
-    assert_eq!(rt;
-        last,
-        Pos {
-            file: 3,
-            line: 1,
-            col: 4
-        }
-    );
-    Ok(())
+fn a_file_has_tokens_ends_and_places(rt: HostRuntime) {
+    let found = lex(rt.alloc(), "x+1;");
+    assert!(rt; matches!(&found, Ok(found) if found.file == 3 && is_sum(found.list.as_slice())));
+    assert!(rt; matches!(&found, Ok(found) if found.ends.as_slice() == [4].as_slice()));
 }
 
 #[test]
-fn integers_have_their_values_and_letters(rt: HostRuntime) -> Result<(), Fail> {
+fn integers_have_their_values_and_letters(rt: HostRuntime) {
     for (text, want) in [
         ("0", int(Some(0), false, false, 0)),
         ("017", int(Some(15), false, false, 0)),
@@ -83,24 +81,22 @@ fn integers_have_their_values_and_letters(rt: HostRuntime) -> Result<(), Fail> {
         ("18446744073709551616", int(None, true, false, 0)),
         ("0x10000000000000000", int(None, false, false, 0)),
     ] {
-        assert_eq!(rt; only(rt.alloc(), text)?, want, "{text}");
+        assert!(rt; only(rt.alloc(), text, want), "{text}");
     }
-    Ok(())
 }
 
 #[test]
-fn what_is_no_constant_is_odd(rt: HostRuntime) -> Result<(), Fail> {
+fn what_is_no_constant_is_odd(rt: HostRuntime) {
     for text in [
         "1.5", ".5", "1e+5", "0xe+1", "0x", "08", "1lL", "1uu", "1_", "1..2", "''", "'ab'",
         "'\\q'", "'\\400'", "L'a'", "u'a'", "U'a'",
     ] {
-        assert_eq!(rt; only(rt.alloc(), text)?, Some(Kind::Odd), "{text}");
+        assert!(rt; only(rt.alloc(), text, Kind::Odd), "{text}");
     }
-    Ok(())
 }
 
 #[test]
-fn characters_have_their_values(rt: HostRuntime) -> Result<(), Fail> {
+fn characters_have_their_values(rt: HostRuntime) {
     for (text, want) in [
         ("'a'", 97),
         ("'\\n'", 10),
@@ -114,13 +110,12 @@ fn characters_have_their_values(rt: HostRuntime) -> Result<(), Fail> {
         ("'\\200'", -128),
         ("'\\xff'", -1),
     ] {
-        assert_eq!(rt; only(rt.alloc(), text)?, Some(Kind::Char(want)), "{text}");
+        assert!(rt; only(rt.alloc(), text, Kind::Char(want)), "{text}");
     }
-    Ok(())
 }
 
 #[test]
-fn strings_have_their_width_and_length(rt: HostRuntime) -> Result<(), Fail> {
+fn strings_have_their_width_and_length(rt: HostRuntime) {
     for (text, wide, len) in [
         ("\"\"", false, 0),
         ("\"a'b\"", false, 3),
@@ -132,17 +127,13 @@ fn strings_have_their_width_and_length(rt: HostRuntime) -> Result<(), Fail> {
         ("L\"a\"", true, 1),
         ("U\"\\n\"", true, 1),
     ] {
-        assert_eq!(rt;
-            only(rt.alloc(), text)?,
-            Some(Kind::Str(StrToken { wide, len })),
-            "{text}"
-        );
+        let want = Kind::Str(StrToken { wide, len });
+        assert!(rt; only(rt.alloc(), text, want), "{text}");
     }
-    Ok(())
 }
 
 #[test]
-fn the_longest_word_or_punctuator_is_taken(rt: HostRuntime) -> Result<(), Fail> {
+fn the_longest_word_or_punctuator_is_taken(rt: HostRuntime) {
     for (text, want) in [
         ("x", Kind::Word(NameId { at: 0 })),
         ("y", Kind::Word(NameId { at: 1 })),
@@ -159,13 +150,20 @@ fn the_longest_word_or_punctuator_is_taken(rt: HostRuntime) -> Result<(), Fail> 
         ("->", Kind::Punct(Punct::Arrow)),
         ("%=", Kind::Punct(Punct::PercentAssign)),
     ] {
-        assert_eq!(rt; only(rt.alloc(), text)?, Some(want), "{text}");
+        assert!(rt; only(rt.alloc(), text, want), "{text}");
     }
-    Ok(())
+}
+
+/// How many tokens and ends of segments a file has.
+fn counts(alloc: Global, text: &str) -> Option<(usize, usize)> {
+    match lex(alloc, text) {
+        Ok(found) => Some((found.list.len(), found.ends.len())),
+        Err(_) => None,
+    }
 }
 
 #[test]
-fn what_is_removed_is_no_token(rt: HostRuntime) -> Result<(), Fail> {
+fn what_is_removed_is_no_token(rt: HostRuntime) {
     for (text, count, ends) in [
         ("", 0, 0),
         (" \t\u{b}\u{c}\r\n", 0, 0),
@@ -185,36 +183,22 @@ fn what_is_removed_is_no_token(rt: HostRuntime) -> Result<(), Fail> {
         ("{a;}b;c", 7, 3),
         ("(;)[;]{;}", 9, 1),
     ] {
-        let found = lex(rt.alloc(), text)?;
-        assert_eq!(rt; found.list.len(), count, "{text}");
-        assert_eq!(rt; found.ends.len(), ends, "{text}");
+        assert!(rt; counts(rt.alloc(), text) == Some((count, ends)), "{text}");
     }
-    Ok(())
+}
+
+fn are_placed(list: &[Token]) -> bool {
+    match list {
+        [first, second] => (first.pos.file, first.pos.line, first.pos.col) == (3, 4, 3)
+            && (second.pos.file, second.pos.line, second.pos.col) == (3, 6, 2),
+        _ => false,
+    }
 }
 
 #[test]
-fn places_count_lines_and_columns(rt: HostRuntime) -> Result<(), Fail> {
-    let found = lex(rt.alloc(), "/*\n\n*/\n\t x\n#\n y")?;
-    assert_eq!(rt; found.list.len(), 2);
-    let first = found.list.as_slice()[0].pos;
-    let second = found.list.as_slice()[1].pos;
-    assert_eq!(rt;
-        first,
-        Pos {
-            file: 3,
-            line: 4,
-            col: 3
-        }
-    );
-    assert_eq!(rt;
-        second,
-        Pos {
-            file: 3,
-            line: 6,
-            col: 2
-        }
-    );
-    Ok(())
+fn places_count_lines_and_columns(rt: HostRuntime) {
+    let found = lex(rt.alloc(), "/*\n\n*/\n\t x\n#\n y");
+    assert!(rt; matches!(&found, Ok(found) if are_placed(found.list.as_slice())));
 }
 
 #[test]
@@ -244,10 +228,7 @@ fn refusals_have_their_places(rt: HostRuntime) {
         ("__attribute__((x);", 1, 14, true),
         (")@", 1, 2, false),
     ] {
-        assert_eq!(rt;
-            refusal(rt.alloc(), text),
-            Some((line, col, is_bracket)),
-            "{text}"
-        );
+        let found = refusal(rt.alloc(), text);
+        assert!(rt; found == Some((line, col, is_bracket)), "{text}");
     }
 }
