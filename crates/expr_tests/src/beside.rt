@@ -1,24 +1,24 @@
 // The gates of a body beside the runs of it.
 
-ghost use Rattle.std.specs.Prelude.{◌≡◌, length};
+ghost use Rattle.std.specs.Prelude.{◌≡◌, length, IfSome};
 ghost use Rattle.bit_net.specs.Circuit.{input_count};
+ghost use Rattle.layout_base.specs.Seen as laid;
 
-use crate::body::{Gates, Made, Part, gates_of, parts};
+use crate::body::{Gates, Made, gates_of};
 use crate::generate::Numbers;
 use crate::setting::{checked, context, laid_out, machine, nothing, reserved};
-use bit_net::{Gate, OutOfMemory};
+use bit_net::Gate;
 use choice_search::step;
 use gl_sets::Set;
-use gl_store::{Flags, Location, Store, Val};
+use gl_store::{Flags, Location, Val};
 use layout_base::{Ground, Places};
 use layout_lookup::Lookup;
 use run_world::{Here, Marks, Slot, Value};
 use sc_interp::{Machine, Outcome};
 use sc_tree::ctype::Widths;
+use sc_typed::Program;
 use sc_world::Reason;
 use std::alloc::Global;
-use std::process::Abort;
-use std::test::*;
 
 /// With at most so many bits a function is tried on all of its choices.
 const MOST_BITS: usize = 12;
@@ -41,13 +41,13 @@ const REASONS: [Reason; 11] = [
     Reason::NoReturn,
 ];
 
-/// On how many choices a function was tried, on how many of them it comes to its end, and how many gates were made for each
-/// expression.
-#[derive(Drop)]
+/// On how many choices a function was tried, on how many of them it comes to its end, and how many gates were made for its
+/// expressions.
+#[derive(Clone, Copy, Debug, PartialEq, Eq)]
 pub struct Tally {
     pub choices: u64,
     pub exits: u64,
-    pub gates: Vec<usize>,
+    pub gates: usize,
 }
 
 // The value of a gate; none of what is no gate of the net.
@@ -105,26 +105,17 @@ fn slot_of(values: &[bool], location: &Location) -> Option<Slot> {
     })
 }
 
-// The store that the gates have for a choice.
-fn slots_of(
-    alloc: Global,
-    values: &[bool],
-    stored: &Store,
-) -> Result<Vec<Option<Slot>>, OutOfMemory> {
-    let mut slots = Vec::new(alloc);
-    for location in stored.locations.as_slice() {
-        slots.push(slot_of(values, location))?;
+// Whether the gates have the store of a run.
+fn are_slots(values: &[bool], locations: &[Location], slots: &[Slot]) -> bool {
+    if locations.len() != slots.len() {
+        return false;
     }
-    Ok(slots)
-}
-
-// The same of a run.
-fn slots_behind(alloc: Global, runs: &Machine) -> Result<Vec<Option<Slot>>, OutOfMemory> {
-    let mut slots = Vec::new(alloc);
-    for slot in runs.world.slots.as_slice() {
-        slots.push(Some(*slot))?;
+    for (location, slot) in locations.iter().zip(slots) {
+        if slot_of(values, location) != Some(*slot) {
+            return false;
+        }
     }
-    Ok(slots)
+    true
 }
 
 // The reasons that an expression tells: how many, and the last of them.
@@ -160,30 +151,30 @@ fn outcome_of(values: &[bool], made: &[Made]) -> Option<Outcome> {
     }
 }
 
-// On a choice the gates have to tell the end and the store of the run. Answers whether it comes to its end.
-fn agree(
-    rt: &impl Abort,
-    alloc: Global,
-    text: &str,
-    runs: &mut Machine,
-    gates: &Gates,
-    choice: &[bool],
-) -> Result<bool, OutOfMemory>
+// Whether the gates tell how a run ended, and its store.
+fn tells(values: &[bool], gates: &Gates, slots: &[Slot], outcome: Outcome) -> bool {
+    outcome_of(values, gates.made.as_slice()) == Some(outcome)
+        && are_slots(values, gates.stored.locations.as_slice(), slots)
+}
+
+// Whether the run on a choice comes to its end; none where the gates do not tell it, or for want of memory.
+fn agrees(alloc: Global, runs: &mut Machine, gates: &Gates, choice: &[bool]) -> Option<bool>
     requires inputs { length choice.now ≡ input_count gates.now.net }
 {
-    let mut values = vec![in alloc; false; gates.net.len()]?;
+    let Ok(mut values) = vec![in alloc; false; gates.net.len()] else {
+        return None;
+    };
     gates.net.values_into(choice, &mut values);
     let outcome = runs.run(choice);
-    let made = gates.made.as_slice();
-    assert_eq!(rt;
-        outcome_of(values.as_slice(), made),
-        Some(outcome),
-        "{text}"
-    );
-    let stored = slots_of(alloc, values.as_slice(), &gates.stored)?;
-    let behind = slots_behind(alloc, runs)?;
-    assert_eq!(rt; stored.as_slice(), behind.as_slice(), "{text}");
-    Ok(matches!(outcome, Outcome::Exit(_)))
+    if !tells(
+        values.as_slice(),
+        gates,
+        runs.world.slots.as_slice(),
+        outcome,
+    ) {
+        return None;
+    }
+    Some(matches!(outcome, Outcome::Exit(_)))
 }
 
 // The next choice: all in turn where there are few, else any.
@@ -208,90 +199,91 @@ fn choices(bits: usize) -> u64 {
     }
 }
 
-// How many gates were made for each expression.
-fn counts(alloc: Global, made: &[Made]) -> Result<Vec<usize>, OutOfMemory> {
-    let mut counts = Vec::new(alloc);
+// How many gates were made for the expressions.
+fn count(made: &[Made]) -> usize {
+    let mut count = 0usize;
     for one in made {
-        counts.push(one.gates)?;
+        count = count.saturating_add(one.gates);
     }
-    Ok(counts)
+    count
 }
 
 // The same on all choices, or on some where there are many.
-fn all_agree(
-    rt: &impl Abort,
-    alloc: Global,
-    text: &str,
-    runs: &mut Machine,
-    gates: &Gates,
-    bits: usize,
-) -> Result<Tally, OutOfMemory>
+fn all_agree(alloc: Global, runs: &mut Machine, gates: &Gates, bits: usize) -> Option<Tally>
     requires inputs { bits ≡ input_count gates.now.net }
 {
-    let mut choice = vec![in alloc; false; bits]?;
+    let Ok(mut choice) = vec![in alloc; false; bits] else {
+        return None;
+    };
     let mut numbers = Numbers { state: 1 };
     let mut exits = 0u64;
     for _choice in 0..choices(bits) {
-        if agree(rt, alloc, text, runs, gates, choice.as_slice())? {
+        if agrees(alloc, runs, gates, choice.as_slice())? {
             exits = exits.saturating_add(1);
         }
         go_on(&mut choice, &mut numbers);
     }
-    Ok(Tally {
+    Some(Tally {
         choices: choices(bits),
         exits,
-        gates: counts(alloc, gates.made.as_slice())?,
+        gates: count(gates.made.as_slice()),
     })
 }
 
-/// On each choice of the first function of a text, or on some where it has many, its gates and its run agree; none where it
-/// has no gates.
-pub fn beside(
-    rt: &impl Abort,
-    alloc: Global,
-    text: &str,
-    widths: Widths,
-) -> Result<Option<Tally>, Fail> {
-    let program = checked(alloc, text.as_bytes(), widths)?;
-    let table = machine(alloc)?;
-    let here = context(&program, &table);
-    let laid = laid_out(alloc, &program)?;
-    let found = nothing(alloc);
-    let mut runs = reserved(alloc, &here, &found, &laid)?;
-    let Some(body) = here.body() else {
-        return Ok(None);
-    };
-    let Some(parts) = parts(alloc, body)? else {
-        return Ok(None);
-    };
-    let ground = Ground {
-        here: &here,
-        found: &found,
-    };
-    let Some(gates) = gates_for(alloc, ground, &laid, parts.as_slice())? else {
-        return Ok(None);
-    };
-    let bits = laid.choice_len();
-    Ok(Some(all_agree(rt, alloc, text, &mut runs, &gates, bits)?))
-}
-
-// The gates of a body, over the layout.
+// The gates of the body of a function.
 #[tactic(auto, unfolding(run_world::specs::Seen::env))]
-fn gates_for(
+fn gates_for<'p, 'm, 'f>(
     alloc: Global,
-    ground: Ground,
-    places: &Places,
-    parts: &[Part],
-) -> Result<Option<Gates>, Fail> {
+    ground: Ground<'p, 'm, 'f>,
+    places: &'f Places<'p>,
+) -> Option<Gates>
+    ensures { IfSome result (λ g. input_count g.net ≡ (laid.layout_of places.now).bits) }
+{
     if places.locations.len() > u32::MAX as usize {
-        return Ok(None);
+        return None;
     }
-    let layout = Lookup::of(alloc, places)?;
+    let body = ground.here.body()?;
+    let Ok(layout) = Lookup::of(alloc, places) else {
+        return None;
+    };
     let here = Here {
         ground,
         places,
         choice: &[],
         turn: 0,
     };
-    Ok(gates_of(alloc, &here, &layout, parts)?)
+    match gates_of(alloc, &here, &layout, body) {
+        Ok(gates) => gates,
+        Err(_) => None,
+    }
+}
+
+// On each choice gates and runs of a function agree.
+fn all_beside(alloc: Global, runs: &mut Machine) -> Option<Tally> {
+    let places = runs.places;
+    let gates = gates_for(alloc, runs.given, places)?;
+    all_agree(alloc, runs, &gates, places.choice_len())
+}
+
+// The same of the first function of a program.
+fn first_beside(alloc: Global, program: &Program) -> Option<Tally> {
+    let Ok(table) = machine(alloc) else {
+        return None;
+    };
+    let here = context(program, &table);
+    let Ok(laid) = laid_out(alloc, program) else {
+        return None;
+    };
+    let found = nothing(alloc);
+    match reserved(alloc, &here, &found, &laid) {
+        Ok(mut runs) => all_beside(alloc, &mut runs),
+        Err(_) => None,
+    }
+}
+
+/// On each choice of the first function of a text, or on some where it has many, its gates and its run agree; none where they
+/// do not, where it has no gates, and where there is no such function.
+pub fn beside(alloc: Global, text: &str, widths: Widths) -> Option<Tally> {
+    let program = checked(alloc, text.as_bytes(), widths)?;
+    first_beside(alloc, &program)
 }

@@ -3,6 +3,7 @@
 ghost use Rattle.std.specs.Prelude.{◌≡◌, ℕ, ◌^◌, ◌<◌, length, IfOk, IfSome};
 ghost use Rattle.bit_net.specs.Runs.{Grown};
 ghost use Rattle.bit_net.specs.Circuit.{input_count};
+ghost use Rattle.gate_entry.specs.Entry.{IsEntered};
 ghost use Rattle.layout_base.specs.Seen as laid;
 ghost use Rattle.run_world.specs.Seen as seen;
 ghost use Rattle.tr_walk.specs.Walks.{CanBegin};
@@ -19,11 +20,11 @@ use sc_typed::{TDeclarator, TExpr, TStmt, What};
 use std::alloc::Global;
 use tr_walk::{Evaled, eval, place};
 
-/// An expression of a body, and what is wanted of it.
+// An expression of a body, and what is wanted of it.
 #[derive(Clone, Copy)]
-pub struct Part<'p> {
-    pub want: Want,
-    pub e: &'p TExpr,
+struct Part<'p> {
+    want: Want,
+    e: &'p TExpr,
 }
 
 /// What an expression gives, and how many gates were made for it.
@@ -66,9 +67,9 @@ fn has_no_init(declared: &[TDeclarator]) -> bool {
     true
 }
 
-/// The expressions of a body; none where something else stands in it than these and locals without a value, or where it does
-/// not end with `return e ;`.
-pub fn parts(alloc: Global, body: &TStmt) -> Result<Option<Vec<Part<'_>>>, OutOfMemory> {
+// The expressions of a body; none where something else stands in it than these and locals without a value, or where it does
+// not end with `return e ;`.
+fn parts(alloc: Global, body: &TStmt) -> Result<Option<Vec<Part<'_>>>, OutOfMemory> {
     let TStmt::Block(items, _, _) = body else {
         return Ok(None);
     };
@@ -139,27 +140,47 @@ fn all_made(
     Ok(Some(made))
 }
 
-/// The gates of a body whose expressions these are; none where one of them has none.
+// The gates of the expressions of a body; none where one of them has none.
 #[tactic(auto, using(crate::proofs::Behind::begin_first), unfolding(run_world::specs::Seen::env))]
-pub fn gates_of(
+fn walked(
     alloc: Global,
     here: &Here,
     layout: &Lookup,
+    net: &mut Net,
+    stored: &mut Store,
     parts: &[Part],
-) -> Result<Option<Gates>, OutOfMemory>
+) -> Result<Option<Vec<Made>>, OutOfMemory>
     requires few { length (laid.layout_of layout.now.places.now).locations < 2 ^ 32 }
     requires same { laid.layout_of layout.now.places.now ≡ (seen.env here.now).layout }
-    ensures { IfOk result (λ r. IfSome r (λ g. input_count g.net ≡ (seen.env here.now).layout.bits)) }
+    requires entered { IsEntered (seen.env here.now).source (seen.env here.now).layout net.old stored.old.locations.items }
+    ensures grown { Grown net.old net.new }
 {
-    let mut net = Net::new(alloc, here.places.choice_len())?;
-    let mut stored = entered(here, &mut net)?;
     let begins = net.constant(true);
     let around = Around {
         here,
         layout,
         temps: &[],
     };
-    match all_made(alloc, &around, &mut net, &mut stored, begins, parts)? {
+    all_made(alloc, &around, net, stored, begins, parts)
+}
+
+/// The gates of a body; none where it is no list of expressions that all have gates.
+pub fn gates_of(
+    alloc: Global,
+    here: &Here,
+    layout: &Lookup,
+    body: &TStmt,
+) -> Result<Option<Gates>, OutOfMemory>
+    requires few { length (laid.layout_of layout.now.places.now).locations < 2 ^ 32 }
+    requires same { laid.layout_of layout.now.places.now ≡ (seen.env here.now).layout }
+    ensures { IfOk result (λ r. IfSome r (λ g. input_count g.net ≡ (seen.env here.now).layout.bits)) }
+{
+    let Some(parts) = parts(alloc, body)? else {
+        return Ok(None);
+    };
+    let mut net = Net::new(alloc, here.places.choice_len())?;
+    let mut stored = entered(here, &mut net)?;
+    match walked(alloc, here, layout, &mut net, &mut stored, parts.as_slice())? {
         None => Ok(None),
         Some(made) => Ok(Some(Gates { net, stored, made })),
     }

@@ -3,23 +3,21 @@
 use crate::beside::beside;
 use sc_tree::ctype::Widths;
 use std::alloc::Global;
-use std::process::Abort;
-use std::test::*;
 
-// A function and how many gates each of its expressions takes at most.
-type Row = (&'static str, &'static [usize]);
+// A function, and how many gates its expressions take at most.
+type Row = (&'static str, usize);
 
 // Of a number of 32 bits: a mask with a constant and a test of the sign take no gates, a comparison with a constant at most
 // two for each bit, a sum five. An index is compared with eight constants; what is read, or written, takes at most a gate for
 // each bit and place, and what is written one more for each place: twice 8 * 64, 256, 264, and 160 for the sum. Behind a
 // pointer with one target a number takes at most a gate for each bit, and a pointer two.
-const ROWS: [Row; 6] = [
-    ("int f(int x){return x&7;}", &[0]),
-    ("int f(int x){return x<0;}", &[0]),
-    ("int f(int x){return x==5;}", &[64]),
-    ("int f(int x,int y){return x+y;}", &[160]),
-    (ELEMENTS, &[1704, 0]),
-    (RING, &[0, 32, 32, 0, 0, 0, 2, 2, 32, 0]),
+const ROWS: &[Row] = &[
+    ("int f(int x){return x&7;}", 0),
+    ("int f(int x){return x<0;}", 0),
+    ("int f(int x){return x==5;}", 64),
+    ("int f(int x,int y){return x+y;}", 160),
+    (ELEMENTS, 1704),
+    (RING, 100),
 ];
 
 const ELEMENTS: &str = "int a[8];int f(unsigned i,unsigned j,int x){a[i]=a[j]+x;return 0;}";
@@ -52,49 +50,27 @@ int f(struct ring *r, u32 count)
 }
 ";
 
-// Whether no expression takes more.
-fn within(made: &[usize], most: &[usize]) -> bool {
-    if made.len() != most.len() {
-        return false;
-    }
-    for k in 0..made.len() {
-        if made[k] > most[k] {
-            return false;
-        }
-    }
-    true
+fn gates(alloc: Global, text: &str) -> Option<usize> {
+    Some(beside(alloc, text, Widths::Ilp32)?.gates)
 }
 
-// How many gates each expression of a function takes; none where it has none.
-fn gates(rt: &impl Abort, alloc: Global, text: &str) -> Result<Option<Vec<usize>>, Fail> {
-    let tally = beside(rt, alloc, text, Widths::Ilp32)?;
-    Ok(tally.map(|t| t.gates))
-}
-
-#[test]
-fn gates_of_expressions(rt: HostRuntime) -> Result<(), Fail> {
-    for (text, most) in ROWS {
-        let made = gates(&rt, rt.alloc(), text)?;
-        let made = made.as_ref().map(|t| t.as_slice());
-        assert!(rt; within(made.unwrap_or(&[]), most), "{made:?} {text}");
-    }
-    Ok(())
-}
-
-// How many gates the first expression of a function takes.
-fn first(rt: &impl Abort, alloc: Global, text: &str) -> Result<Option<usize>, Fail> {
-    let made = gates(rt, alloc, text)?;
-    match made {
-        None => Ok(None),
-        Some(made) => Ok(made.first().copied()),
+fn takes_at_most(alloc: Global, text: &str, most: usize) -> bool {
+    match gates(alloc, text) {
+        Some(gates) => gates <= most,
+        None => false,
     }
 }
 
 #[test]
-fn what_lies_beside_costs_nothing(rt: HostRuntime) -> Result<(), Fail> {
-    let alone = first(&rt, rt.alloc(), ELEMENTS)?;
-    let beside = first(&rt, rt.alloc(), MORE)?;
+fn gates_of_expressions(rt: HostRuntime) {
+    for &(text, most) in ROWS {
+        assert!(rt; takes_at_most(rt.alloc(), text, most), "{text}");
+    }
+}
+
+#[test]
+fn what_lies_beside_costs_nothing(rt: HostRuntime) {
+    let alone = gates(rt.alloc(), ELEMENTS);
     assert!(rt; alone.is_some());
-    assert_eq!(rt; alone, beside);
-    Ok(())
+    assert!(rt; gates(rt.alloc(), MORE) == alone);
 }

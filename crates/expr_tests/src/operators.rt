@@ -4,8 +4,6 @@
 use crate::beside::beside;
 use sc_tree::ctype::Widths;
 use std::alloc::Global;
-use std::process::Abort;
-use std::test::*;
 
 const TYPES: [&str; 12] = [
     "_Bool",
@@ -32,38 +30,40 @@ const SECOND: &str = "((d*4+e*2+g&7)-1)";
 /// The choices of two numbers, in two widths.
 const ALL: u64 = 128;
 
-// On each choice gates and runs agree, in both widths. Answers on how many choices the function comes to its end.
-fn both_widths(rt: &impl Abort, alloc: Global, text: &str) -> Result<u64, Fail> {
-    let mut exits = 0u64;
-    for widths in [Widths::Ilp32, Widths::Lp64] {
-        let tally = beside(rt, alloc, text, widths)?;
-        let tally = tally.map(|t| (t.choices, t.exits));
-        assert_eq!(rt; tally.map(|t| t.0), Some(64), "{text}");
-        if let Some((_, there)) = tally {
-            exits = exits.saturating_add(there);
-        }
+// On how many choices a function comes to its end, with one width; none where gates and runs do not agree on each of 64.
+fn exits(alloc: Global, text: &str, widths: Widths) -> Option<u64> {
+    let tally = beside(alloc, text, widths)?;
+    if tally.choices == 64 {
+        Some(tally.exits)
+    } else {
+        None
     }
-    Ok(exits)
 }
 
-// The operators between two numbers of each type. Answers on how many choices all functions come to their end.
-fn between(rt: &impl Abort, alloc: Global, ops: &[&str]) -> Result<u64, Fail> {
+// The same in both widths together.
+fn both_widths(alloc: Global, text: &str) -> Option<u64> {
+    let small = exits(alloc, text, Widths::Ilp32)?;
+    Some(small.saturating_add(exits(alloc, text, Widths::Lp64)?))
+}
+
+// The same of an operator between two numbers of these types.
+fn between_types(alloc: Global, op: &str, t: &str, u: &str) -> Option<u64> {
+    let Ok(text) = format!(in alloc; "long long f({BITS}){{return({t}){FIRST}{op}({u}){SECOND};}}")
+    else {
+        return None;
+    };
+    both_widths(alloc, text.as_str())
+}
+
+// Of these operators between two numbers of each type.
+fn between(alloc: Global, ops: &[&str]) -> Option<u64> {
     let mut exits = 0u64;
     for op in ops {
         for t in TYPES {
-            let text = format!(in alloc;
-                "long long f({BITS}){{return({t}){FIRST}{op}({t}){SECOND};}}"
-            )?;
-            exits = exits.saturating_add(both_widths(rt, alloc, text.as_str())?);
+            exits = exits.saturating_add(between_types(alloc, op, t, t)?);
         }
     }
-    Ok(exits)
-}
-
-// The same between two types.
-fn between_types(rt: &impl Abort, alloc: Global, op: &str, t: &str, u: &str) -> Result<u64, Fail> {
-    let text = format!(in alloc; "long long f({BITS}){{return({t}){FIRST}{op}({u}){SECOND};}}")?;
-    both_widths(rt, alloc, text.as_str())
+    Some(exits)
 }
 
 // How many choices so many functions have.
@@ -72,40 +72,30 @@ fn all_of(functions: u64) -> u64 {
 }
 
 #[test]
-fn sums_and_bits(rt: HostRuntime) -> Result<(), Fail> {
-    let exits = between(&rt, rt.alloc(), &["*", "+", "-", "&", "^", "|", ","])?;
-    assert_eq!(rt; exits, all_of(84));
-    Ok(())
+fn sums_and_bits(rt: HostRuntime) {
+    assert!(rt; between(rt.alloc(), &["*", "+", "-", "&", "^", "|", ","]) == Some(all_of(84)));
 }
 
 #[test]
-fn comparisons(rt: HostRuntime) -> Result<(), Fail> {
-    let exits = between(&rt, rt.alloc(), &["<", ">", "<=", ">=", "==", "!="])?;
-    assert_eq!(rt; exits, all_of(72));
-    Ok(())
+fn comparisons(rt: HostRuntime) {
+    assert!(rt; between(rt.alloc(), &["<", ">", "<=", ">=", "==", "!="]) == Some(all_of(72)));
 }
 
 // One divisor of eight is 0, in each type.
 #[test]
-fn quotients(rt: HostRuntime) -> Result<(), Fail> {
-    let exits = between(&rt, rt.alloc(), &["/"])?;
-    assert_eq!(rt; exits, 12 * 112);
-    Ok(())
+fn quotients(rt: HostRuntime) {
+    assert!(rt; between(rt.alloc(), &["/"]) == Some(12 * 112));
 }
 
 #[test]
-fn remainders(rt: HostRuntime) -> Result<(), Fail> {
-    let exits = between(&rt, rt.alloc(), &["%"])?;
-    assert_eq!(rt; exits, 12 * 112);
-    Ok(())
+fn remainders(rt: HostRuntime) {
+    assert!(rt; between(rt.alloc(), &["%"]) == Some(12 * 112));
 }
 
 // One count of eight is -1, but as `_Bool` it is 1.
 #[test]
-fn shifts(rt: HostRuntime) -> Result<(), Fail> {
-    let exits = between(&rt, rt.alloc(), &["<<", ">>"])?;
-    assert_eq!(rt; exits, 2 * (128 + 11 * 112));
-    Ok(())
+fn shifts(rt: HostRuntime) {
+    assert!(rt; between(rt.alloc(), &["<<", ">>"]) == Some(2 * (128 + 11 * 112)));
 }
 
 const MIXED: [(&str, &str); 6] = [
@@ -117,93 +107,107 @@ const MIXED: [(&str, &str); 6] = [
     ("_Bool", "long"),
 ];
 
-#[test]
-fn operands_of_two_types(rt: HostRuntime) -> Result<(), Fail> {
+fn mixed(alloc: Global) -> Option<u64> {
     let mut exits = 0u64;
     for (t, u) in MIXED {
         for op in ["<", "+", "==", ">="] {
-            exits = exits.saturating_add(between_types(&rt, rt.alloc(), op, t, u)?);
+            exits = exits.saturating_add(between_types(alloc, op, t, u)?);
         }
     }
-    assert_eq!(rt; exits, all_of(24));
-    Ok(())
+    Some(exits)
 }
 
 #[test]
-fn operators_of_one_number(rt: HostRuntime) -> Result<(), Fail> {
-    let alloc = rt.alloc();
+fn operands_of_two_types(rt: HostRuntime) {
+    assert!(rt; mixed(rt.alloc()) == Some(all_of(24)));
+}
+
+// What stands before a number of each type.
+fn before(alloc: Global, ops: &[&str]) -> Option<u64> {
     let mut exits = 0u64;
-    for op in ["+", "-", "~", "!"] {
+    for op in ops {
         for t in TYPES {
-            let text = format!(in alloc; "long long f({BITS}){{return{op}({t}){FIRST};}}")?;
-            exits = exits.saturating_add(both_widths(&rt, alloc, text.as_str())?);
+            let Ok(text) = format!(in alloc; "long long f({BITS}){{return{op}({t}){FIRST};}}")
+            else {
+                return None;
+            };
+            exits = exits.saturating_add(both_widths(alloc, text.as_str())?);
         }
     }
-    assert_eq!(rt; exits, all_of(48));
-    Ok(())
+    Some(exits)
 }
 
 #[test]
-fn conversions(rt: HostRuntime) -> Result<(), Fail> {
-    let alloc = rt.alloc();
-    let mut exits = 0u64;
-    for t in TYPES {
-        for u in TYPES {
-            let text = format!(in alloc; "long long f({BITS}){{return({t})({u}){FIRST};}}")?;
-            exits = exits.saturating_add(both_widths(&rt, alloc, text.as_str())?);
-        }
-    }
-    assert_eq!(rt; exits, all_of(144));
-    Ok(())
+fn operators_of_one_number(rt: HostRuntime) {
+    assert!(rt; before(rt.alloc(), &["+", "-", "~", "!"]) == Some(all_of(48)));
 }
 
-// An object of a type is changed by an operator, and read again.
-fn changed(rt: &impl Abort, alloc: Global, before: &str, behind: &str) -> Result<u64, Fail> {
+#[test]
+fn conversions(rt: HostRuntime) {
+    let from = [
+        "(_Bool)",
+        "(char)",
+        "(signed char)",
+        "(unsigned char)",
+        "(short)",
+        "(unsigned short)",
+        "(int)",
+        "(unsigned)",
+        "(long)",
+        "(unsigned long)",
+        "(long long)",
+        "(unsigned long long)",
+    ];
+    assert!(rt; before(rt.alloc(), &from) == Some(all_of(144)));
+}
+
+// An object of each type is changed by an operator, and read again.
+fn changed(alloc: Global, before: &str, behind: &str) -> Option<u64> {
     let mut exits = 0u64;
     for t in TYPES {
-        let text = format!(in alloc;
+        let Ok(text) = format!(in alloc;
             "long long f({BITS}){{{t} x;long long y;x={FIRST};y=({before}x{behind});return y*64+x;}}"
-        )?;
-        exits = exits.saturating_add(both_widths(rt, alloc, text.as_str())?);
+        ) else {
+            return None;
+        };
+        exits = exits.saturating_add(both_widths(alloc, text.as_str())?);
     }
-    Ok(exits)
+    Some(exits)
 }
 
-#[test]
-fn counts(rt: HostRuntime) -> Result<(), Fail> {
+fn counted(alloc: Global) -> Option<u64> {
     let mut exits = 0u64;
     for (before, behind) in [("++", ""), ("--", ""), ("", "++"), ("", "--")] {
-        exits = exits.saturating_add(changed(&rt, rt.alloc(), before, behind)?);
+        exits = exits.saturating_add(changed(alloc, before, behind)?);
     }
-    assert_eq!(rt; exits, all_of(48));
-    Ok(())
-}
-
-const ASSIGNMENTS: [&str; 7] = ["=", "*=", "+=", "-=", "&=", "^=", "|="];
-
-// An assignment of the second number.
-fn assigned(rt: &impl Abort, alloc: Global, op: &str) -> Result<u64, Fail> {
-    let right = format!(in alloc; "{op}{SECOND}")?;
-    changed(rt, alloc, "", right.as_str())
+    Some(exits)
 }
 
 #[test]
-fn assignments(rt: HostRuntime) -> Result<(), Fail> {
+fn counts(rt: HostRuntime) {
+    assert!(rt; counted(rt.alloc()) == Some(all_of(48)));
+}
+
+// These assignments of the second number.
+fn assigned(alloc: Global, ops: &[&str]) -> Option<u64> {
     let mut exits = 0u64;
-    for op in ASSIGNMENTS {
-        exits = exits.saturating_add(assigned(&rt, rt.alloc(), op)?);
+    for op in ops {
+        let Ok(right) = format!(in alloc; "{op}{SECOND}") else {
+            return None;
+        };
+        exits = exits.saturating_add(changed(alloc, "", right.as_str())?);
     }
-    assert_eq!(rt; exits, all_of(84));
-    Ok(())
+    Some(exits)
+}
+
+#[test]
+fn assignments(rt: HostRuntime) {
+    let ops = ["=", "*=", "+=", "-=", "&=", "^=", "|="];
+    assert!(rt; assigned(rt.alloc(), &ops) == Some(all_of(84)));
 }
 
 // One divisor of eight is 0, and one count of eight is -1.
 #[test]
-fn assignments_that_may_fail(rt: HostRuntime) -> Result<(), Fail> {
-    let mut exits = 0u64;
-    for op in ["/=", "%=", "<<=", ">>="] {
-        exits = exits.saturating_add(assigned(&rt, rt.alloc(), op)?);
-    }
-    assert_eq!(rt; exits, 48 * 112);
-    Ok(())
+fn assignments_that_may_fail(rt: HostRuntime) {
+    assert!(rt; assigned(rt.alloc(), &["/=", "%=", "<<=", ">>="]) == Some(48 * 112));
 }

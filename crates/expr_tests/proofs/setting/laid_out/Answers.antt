@@ -4,6 +4,5 @@ use Rattle.expr_tests.proofs.setting.laid_out.Goals as goal
 
 pub returns : goal.returns
 returns c =
-    let g = c.args.given in
-    let s = source g.program.now g.function g.kept.now g.verdicts.now c.args.depth 2 in
+    let s = source c.args.program.now 0 [] [] 1 2 in
     closed_if s c.places.result c.places.ensures (c.layouts_are_closed.ensures s)
