@@ -1,13 +1,13 @@
 //! What is read of files: names, trees, numbers of files and of bytes, and the machine.
 
 use crate::given::{all_texts, files_of, owned, texts_of};
-use saturn_words::check_words;
-use sc_base::{MemFiles, OutOfMemory};
-use sc_input::{Refusal, read_input};
+use fsm_spec::MachineSpec;
+use saturn_words::{CheckWords, check_words};
+use sc_base::{List, MemFiles, OutOfMemory};
+use sc_input::{Input, Refusal, read_input};
 use sc_tree::ctype::Widths;
 use sc_tree::unit::{Segment, Unit};
 use std::alloc::Global;
-use std::test::Fail;
 
 /// The machine of interrupts, as it stands among the examples.
 const INTERRUPTS: &str = "\
@@ -36,81 +36,118 @@ fn counts(unit: &Unit) -> (u32, u32, u32) {
     (unit.file, functions, others)
 }
 
-#[test]
-fn trees_and_names_stand_in_order(rt: HostRuntime) -> Result<(), Fail> {
-    let alloc = rt.alloc();
-    let mut files = files_of(alloc, &TWO, &[])?;
-    let input = read_input(alloc, &mut files, None, &["a.c", "b.c"])?;
-    let all = all_texts(alloc, &input.names)?;
-    assert_eq!(rt; all.as_slice(), b"a.c f x b.c g y ".as_slice());
-    let named = texts_of(alloc, &input.names, input.files.as_slice())?;
-    assert_eq!(rt; named.as_slice(), b"a.c b.c ".as_slice());
-    let units = input.units.as_slice();
-    assert_eq!(rt; units.len(), 2);
-    assert_eq!(rt; counts(&units[0]), (0, 1, 0));
-    assert_eq!(rt; counts(&units[1]), (1, 0, 2));
-    assert!(rt; input.machine.is_none());
-    assert_eq!(rt; input.used, 43);
-    Ok(())
+/// What is told of an input.
+#[derive(Drop)]
+struct Account {
+    /// The texts of all names.
+    names: Vec<u8>,
+    /// The names of the files.
+    files: Vec<u8>,
+    /// What each tree counts.
+    counts: List<(u32, u32, u32)>,
+    has_machine: bool,
+    used: usize,
+}
+
+fn told_of(alloc: Global, input: &Input) -> Result<Account, OutOfMemory> {
+    let mut all = List::new(alloc);
+    for unit in input.units.as_slice() {
+        all.push(counts(unit))?;
+    }
+    Ok(Account {
+        names: all_texts(alloc, &input.names)?,
+        files: texts_of(alloc, &input.names, input.files.as_slice())?,
+        counts: all,
+        has_machine: input.machine.is_some(),
+        used: input.used,
+    })
+}
+
+/// The input that is read of files in memory; none where it is refused.
+fn input_of(
+    alloc: Global,
+    files: &mut MemFiles,
+    machine: Option<&str>,
+    named: &[&str],
+) -> Option<Input> {
+    read_input(alloc, files, machine, named).ok()
+}
+
+/// What is told of the input that is read of these files.
+fn told(alloc: Global, held: &[(&str, &str)], failing: &[u64], named: &[&str]) -> Option<Account> {
+    let mut files = files_of(alloc, held, failing).ok()?;
+    let input = input_of(alloc, &mut files, None, named)?;
+    told_of(alloc, &input).ok()
 }
 
 #[test]
-fn the_order_is_that_of_the_words(rt: HostRuntime) -> Result<(), Fail> {
-    let alloc = rt.alloc();
-    let mut files = files_of(alloc, &TWO, &[])?;
-    let input = read_input(alloc, &mut files, None, &["b.c", "a.c", "b.c"])?;
-    let all = all_texts(alloc, &input.names)?;
-    assert_eq!(rt; all.as_slice(), b"b.c g f y a.c x ".as_slice());
-    let named = texts_of(alloc, &input.names, input.files.as_slice())?;
-    assert_eq!(rt; named.as_slice(), b"b.c a.c b.c ".as_slice());
-    let units = input.units.as_slice();
-    assert_eq!(rt; units.len(), 3);
-    assert_eq!(rt; counts(&units[0]), (0, 0, 2));
-    assert_eq!(rt; counts(&units[1]), (1, 1, 0));
-    assert_eq!(rt; counts(&units[2]), (2, 0, 2));
-    assert_eq!(rt; input.used, 63);
-    Ok(())
+fn trees_and_names_stand_in_order(rt: HostRuntime) {
+    let Some(told) = told(rt.alloc(), &TWO, &[], &["a.c", "b.c"]) else {
+        panic!(rt; "there is no input")
+    };
+    assert!(rt; told.names.as_slice() == b"a.c f x b.c g y ".as_slice());
+    assert!(rt; told.files.as_slice() == b"a.c b.c ".as_slice());
+    assert!(rt; told.counts.as_slice() == [(0, 1, 0), (1, 0, 2)].as_slice());
+    assert!(rt; !told.has_machine);
+    assert!(rt; told.used == 43);
 }
 
 #[test]
-fn a_file_may_have_the_name_of_a_word(rt: HostRuntime) -> Result<(), Fail> {
-    let alloc = rt.alloc();
-    let mut files = files_of(alloc, &[("f", "int f;"), ("int", "")], &[])?;
-    let input = read_input(alloc, &mut files, None, &["f", "int"])?;
-    let all = all_texts(alloc, &input.names)?;
-    assert_eq!(rt; all.as_slice(), b"f int ".as_slice());
-    assert_eq!(rt; input.units.len(), 2);
-    assert_eq!(rt; input.used, 6);
-    Ok(())
+fn the_order_is_that_of_the_words(rt: HostRuntime) {
+    let Some(told) = told(rt.alloc(), &TWO, &[], &["b.c", "a.c", "b.c"]) else {
+        panic!(rt; "there is no input")
+    };
+    assert!(rt; told.names.as_slice() == b"b.c g f y a.c x ".as_slice());
+    assert!(rt; told.files.as_slice() == b"b.c a.c b.c ".as_slice());
+    assert!(rt; told.counts.as_slice() == [(0, 0, 2), (1, 1, 0), (2, 0, 2)].as_slice());
+    assert!(rt; told.used == 63);
 }
 
 #[test]
-fn no_file_has_no_tree(rt: HostRuntime) -> Result<(), Fail> {
-    let alloc = rt.alloc();
-    let mut files = files_of(alloc, &[], &[1])?;
-    let input = read_input(alloc, &mut files, None, &[])?;
-    assert_eq!(rt; input.names.len(), 0);
-    assert_eq!(rt; input.units.len(), 0);
-    assert_eq!(rt; input.used, 0);
-    Ok(())
+fn a_file_may_have_the_name_of_a_word(rt: HostRuntime) {
+    let Some(told) = told(
+        rt.alloc(),
+        &[("f", "int f;"), ("int", "")],
+        &[],
+        &["f", "int"],
+    ) else {
+        panic!(rt; "there is no input")
+    };
+    assert!(rt; told.names.as_slice() == b"f int ".as_slice());
+    assert!(rt; told.counts.len() == 2);
+    assert!(rt; told.used == 6);
 }
 
 #[test]
-fn the_machine_is_read_first(rt: HostRuntime) -> Result<(), Fail> {
-    let alloc = rt.alloc();
+fn no_file_has_no_tree(rt: HostRuntime) {
+    let Some(told) = told(rt.alloc(), &[], &[1], &[]) else {
+        panic!(rt; "there is no input")
+    };
+    assert!(rt; told.names.is_empty());
+    assert!(rt; told.counts.is_empty());
+    assert!(rt; told.used == 0);
+}
+
+fn is_of_interrupts(machine: &MachineSpec) -> bool {
+    machine.name() == "irq"
+        && machine.states() == 2
+        && machine.operations() == 2
+        && machine.find("local_irq_enable") == Some(1)
+}
+
+fn machine_is_read(alloc: Global) -> Option<bool> {
     let held = [("a.c", "int x;"), ("irq", INTERRUPTS)];
-    let mut files = files_of(alloc, &held, &[])?;
-    let input = read_input(alloc, &mut files, Some("irq"), &["a.c"])?;
-    let all = all_texts(alloc, &input.names)?;
-    assert_eq!(rt; all.as_slice(), b"a.c x ".as_slice());
-    assert_eq!(rt; input.units.len(), 1);
-    assert_eq!(rt; input.used, 108);
-    let machine = input.machine.ok_or("there is no machine")?;
-    assert_eq!(rt; machine.name(), "irq");
-    assert_eq!(rt; machine.states(), 2);
-    assert_eq!(rt; machine.operations(), 2);
-    assert_eq!(rt; machine.find("local_irq_enable"), Some(1));
-    Ok(())
+    let mut files = files_of(alloc, &held, &[]).ok()?;
+    let input = input_of(alloc, &mut files, Some("irq"), &["a.c"])?;
+    let told = told_of(alloc, &input).ok()?;
+    let is_read = matches!(&input.machine, Some(machine) if is_of_interrupts(machine));
+    let is_first = told.names.as_slice() == b"a.c x ".as_slice();
+    Some(is_read && is_first && told.counts.len() == 1 && told.used == 108)
+}
+
+#[test]
+fn the_machine_is_read_first(rt: HostRuntime) {
+    assert!(rt; machine_is_read(rt.alloc()) == Some(true));
 }
 
 /// How many trees there are of so many files, or how many files are refused.
@@ -128,11 +165,10 @@ fn trees_of(alloc: Global, count: usize) -> Result<(usize, u64), OutOfMemory> {
 }
 
 #[test]
-fn sixty_four_files_are_taken(rt: HostRuntime) -> Result<(), Fail> {
-    assert_eq!(rt; trees_of(rt.alloc(), 64)?, (64, 0));
-    assert_eq!(rt; trees_of(rt.alloc(), 65)?, (0, 65));
-    assert_eq!(rt; trees_of(rt.alloc(), 1000)?, (0, 1000));
-    Ok(())
+fn sixty_four_files_are_taken(rt: HostRuntime) {
+    assert!(rt; trees_of(rt.alloc(), 64) == Ok((64, 0)));
+    assert!(rt; trees_of(rt.alloc(), 65) == Ok((0, 65)));
+    assert!(rt; trees_of(rt.alloc(), 1000) == Ok((0, 1000)));
 }
 
 /// So many spaces.
@@ -172,48 +208,46 @@ fn bytes_read(
 }
 
 #[test]
-fn as_many_bytes_as_the_limit_are_taken(rt: HostRuntime) -> Result<(), Fail> {
-    let alloc = rt.alloc();
-    assert_eq!(rt; bytes_read(alloc, None, 8388608)?, Some(8388608));
-    assert_eq!(rt; bytes_read(alloc, None, 8388609)?, None);
-    Ok(())
+fn as_many_bytes_as_the_limit_are_taken(rt: HostRuntime) {
+    assert!(rt; bytes_read(rt.alloc(), None, 8388608) == Ok(Some(8388608)));
+    assert!(rt; bytes_read(rt.alloc(), None, 8388609) == Ok(None));
 }
 
 #[test]
-fn the_bytes_of_the_machine_count(rt: HostRuntime) -> Result<(), Fail> {
-    let alloc = rt.alloc();
-    assert_eq!(rt; bytes_read(alloc, Some("irq"), 8388506)?, Some(8388608));
-    assert_eq!(rt; bytes_read(alloc, Some("irq"), 8388507)?, None);
-    assert_eq!(rt; bytes_read(alloc, Some("long.c"), 8388609)?, None);
-    Ok(())
+fn the_bytes_of_the_machine_count(rt: HostRuntime) {
+    assert!(rt; bytes_read(rt.alloc(), Some("irq"), 8388506) == Ok(Some(8388608)));
+    assert!(rt; bytes_read(rt.alloc(), Some("irq"), 8388507) == Ok(None));
+    assert!(rt; bytes_read(rt.alloc(), Some("long.c"), 8388609) == Ok(None));
+}
+
+const WORDS: &[&str] = &[
+    "saturn_check",
+    "--machine",
+    "irq",
+    "b.c",
+    "--model",
+    "lp64",
+    "a.c",
+];
+
+/// What is told of the input that such words ask for.
+fn told_by(alloc: Global, asked: &CheckWords) -> Option<Account> {
+    let held = [TWO[0], TWO[1], ("irq", INTERRUPTS)];
+    let mut files = files_of(alloc, &held, &[]).ok()?;
+    let options = &asked.options;
+    let input = input_of(alloc, &mut files, options.machine, options.files.as_slice())?;
+    told_of(alloc, &input).ok()
+}
+
+fn words_lead(alloc: Global) -> Option<bool> {
+    let words = owned(alloc, WORDS).ok()?;
+    let asked = check_words(alloc, words.as_slice()).ok()?;
+    let told = told_by(alloc, &asked)?;
+    let is_in_order = told.files.as_slice() == b"b.c a.c ".as_slice();
+    Some(asked.options.widths == Widths::Lp64 && is_in_order && told.has_machine)
 }
 
 #[test]
-fn words_lead_to_the_input(rt: HostRuntime) -> Result<(), Fail> {
-    let alloc = rt.alloc();
-    let words = owned(
-        alloc,
-        &[
-            "saturn_check",
-            "--machine",
-            "irq",
-            "b.c",
-            "--model",
-            "lp64",
-            "a.c",
-        ],
-    )?;
-    let asked = check_words(alloc, words.as_slice())?;
-    assert_eq!(rt; asked.options.widths, Widths::Lp64);
-    let mut files = files_of(alloc, &[TWO[0], TWO[1], ("irq", INTERRUPTS)], &[])?;
-    let input = read_input(
-        alloc,
-        &mut files,
-        asked.options.machine,
-        asked.options.files.as_slice(),
-    )?;
-    let named = texts_of(alloc, &input.names, input.files.as_slice())?;
-    assert_eq!(rt; named.as_slice(), b"b.c a.c ".as_slice());
-    assert!(rt; input.machine.is_some());
-    Ok(())
+fn words_lead_to_the_input(rt: HostRuntime) {
+    assert!(rt; words_lead(rt.alloc()) == Some(true));
 }

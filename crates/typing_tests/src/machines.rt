@@ -1,15 +1,15 @@
 //! Files that are checked with a machine: its operations stand in place of those on locks.
 
-use crate::found::{checked_with, column, note, skip};
+use crate::found::{Found, checked_with, column};
 use fsm_spec::machine;
 use sc_base::{IllTyped, Skip};
-use std::test::*;
+use std::alloc::Global;
 
 /// One operation that gives an `int`, and one that gives nothing.
 const MACHINE: &[u8] = b"machine m\nstates a b\nop up zero a>b b>!\nop down void a>! b>a\n";
 
 /// The file, and what its last function is skipped for, with the column where that stands.
-const FILES: [(&str, Option<(IllTyped, u32)>); 6] = [
+const FILES: &[(&str, Option<(IllTyped, u32)>)] = &[
     ("int f(void*p){return up(p);}", None),
     ("void f(void*p){down(p);}", None),
     ("void f(void){up();}", Some((IllTyped::Call, 14))),
@@ -21,19 +21,28 @@ const FILES: [(&str, Option<(IllTyped, u32)>); 6] = [
     ("void f(void){kfree();}", Some((IllTyped::Call, 14))),
 ];
 
-#[test]
-fn a_machine_has_its_operations(rt: HostRuntime) -> Result<(), Fail> {
-    for (text, want) in FILES {
-        let found = checked_with(rt.alloc(), machine(rt.alloc(), MACHINE)?, text)?;
-        let due = match want {
-            None => None,
-            Some((kind, col)) => Some(Skip::IllTyped {
-                kind,
-                pos: column(col),
-            }),
-        };
-        assert_eq!(rt; skip(&found), due, "{text}");
-        assert_eq!(rt; note(&found), None, "{text}");
+fn by_the_machine(alloc: Global, text: &str) -> Option<Found> {
+    let machine = machine(alloc, MACHINE).ok()?;
+    checked_with(alloc, machine, text)
+}
+
+fn is_told(found: Option<Found>, want: Option<(IllTyped, u32)>) -> bool {
+    let due = match want {
+        None => None,
+        Some((kind, col)) => Some(Skip::IllTyped {
+            kind,
+            pos: column(col),
+        }),
+    };
+    match found {
+        Some(found) => found.skip == due && found.note == None,
+        None => false,
     }
-    Ok(())
+}
+
+#[test]
+fn a_machine_has_its_operations(rt: HostRuntime) {
+    for &(text, want) in FILES {
+        assert!(rt; is_told(by_the_machine(rt.alloc(), text), want), "{text}");
+    }
 }

@@ -1,12 +1,10 @@
 //! Declarations at file scope that leave a note, with the column of its place.
 
-use crate::found::{checked, column, note};
+use crate::found::{column, is_noted};
 use sc_base::{IllTyped, Skip, Unsupported};
-use sc_tree::ctype::Widths;
-use std::test::*;
 
 /// What C does not allow: the file, why its first declaration that is left out has its note, and the column of that.
-const NOT_ALLOWED: [(&str, IllTyped, u32); 18] = [
+const NOT_ALLOWED: &[(&str, IllTyped, u32)] = &[
     ("int a,b[x];", IllTyped::Name, 9),
     ("int a[1-2];", IllTyped::Constant, 8),
     ("int x;enum{A=1||x};", IllTyped::Constant, 12),
@@ -28,17 +26,18 @@ const NOT_ALLOWED: [(&str, IllTyped, u32); 18] = [
 ];
 
 #[test]
-fn declarations_that_c_does_not_allow_leave_notes(rt: HostRuntime) -> Result<(), Fail> {
-    for (text, kind, col) in NOT_ALLOWED {
-        let found = checked(rt.alloc(), Widths::Ilp32, text)?;
+fn declarations_that_c_does_not_allow_leave_notes(rt: HostRuntime) {
+    for &(text, kind, col) in NOT_ALLOWED {
         let pos = column(col);
-        assert_eq!(rt; note(&found), Some(Skip::IllTyped { kind, pos }), "{text}");
+        assert!(rt;
+            is_noted(rt.alloc(), text, Skip::IllTyped { kind, pos }),
+            "{text}"
+        );
     }
-    Ok(())
 }
 
 /// What is not taken, in the same form.
-const NOT_TAKEN: [(&str, Unsupported, u32); 8] = [
+const NOT_TAKEN: &[(&str, Unsupported, u32)] = &[
     ("double f(int);", Unsupported::Float, 8),
     ("int g(int,float);", Unsupported::Float, 11),
     ("int a[18446744073709551616];", Unsupported::Wide, 7),
@@ -58,23 +57,18 @@ const NOT_TAKEN: [(&str, Unsupported, u32); 8] = [
 ];
 
 #[test]
-fn declarations_that_are_not_taken_leave_notes(rt: HostRuntime) -> Result<(), Fail> {
-    for (text, kind, col) in NOT_TAKEN {
-        let found = checked(rt.alloc(), Widths::Ilp32, text)?;
+fn declarations_that_are_not_taken_leave_notes(rt: HostRuntime) {
+    for &(text, kind, col) in NOT_TAKEN {
         let pos = column(col);
-        assert_eq!(rt;
-            note(&found),
-            Some(Skip::Unsupported { kind, pos }),
+        assert!(rt;
+            is_noted(rt.alloc(), text, Skip::Unsupported { kind, pos }),
             "{text}"
         );
     }
-    Ok(())
 }
 
 #[test]
-fn what_is_no_declaration_leaves_a_note(rt: HostRuntime) -> Result<(), Fail> {
-    let found = checked(rt.alloc(), Widths::Ilp32, "foo bar;")?;
+fn what_is_no_declaration_leaves_a_note(rt: HostRuntime) {
     let pos = column(1);
-    assert_eq!(rt; note(&found), Some(Skip::Grammar { pos }));
-    Ok(())
+    assert!(rt; is_noted(rt.alloc(), "foo bar;", Skip::Grammar { pos }));
 }

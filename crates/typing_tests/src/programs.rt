@@ -1,14 +1,15 @@
 //! Programs of two files, and those of which no program is made.
 
-use crate::found::{both, length, note, skip};
+use crate::found::{both, typed};
 use sc_base::{IllTyped, LimitKind, OutOfMemory, Pos, Skip};
 use sc_check::CheckAnswer;
+use sc_tree::ctype::Widths;
+use sc_typed::Program;
 use std::alloc::Global;
-use std::test::*;
 
 // What is answered for two files: how many functions there are, whether the one with two bodies is `f`, or how many
 // are too many.
-#[derive(Clone, Copy, Debug, PartialEq, Eq)]
+#[derive(Clone, Copy, PartialEq, Eq)]
 enum Answer {
     Functions(usize),
     Duplicate(bool),
@@ -16,20 +17,24 @@ enum Answer {
     Other,
 }
 
-fn answered(rt: &HostRuntime, first: &str, second: &str) -> Result<Answer, Fail> {
-    match both(rt.alloc(), first, second)? {
-        Ok(program) => Ok(Answer::Functions(program.functions.len())),
+fn answer_of(answer: Result<Program, CheckAnswer>) -> Answer {
+    match answer {
+        Ok(program) => Answer::Functions(program.functions.len()),
         Err(CheckAnswer::Duplicate(names, id)) => {
             let known = (id.at as usize) < names.len();
-            Ok(Answer::Duplicate(known && names.text(id) == "f"))
+            Answer::Duplicate(known && names.text(id) == "f")
         }
-        Err(CheckAnswer::Limit(LimitKind::Functions, count)) => Ok(Answer::TooMany(count)),
-        Err(_) => Ok(Answer::Other),
+        Err(CheckAnswer::Limit(LimitKind::Functions, count)) => Answer::TooMany(count),
+        Err(_) => Answer::Other,
     }
 }
 
+fn answered(alloc: Global, first: &str, second: &str) -> Option<Answer> {
+    Some(answer_of(typed(alloc, Widths::Ilp32, &[first, second], None)?))
+}
+
 /// Two files, and what is answered for them.
-const BODIES: [(&str, &str, Answer); 8] = [
+const BODIES: &[(&str, &str, Answer)] = &[
     ("void f(void){}", "void f(void){}", Answer::Duplicate(true)),
     ("void f(void){}void f(void){}", "", Answer::Duplicate(true)),
     (
@@ -65,11 +70,11 @@ const BODIES: [(&str, &str, Answer); 8] = [
 ];
 
 #[test]
-fn a_function_has_one_body(rt: HostRuntime) -> Result<(), Fail> {
-    for (first, second, want) in BODIES {
-        assert_eq!(rt; answered(&rt, first, second)?, want, "{first} {second}");
+fn a_function_has_one_body(rt: HostRuntime) {
+    for &(first, second, want) in BODIES {
+        let found = answered(rt.alloc(), first, second);
+        assert!(rt; found == Some(want), "{first} {second}");
     }
-    Ok(())
 }
 
 // 4,096 functions of different names.
@@ -83,49 +88,50 @@ fn many_functions(alloc: Global) -> Result<String, OutOfMemory> {
 }
 
 /// A second file beside that of 4,096 functions, and what is answered for both.
-const MORE: [(&str, Answer); 3] = [
+const MORE: &[(&str, Answer)] = &[
     ("void f(void);", Answer::Functions(4096)),
     ("static void f(void){x;}", Answer::TooMany(4097)),
     ("void f(void){}void f(void){}", Answer::Duplicate(true)),
 ];
 
-#[test]
-fn a_program_has_4096_functions(rt: HostRuntime) -> Result<(), Fail> {
-    let first = many_functions(rt.alloc())?;
-    for (second, want) in MORE {
-        assert_eq!(rt; answered(&rt, first.as_str(), second)?, want, "{second}");
-    }
-    Ok(())
+fn answered_beside_many(alloc: Global, second: &str) -> Option<Answer> {
+    let first = many_functions(alloc).ok()?;
+    answered(alloc, first.as_str(), second)
 }
 
 #[test]
-fn a_global_is_one_over_files(rt: HostRuntime) -> Result<(), Fail> {
-    let found = both(
+fn a_program_has_4096_functions(rt: HostRuntime) {
+    for &(second, want) in MORE {
+        let found = answered_beside_many(rt.alloc(), second);
+        assert!(rt; found == Some(want), "{second}");
+    }
+}
+
+#[test]
+fn a_global_is_one_over_files(rt: HostRuntime) {
+    let one = both(
         rt.alloc(),
         "extern int a[];int f(void){return a[1];}",
         "int a[3];",
-    )??;
-    assert_eq!(rt; length(&found), Some(3));
-    assert_eq!(rt; found.globals.len(), 1);
-    let found = both(rt.alloc(), "static int a[2];", "static int a[3];")??;
-    assert_eq!(rt; found.globals.len(), 2);
-    Ok(())
+    );
+    assert!(rt; matches!(one, Some(found) if found.length == Some(3) && found.globals == 1));
+    let two = both(rt.alloc(), "static int a[2];", "static int a[3];");
+    assert!(rt; matches!(two, Some(found) if found.globals == 2));
 }
 
 #[test]
-fn each_file_has_its_structs(rt: HostRuntime) -> Result<(), Fail> {
-    let found = both(
+fn each_file_has_its_structs(rt: HostRuntime) {
+    let own = both(
         rt.alloc(),
         "struct s{int a;};int f(struct s*p){return p->a;}",
         "struct s{int b;};int g(struct s*p){return p->b;}",
-    )??;
-    assert_eq!(rt; found.structs.len(), 2);
-    assert_eq!(rt; skip(&found), None);
-    let found = both(
+    );
+    assert!(rt; matches!(own, Some(found) if found.structs == 2 && found.skip == None));
+    let other = both(
         rt.alloc(),
         "struct s{int a;};int f(struct s*p){return p->a;}",
         "struct s{int b;};int g(struct s*p){return p->a;}",
-    )??;
+    );
     let (kind, pos) = (
         IllTyped::Field,
         Pos {
@@ -134,17 +140,17 @@ fn each_file_has_its_structs(rt: HostRuntime) -> Result<(), Fail> {
             col: 46,
         },
     );
-    assert_eq!(rt; skip(&found), Some(Skip::IllTyped { kind, pos }));
-    Ok(())
+    let want = Some(Skip::IllTyped { kind, pos });
+    assert!(rt; matches!(other, Some(found) if found.skip == want));
 }
 
 #[test]
-fn the_names_of_a_file_end_with_it(rt: HostRuntime) -> Result<(), Fail> {
+fn the_names_of_a_file_end_with_it(rt: HostRuntime) {
     let found = both(
         rt.alloc(),
         "struct s{int a;};int x;",
         "struct s;int f(void){return x;}",
-    )??;
+    );
     let (kind, pos) = (
         IllTyped::Name,
         Pos {
@@ -153,7 +159,6 @@ fn the_names_of_a_file_end_with_it(rt: HostRuntime) -> Result<(), Fail> {
             col: 29,
         },
     );
-    assert_eq!(rt; skip(&found), Some(Skip::IllTyped { kind, pos }));
-    assert_eq!(rt; note(&found), None);
-    Ok(())
+    let want = Some(Skip::IllTyped { kind, pos });
+    assert!(rt; matches!(found, Some(found) if found.skip == want && found.note == None));
 }

@@ -1,20 +1,22 @@
 //! Sizes, alignments, kinds and constants (C11 6.3.1, 6.4.4.1, 6.5, 6.6), each as the length of an array, for
 //! both widths.
 
-use crate::found::{checked, length};
+use crate::found::checked;
 use sc_tree::ctype::Widths;
 use std::alloc::Global;
-use std::test::*;
 
-// The length of the last variable of a file, in ILP32 and in LP64.
-fn lengths(alloc: Global, text: &str) -> Result<(Option<u32>, Option<u32>), Fail> {
-    let small = length(&checked(alloc, Widths::Ilp32, text)?);
-    let large = length(&checked(alloc, Widths::Lp64, text)?);
-    Ok((small, large))
+fn length(alloc: Global, widths: Widths, text: &str) -> Option<u32> {
+    checked(alloc, widths, text)?.length
+}
+
+// Whether the last variable of a file has that length in ILP32, and that in LP64.
+fn has_lengths(alloc: Global, text: &str, small: u32, large: u32) -> bool {
+    length(alloc, Widths::Ilp32, text) == Some(small)
+        && length(alloc, Widths::Lp64, text) == Some(large)
 }
 
 /// Types: the file, and the length of its last variable in ILP32 and in LP64.
-const SIZES: [(&str, u32, u32); 37] = [
+const SIZES: &[(&str, u32, u32)] = &[
     ("int a[sizeof(_Bool)];", 1, 1),
     ("int a[sizeof(short)];", 2, 2),
     ("int a[sizeof(int)];", 4, 4),
@@ -79,16 +81,14 @@ const SIZES: [(&str, u32, u32); 37] = [
 ];
 
 #[test]
-fn types_have_sizes(rt: HostRuntime) -> Result<(), Fail> {
-    for (text, small, large) in SIZES {
-        let found = lengths(rt.alloc(), text)?;
-        assert_eq!(rt; found, (Some(small), Some(large)), "{text}");
+fn types_have_sizes(rt: HostRuntime) {
+    for &(text, small, large) in SIZES {
+        assert!(rt; has_lengths(rt.alloc(), text, small, large), "{text}");
     }
-    Ok(())
 }
 
 /// Constants, in the same form.
-const CONSTANTS: [(&str, u32, u32); 63] = [
+const CONSTANTS: &[(&str, u32, u32)] = &[
     ("int a[sizeof 2147483647];", 4, 4),
     ("int a[sizeof 2147483648];", 8, 8),
     ("int a[sizeof 0x80000000];", 4, 4),
@@ -155,16 +155,14 @@ const CONSTANTS: [(&str, u32, u32); 63] = [
 ];
 
 #[test]
-fn constants_have_kinds_and_values(rt: HostRuntime) -> Result<(), Fail> {
-    for (text, small, large) in CONSTANTS {
-        let found = lengths(rt.alloc(), text)?;
-        assert_eq!(rt; found, (Some(small), Some(large)), "{text}");
+fn constants_have_kinds_and_values(rt: HostRuntime) {
+    for &(text, small, large) in CONSTANTS {
+        assert!(rt; has_lengths(rt.alloc(), text, small, large), "{text}");
     }
-    Ok(())
 }
 
 /// Types of expressions that are no constants, in the same form.
-const KINDS: [(&str, u32, u32); 16] = [
+const KINDS: &[(&str, u32, u32)] = &[
     ("char c;int a[sizeof(c=1l)];", 1, 1),
     ("long l;int a[sizeof(l+=1)];", 4, 8),
     ("short s;int a[sizeof(s<<=1l)];", 2, 2),
@@ -188,10 +186,8 @@ const KINDS: [(&str, u32, u32); 16] = [
 ];
 
 #[test]
-fn expressions_have_types(rt: HostRuntime) -> Result<(), Fail> {
-    for (text, small, large) in KINDS {
-        let found = lengths(rt.alloc(), text)?;
-        assert_eq!(rt; found, (Some(small), Some(large)), "{text}");
+fn expressions_have_types(rt: HostRuntime) {
+    for &(text, small, large) in KINDS {
+        assert!(rt; has_lengths(rt.alloc(), text, small, large), "{text}");
     }
-    Ok(())
 }

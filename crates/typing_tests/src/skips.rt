@@ -1,12 +1,11 @@
 //! Functions that are skipped: each kind by its smallest file, with the column of its place.
 
-use crate::found::{checked, column, note, skip};
+use crate::found::{checked, column, is_skipped};
 use sc_base::{IllTyped, LimitKind, Skip, Unsupported};
 use sc_tree::ctype::Widths;
-use std::test::*;
 
 /// What is not taken: the file, why its last function is skipped, and the column where that stands.
-const NOT_TAKEN: [(&str, Unsupported, u32); 67] = [
+const NOT_TAKEN: &[(&str, Unsupported, u32)] = &[
     ("void g(char*q){double x;x=0;}", Unsupported::Float, 23),
     ("double f(void){}", Unsupported::Float, 8),
     ("void f(double x){y}", Unsupported::Float, 15),
@@ -153,22 +152,16 @@ const NOT_TAKEN: [(&str, Unsupported, u32); 67] = [
 ];
 
 #[test]
-fn what_is_not_taken_is_skipped(rt: HostRuntime) -> Result<(), Fail> {
-    for (text, kind, col) in NOT_TAKEN {
-        let found = checked(rt.alloc(), Widths::Ilp32, text)?;
+fn what_is_not_taken_is_skipped(rt: HostRuntime) {
+    for &(text, kind, col) in NOT_TAKEN {
         let pos = column(col);
-        assert_eq!(rt;
-            skip(&found),
-            Some(Skip::Unsupported { kind, pos }),
-            "{text}"
-        );
-        assert_eq!(rt; note(&found), None, "{text}");
+        let want = Skip::Unsupported { kind, pos };
+        assert!(rt; is_skipped(rt.alloc(), Widths::Ilp32, text, want), "{text}");
     }
-    Ok(())
 }
 
 /// What C does not allow, in the same form.
-const NOT_ALLOWED: [(&str, IllTyped, u32); 73] = [
+const NOT_ALLOWED: &[(&str, IllTyped, u32)] = &[
     ("void f(void){x;}", IllTyped::Name, 14),
     ("void f(void){g();g;}", IllTyped::Name, 18),
     ("void*f(void){return malloc;}", IllTyped::Name, 21),
@@ -349,33 +342,29 @@ const NOT_ALLOWED: [(&str, IllTyped, u32); 73] = [
 ];
 
 #[test]
-fn what_c_does_not_allow_is_skipped(rt: HostRuntime) -> Result<(), Fail> {
-    for (text, kind, col) in NOT_ALLOWED {
-        let found = checked(rt.alloc(), Widths::Lp64, text)?;
+fn what_c_does_not_allow_is_skipped(rt: HostRuntime) {
+    for &(text, kind, col) in NOT_ALLOWED {
         let pos = column(col);
-        assert_eq!(rt; skip(&found), Some(Skip::IllTyped { kind, pos }), "{text}");
-        assert_eq!(rt; note(&found), None, "{text}");
+        let want = Skip::IllTyped { kind, pos };
+        assert!(rt; is_skipped(rt.alloc(), Widths::Lp64, text, want), "{text}");
     }
-    Ok(())
 }
 
 #[test]
-fn a_body_without_a_tree_is_skipped(rt: HostRuntime) -> Result<(), Fail> {
-    let found = checked(rt.alloc(), Widths::Ilp32, "void f(void){int x;x=1}")?;
+fn a_body_without_a_tree_is_skipped(rt: HostRuntime) {
+    let found = checked(rt.alloc(), Widths::Ilp32, "void f(void){int x;x=1}");
     let pos = column(13);
-    assert_eq!(rt; skip(&found), Some(Skip::Grammar { pos }));
-    Ok(())
+    assert!(rt; matches!(found, Some(found) if found.skip == Some(Skip::Grammar { pos })));
 }
 
 #[test]
-fn a_function_has_eight_parameters(rt: HostRuntime) -> Result<(), Fail> {
+fn a_function_has_eight_parameters(rt: HostRuntime) {
     let eight = "void f(int a,int b,int c,int d,int e,int g,int h,int i){}";
-    assert_eq!(rt; skip(&checked(rt.alloc(), Widths::Ilp32, eight)?), None);
+    let found = checked(rt.alloc(), Widths::Ilp32, eight);
+    assert!(rt; matches!(found, Some(found) if found.skip == None));
     let nine = "void f(int a,int b,int c,int d,int e,int g,int h,int i,int j){}";
+    let found = checked(rt.alloc(), Widths::Ilp32, nine);
     let kind = LimitKind::Params;
-    assert_eq!(rt;
-        skip(&checked(rt.alloc(), Widths::Ilp32, nine)?),
-        Some(Skip::Limit { kind, count: 9 })
-    );
-    Ok(())
+    let want = Some(Skip::Limit { kind, count: 9 });
+    assert!(rt; matches!(found, Some(found) if found.skip == want));
 }

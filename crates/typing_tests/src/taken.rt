@@ -1,10 +1,9 @@
 //! Files in which no function is skipped and no declaration leaves a note.
 
-use crate::found::{checked, note, skipped};
+use crate::found::{Found, checked};
 use sc_tree::ctype::Widths;
-use std::test::*;
 
-const WHOLE: [&str; 29] = [
+const WHOLE: &[&str] = &[
     "double(*p)(double);typedef double F(float);",
     "extern struct s x;extern void y;",
     "union s{int a;};void f(void){struct s*p;p=0;}",
@@ -36,26 +35,29 @@ const WHOLE: [&str; 29] = [
     "void f(void){extern int x;extern int x;int g(void);int g();}",
 ];
 
-#[test]
-fn whole_files_are_taken(rt: HostRuntime) -> Result<(), Fail> {
-    for text in WHOLE {
-        for widths in [Widths::Ilp32, Widths::Lp64] {
-            let found = checked(rt.alloc(), widths, text)?;
-            assert_eq!(rt; skipped(&found), 0, "{text}");
-            assert_eq!(rt; note(&found), None, "{text}");
-        }
+fn is_whole(found: Option<Found>) -> bool {
+    match found {
+        Some(found) => found.skipped == 0 && found.note == None,
+        None => false,
     }
-    Ok(())
 }
 
 #[test]
-fn a_typedef_and_a_function(rt: HostRuntime) -> Result<(), Fail> {
+fn whole_files_are_taken(rt: HostRuntime) {
+    for &text in WHOLE {
+        assert!(rt;
+            is_whole(checked(rt.alloc(), Widths::Ilp32, text)),
+            "{text}"
+        );
+        assert!(rt; is_whole(checked(rt.alloc(), Widths::Lp64, text)), "{text}");
+    }
+}
+
+#[test]
+fn a_typedef_and_a_function(rt: HostRuntime) {
     let text =
         "typedef struct{int v;}spinlock_t;\nvoid f(_Bool c,spinlock_t*l){spin_lock(l);if(c)spin_lock(l);}";
-    let found = checked(rt.alloc(), Widths::Ilp32, text)?;
-    assert_eq!(rt; found.functions.len(), 1);
-    assert_eq!(rt; found.globals.len(), 0);
-    assert_eq!(rt; skipped(&found), 0);
-    assert_eq!(rt; note(&found), None);
-    Ok(())
+    let found = checked(rt.alloc(), Widths::Ilp32, text);
+    assert!(rt; is_whole(found));
+    assert!(rt; matches!(found, Some(found) if found.functions == 1 && found.globals == 0));
 }

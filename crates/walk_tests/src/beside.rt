@@ -7,9 +7,9 @@ use run_world::{Ended, Value};
 use sc_base::OutOfMemory;
 use sc_flow::{Flow, unroll};
 use sc_interp::{Machine, Outcome};
+use sc_typed::Program;
 use std::alloc::Global;
 use std::process::Abort;
-use std::test::*;
 use sum_rows::Verdict;
 
 /// No function here has more bits.
@@ -41,17 +41,10 @@ fn agree<'p>(
     let outcome = runs.run(choice);
     let mut walk = Walk::begin(alloc, runs.given, runs.places, choice, flow)?;
     let walked = outcome_of(walk.walk(flow));
-    assert_eq!(rt; walked, Some(outcome), "choice {number}");
-    assert_eq!(rt;
-        walk.world.slots.as_slice(),
-        runs.world.slots.as_slice(),
-        "choice {number}"
-    );
-    assert_eq!(rt;
-        walk.world.trace.as_slice(),
-        runs.trace(),
-        "choice {number}"
-    );
+    let holds = walked == Some(outcome)
+        && walk.world.slots.as_slice() == runs.world.slots.as_slice()
+        && walk.world.trace.as_slice() == runs.trace();
+    assert!(rt; holds, "choice {number}");
     Ok(matches!(outcome, Outcome::Exit(_)))
 }
 
@@ -88,64 +81,86 @@ fn all_agree<'p>(
 }
 
 // The same of a function whose loops turn so often.
-fn beside(rt: &impl Abort, alloc: Global, given: Given, depth: u32) -> Result<Tally, Fail> {
-    let table = machine(alloc)?;
+fn beside(rt: &impl Abort, alloc: Global, given: Given, depth: u32) -> Option<Tally> {
+    let Ok(table) = machine(alloc) else {
+        return None;
+    };
     let here = context(given, &table, depth);
-    let laid = laid_out(alloc, given, depth)?;
+    let Ok(laid) = laid_out(alloc, given, depth) else {
+        return None;
+    };
     let found = nothing(alloc);
-    let flow = unroll(alloc, &here)?;
-    let mut runs = reserved(alloc, &here, &found, &laid)?;
-    Ok(all_agree(rt, alloc, &mut runs, &flow)?)
-}
-
-/// On every choice of a function, walk and run agree. The tallies are those at depth 1, 2 and 3.
-pub fn agrees(
-    rt: &impl Abort,
-    alloc: Global,
-    text: &str,
-    given: Given,
-    tallies: [Tally; 3],
-) -> Result<(), Fail> {
-    let mut depth = 1u32;
-    for tally in tallies {
-        assert_eq!(rt; beside(rt, alloc, given, depth)?, tally, "{text} {depth}");
-        depth = depth.saturating_add(1);
+    let Ok(flow) = unroll(alloc, &here) else {
+        return None;
+    };
+    match reserved(alloc, &here, &found, &laid) {
+        Ok(mut runs) => all_agree(rt, alloc, &mut runs, &flow).ok(),
+        Err(_) => None,
     }
-    Ok(())
 }
 
-/// The same of the first function of each text, which keeps no callee.
-pub fn all_beside(rt: &impl Abort, alloc: Global, rows: &[(&str, [Tally; 3])]) -> Result<(), Fail> {
-    for (text, tallies) in rows {
-        let program = checked(alloc, text)?;
-        let given = Given {
-            program: &program,
-            function: 0,
-            kept: &[],
-            verdicts: &[],
-        };
-        agrees(rt, alloc, text, given, *tallies)?;
+// On every choice of a function, walk and run agree, and the tallies are those at depth 1, 2 and 3.
+fn agrees(rt: &impl Abort, alloc: Global, given: Given, tallies: [Tally; 3]) -> bool {
+    let [first, second, third] = tallies;
+    beside(rt, alloc, given, 1) == Some(first)
+        && beside(rt, alloc, given, 2) == Some(second)
+        && beside(rt, alloc, given, 3) == Some(third)
+}
+
+// The same of the first function of a text, which keeps no callee.
+fn first_beside(rt: &impl Abort, alloc: Global, text: &str, tallies: [Tally; 3]) -> bool {
+    match checked(alloc, text) {
+        Some(program) => {
+            let given = Given {
+                program: &program,
+                function: 0,
+                kept: &[],
+                verdicts: &[],
+            };
+            agrees(rt, alloc, given, tallies)
+        }
+        None => false,
     }
-    Ok(())
 }
 
-/// The same of the second function of each text, which keeps the first, with that verdict.
+/// The same of the first function of each text.
+pub fn all_beside(rt: &impl Abort, alloc: Global, rows: &[(&str, [Tally; 3])]) {
+    for &(text, tallies) in rows {
+        assert!(rt; first_beside(rt, alloc, text, tallies), "{text}");
+    }
+}
+
+/// The same of the second function of a text, which keeps the first, with that verdict.
 pub fn second_beside(
     rt: &impl Abort,
     alloc: Global,
     text: &str,
+    verdict: Result<Verdict, OutOfMemory>,
+    tallies: [Tally; 3],
+) -> bool {
+    match (checked(alloc, text), verdict) {
+        (Some(program), Ok(verdict)) => keeps_the_first(rt, alloc, &program, verdict, tallies),
+        _ => false,
+    }
+}
+
+fn keeps_the_first(
+    rt: &impl Abort,
+    alloc: Global,
+    program: &Program,
     verdict: Verdict,
     tallies: [Tally; 3],
-) -> Result<(), Fail> {
-    let program = checked(alloc, text)?;
-    let verdicts = vec![in alloc; verdict]?;
+) -> bool {
+    let Ok(verdicts) = vec![in alloc; verdict] else {
+        return false;
+    };
     let given = Given {
-        program: &program,
+        program,
         function: 1,
         kept: &[0],
         verdicts: verdicts.as_slice(),
     };
-    agrees(rt, alloc, text, given, tallies)
+    agrees(rt, alloc, given, tallies)
 }
 
 // Sets these bits, as far as there are so many.
@@ -158,26 +173,31 @@ fn set_bits(choice: &mut [bool], set: &[usize]) {
 }
 
 // The same of one choice: whether the function comes to its end.
-fn beside_on(rt: &impl Abort, alloc: Global, given: Given, set: &[usize]) -> Result<bool, Fail> {
-    let table = machine(alloc)?;
+fn beside_on(rt: &impl Abort, alloc: Global, given: Given, set: &[usize]) -> Option<bool> {
+    let Ok(table) = machine(alloc) else {
+        return None;
+    };
     let here = context(given, &table, 2);
-    let laid = laid_out(alloc, given, 2)?;
+    let Ok(laid) = laid_out(alloc, given, 2) else {
+        return None;
+    };
     let found = nothing(alloc);
-    let flow = unroll(alloc, &here)?;
-    let mut runs = reserved(alloc, &here, &found, &laid)?;
-    let mut choice = none_set(alloc, laid.choice_len())?;
+    let Ok(flow) = unroll(alloc, &here) else {
+        return None;
+    };
+    let Ok(mut choice) = none_set(alloc, laid.choice_len()) else {
+        return None;
+    };
     set_bits(choice.as_mut_slice(), set);
-    Ok(agree(rt, alloc, &mut runs, &flow, choice.as_slice(), 0)?)
+    match reserved(alloc, &here, &found, &laid) {
+        Ok(mut runs) => agree(rt, alloc, &mut runs, &flow, choice.as_slice(), 0).ok(),
+        Err(_) => None,
+    }
 }
 
 /// On the choice with these bits walk and run of the first function of a text agree. Answers whether they come to its
 /// end.
-pub fn first_agrees_on(
-    rt: &impl Abort,
-    alloc: Global,
-    text: &str,
-    set: &[usize],
-) -> Result<bool, Fail> {
+pub fn first_agrees_on(rt: &impl Abort, alloc: Global, text: &str, set: &[usize]) -> Option<bool> {
     let program = checked(alloc, text)?;
     let given = Given {
         program: &program,

@@ -2,9 +2,8 @@
 
 use crate::beside::{Tally, all_beside, second_beside};
 use crate::summaries::{locks_once, makes_one, negates};
-use std::test::*;
 
-const LOCKS: [(&str, [Tally; 3]); 5] = [
+const LOCKS: &[(&str, [Tally; 3])] = &[
     (
         "typedef struct{int v;}spinlock_t;void f(_Bool c,spinlock_t*l){spin_lock(l);if(c)spin_lock(l);spin_unlock(l);}",
         [(8, 1); 3],
@@ -28,11 +27,11 @@ const LOCKS: [(&str, [Tally; 3]); 5] = [
 ];
 
 #[test]
-fn operations_of_locks(rt: HostRuntime) -> Result<(), Fail> {
-    all_beside(&rt, rt.alloc(), &LOCKS)
+fn operations_of_locks(rt: HostRuntime) {
+    all_beside(&rt, rt.alloc(), LOCKS);
 }
 
-const OBJECTS: [(&str, [Tally; 3]); 4] = [
+const OBJECTS: &[(&str, [Tally; 3])] = &[
     (
         "void f(_Bool n){char*p=kmalloc(8,0);if(n)goto out;kfree(p);out:;}",
         [(1024, 1024); 3],
@@ -43,11 +42,11 @@ const OBJECTS: [(&str, [Tally; 3]); 4] = [
 ];
 
 #[test]
-fn objects_made_and_freed(rt: HostRuntime) -> Result<(), Fail> {
-    all_beside(&rt, rt.alloc(), &OBJECTS)
+fn objects_made_and_freed(rt: HostRuntime) {
+    all_beside(&rt, rt.alloc(), OBJECTS);
 }
 
-const UNKNOWN: [(&str, [Tally; 3]); 5] = [
+const UNKNOWN: &[(&str, [Tally; 3])] = &[
     (
         "_Bool ask(_Bool*p);_Bool f(_Bool a){_Bool r=ask(&a);return r+a;}",
         [(4, 4); 3],
@@ -71,11 +70,11 @@ const UNKNOWN: [(&str, [Tally; 3]); 5] = [
 ];
 
 #[test]
-fn calls_of_which_nothing_is_known(rt: HostRuntime) -> Result<(), Fail> {
-    all_beside(&rt, rt.alloc(), &UNKNOWN)
+fn calls_of_which_nothing_is_known(rt: HostRuntime) {
+    all_beside(&rt, rt.alloc(), UNKNOWN);
 }
 
-const TAKERS: [(&str, [Tally; 3]); 3] = [
+const TAKERS: &[(&str, [Tally; 3])] = &[
     (
         "typedef struct{int v;}spinlock_t;void g(spinlock_t*l){spin_lock(l);}void h(spinlock_t*l){g(l);g(l);}",
         [(64, 0); 3],
@@ -91,15 +90,17 @@ const TAKERS: [(&str, [Tally; 3]); 3] = [
 ];
 
 #[test]
-fn a_kept_callee_locks(rt: HostRuntime) -> Result<(), Fail> {
-    for (text, tallies) in TAKERS {
-        let verdict = locks_once(rt.alloc())?;
-        second_beside(&rt, rt.alloc(), text, verdict, tallies)?;
+fn a_kept_callee_locks(rt: HostRuntime) {
+    for &(text, tallies) in TAKERS {
+        let verdict = locks_once(rt.alloc());
+        assert!(rt;
+            second_beside(&rt, rt.alloc(), text, verdict, tallies),
+            "{text}"
+        );
     }
-    Ok(())
 }
 
-const MAKERS: [(&str, [Tally; 3]); 2] = [
+const MAKERS: &[(&str, [Tally; 3])] = &[
     (
         "void mk(char**o){*o=kmalloc(4,0);}void use(_Bool c){char*p;mk(&p);if(c)kfree(p);}",
         [(2048, 1024); 3],
@@ -111,15 +112,17 @@ const MAKERS: [(&str, [Tally; 3]); 2] = [
 ];
 
 #[test]
-fn a_kept_callee_gives_through_a_parameter(rt: HostRuntime) -> Result<(), Fail> {
-    for (text, tallies) in MAKERS {
-        let verdict = makes_one(rt.alloc())?;
-        second_beside(&rt, rt.alloc(), text, verdict, tallies)?;
+fn a_kept_callee_gives_through_a_parameter(rt: HostRuntime) {
+    for &(text, tallies) in MAKERS {
+        let verdict = makes_one(rt.alloc());
+        assert!(rt;
+            second_beside(&rt, rt.alloc(), text, verdict, tallies),
+            "{text}"
+        );
     }
-    Ok(())
 }
 
-const NEGATIONS: [(&str, [Tally; 3]); 2] = [
+const NEGATIONS: &[(&str, [Tally; 3])] = &[
     (
         "_Bool not(_Bool a){return!a;}_Bool f(_Bool a){return not(a)&&not(not(a));}",
         [(16, 5); 3],
@@ -131,10 +134,12 @@ const NEGATIONS: [(&str, [Tally; 3]); 2] = [
 ];
 
 #[test]
-fn a_kept_callee_gives_a_result(rt: HostRuntime) -> Result<(), Fail> {
-    for (text, tallies) in NEGATIONS {
-        let verdict = negates(rt.alloc())?;
-        second_beside(&rt, rt.alloc(), text, verdict, tallies)?;
+fn a_kept_callee_gives_a_result(rt: HostRuntime) {
+    for &(text, tallies) in NEGATIONS {
+        let verdict = negates(rt.alloc());
+        assert!(rt;
+            second_beside(&rt, rt.alloc(), text, verdict, tallies),
+            "{text}"
+        );
     }
-    Ok(())
 }

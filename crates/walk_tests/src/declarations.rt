@@ -1,9 +1,8 @@
 //! Declarations (C11 6.7), with initialisers (C11 6.7.9).
 
 use crate::beside::{Tally, all_beside};
-use std::test::*;
 
-const VALUES: [(&str, [Tally; 3]); 4] = [
+const VALUES: &[(&str, [Tally; 3])] = &[
     (
         "_Bool f(_Bool a){_Bool b=a,c=!b;{_Bool b=c;c=b;}return b+c;}",
         [(2, 2); 3],
@@ -23,11 +22,11 @@ const VALUES: [(&str, [Tally; 3]); 4] = [
 ];
 
 #[test]
-fn locals_with_one_value(rt: HostRuntime) -> Result<(), Fail> {
-    all_beside(&rt, rt.alloc(), &VALUES)
+fn locals_with_one_value(rt: HostRuntime) {
+    all_beside(&rt, rt.alloc(), VALUES);
 }
 
-const BRACES: [(&str, [Tally; 3]); 5] = [
+const BRACES: &[(&str, [Tally; 3])] = &[
     (
         "char f(char a){char x[3]={1,a};return x[0]+x[1]+x[2];}",
         [(256, 256); 3],
@@ -51,11 +50,11 @@ const BRACES: [(&str, [Tally; 3]); 5] = [
 ];
 
 #[test]
-fn values_in_braces(rt: HostRuntime) -> Result<(), Fail> {
-    all_beside(&rt, rt.alloc(), &BRACES)
+fn values_in_braces(rt: HostRuntime) {
+    all_beside(&rt, rt.alloc(), BRACES);
 }
 
-const CALLS: [(&str, [Tally; 3]); 3] = [
+const CALLS: &[(&str, [Tally; 3])] = &[
     (
         "_Bool ask(void);char f(void){char x[2]={ask(),ask()&&ask()};char y=ask()?x[0]:x[1];return y;}",
         [(16, 16); 3],
@@ -71,6 +70,6 @@ const CALLS: [(&str, [Tally; 3]); 3] = [
 ];
 
 #[test]
-fn calls_in_braces(rt: HostRuntime) -> Result<(), Fail> {
-    all_beside(&rt, rt.alloc(), &CALLS)
+fn calls_in_braces(rt: HostRuntime) {
+    all_beside(&rt, rt.alloc(), CALLS);
 }

@@ -2,7 +2,6 @@
 //! it has 262 bits.
 
 use crate::beside::first_agrees_on;
-use std::test::*;
 
 const RING: &str = "\
 # 1 \"drivers/ring.c\"
@@ -61,7 +60,7 @@ out:
 ";
 
 // The first bit says that `ring` is there; the others that the first, the second and the third object are given.
-const CHOICES: [(&[usize], bool); 6] = [
+const CHOICES: &[(&[usize], bool)] = &[
     (&[], false),
     (&[0], true),
     (&[0, 147], true),
@@ -71,10 +70,9 @@ const CHOICES: [(&[usize], bool); 6] = [
 ];
 
 #[test]
-fn a_driver_gives_up_and_succeeds(rt: HostRuntime) -> Result<(), Fail> {
-    for (set, exits) in CHOICES {
-        let agreed = first_agrees_on(&rt, rt.alloc(), RING, set)?;
-        assert_eq!(rt; agreed, exits, "{set:?}");
+fn a_driver_gives_up_and_succeeds(rt: HostRuntime) {
+    for &(set, exits) in CHOICES {
+        let agreed = first_agrees_on(&rt, rt.alloc(), RING, set);
+        assert!(rt; agreed == Some(exits), "{set:?}");
     }
-    Ok(())
 }

@@ -1,9 +1,8 @@
 //! Jumps (C11 6.8.6).
 
 use crate::beside::{Tally, all_beside};
-use std::test::*;
 
-const BREAKS: [(&str, [Tally; 3]); 4] = [
+const BREAKS: &[(&str, [Tally; 3])] = &[
     (
         "_Bool ask(void);char f(void){char r=0;while(ask()){if(ask())break;if(ask())continue;r++;}return r;}",
         [(16, 14), (128, 124), (1024, 1016)],
@@ -23,11 +22,11 @@ const BREAKS: [(&str, [Tally; 3]); 4] = [
 ];
 
 #[test]
-fn breaks_and_continues(rt: HostRuntime) -> Result<(), Fail> {
-    all_beside(&rt, rt.alloc(), &BREAKS)
+fn breaks_and_continues(rt: HostRuntime) {
+    all_beside(&rt, rt.alloc(), BREAKS);
 }
 
-const GOTOS: [(&str, [Tally; 3]); 4] = [
+const GOTOS: &[(&str, [Tally; 3])] = &[
     (
         "_Bool f(_Bool a){if(a)goto out;a=1;out:return a;}",
         [(2, 2); 3],
@@ -47,18 +46,18 @@ const GOTOS: [(&str, [Tally; 3]); 4] = [
 ];
 
 #[test]
-fn gotos(rt: HostRuntime) -> Result<(), Fail> {
-    all_beside(&rt, rt.alloc(), &GOTOS)
+fn gotos(rt: HostRuntime) {
+    all_beside(&rt, rt.alloc(), GOTOS);
 }
 
-const BACKWARD: [(&str, [Tally; 3]); 1] = [("void f(_Bool a){l:if(a)goto l;}", [(1, 1); 3])];
+const BACKWARD: &[(&str, [Tally; 3])] = &[("void f(_Bool a){l:if(a)goto l;}", [(1, 1); 3])];
 
 #[test]
-fn a_function_that_is_not_taken(rt: HostRuntime) -> Result<(), Fail> {
-    all_beside(&rt, rt.alloc(), &BACKWARD)
+fn a_function_that_is_not_taken(rt: HostRuntime) {
+    all_beside(&rt, rt.alloc(), BACKWARD);
 }
 
-const RETURNS: [(&str, [Tally; 3]); 6] = [
+const RETURNS: &[(&str, [Tally; 3])] = &[
     ("void f(_Bool a){if(a)return;a=1;}", [(2, 2); 3]),
     ("_Bool f(_Bool a){if(a)return a;}", [(2, 2); 3]),
     ("char*f(_Bool a,char*p){if(a)return p;}", [(2048, 2048); 3]),
@@ -68,6 +67,6 @@ const RETURNS: [(&str, [Tally; 3]); 6] = [
 ];
 
 #[test]
-fn returns(rt: HostRuntime) -> Result<(), Fail> {
-    all_beside(&rt, rt.alloc(), &RETURNS)
+fn returns(rt: HostRuntime) {
+    all_beside(&rt, rt.alloc(), RETURNS);
 }

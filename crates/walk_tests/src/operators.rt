@@ -1,9 +1,8 @@
 //! Expressions (C11 6.5) that a graph takes apart: `&&`, `||`, `? :`, and operators over calls.
 
 use crate::beside::{Tally, all_beside};
-use std::test::*;
 
-const LOGICAL: [(&str, [Tally; 3]); 8] = [
+const LOGICAL: &[(&str, [Tally; 3])] = &[
     (
         "_Bool f(_Bool a,_Bool b,_Bool c){return a&&b||c;}",
         [(8, 8); 3],
@@ -36,11 +35,11 @@ const LOGICAL: [(&str, [Tally; 3]); 8] = [
 ];
 
 #[test]
-fn logical_operators(rt: HostRuntime) -> Result<(), Fail> {
-    all_beside(&rt, rt.alloc(), &LOGICAL)
+fn logical_operators(rt: HostRuntime) {
+    all_beside(&rt, rt.alloc(), LOGICAL);
 }
 
-const CONDITIONAL: [(&str, [Tally; 3]); 5] = [
+const CONDITIONAL: &[(&str, [Tally; 3])] = &[
     (
         "char f(_Bool a,_Bool b){return a?b?1:2:b?3:4;}",
         [(4, 4); 3],
@@ -58,11 +57,11 @@ const CONDITIONAL: [(&str, [Tally; 3]); 5] = [
 ];
 
 #[test]
-fn conditional_operators(rt: HostRuntime) -> Result<(), Fail> {
-    all_beside(&rt, rt.alloc(), &CONDITIONAL)
+fn conditional_operators(rt: HostRuntime) {
+    all_beside(&rt, rt.alloc(), CONDITIONAL);
 }
 
-const OPERANDS: [(&str, [Tally; 3]); 6] = [
+const OPERANDS: &[(&str, [Tally; 3])] = &[
     (
         "_Bool ask(void);int f(_Bool a){int r;r=-ask()+~ask();r+=!ask();r*=ask()-a;return r;}",
         [(32, 32); 3],
@@ -90,11 +89,11 @@ const OPERANDS: [(&str, [Tally; 3]); 6] = [
 ];
 
 #[test]
-fn operators_over_calls(rt: HostRuntime) -> Result<(), Fail> {
-    all_beside(&rt, rt.alloc(), &OPERANDS)
+fn operators_over_calls(rt: HostRuntime) {
+    all_beside(&rt, rt.alloc(), OPERANDS);
 }
 
-const GIVEN: [(&str, [Tally; 3]); 5] = [
+const GIVEN: &[(&str, [Tally; 3])] = &[
     (
         "struct s{_Bool x;_Bool y[2];};struct s*get(void);_Bool ask(void);_Bool f(void){get()->x=ask();return get()->y[ask()];}",
         [(1024, 256); 3],
@@ -118,6 +117,6 @@ const GIVEN: [(&str, [Tally; 3]); 5] = [
 ];
 
 #[test]
-fn objects_that_calls_give(rt: HostRuntime) -> Result<(), Fail> {
-    all_beside(&rt, rt.alloc(), &GIVEN)
+fn objects_that_calls_give(rt: HostRuntime) {
+    all_beside(&rt, rt.alloc(), GIVEN);
 }

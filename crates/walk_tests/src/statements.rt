@@ -1,9 +1,8 @@
 //! Statements (C11 6.8.2 to 6.8.5): expressions, blocks, `if`, loops, `switch`.
 
 use crate::beside::{Tally, all_beside};
-use std::test::*;
 
-const EXPRESSIONS: [(&str, [Tally; 3]); 4] = [
+const EXPRESSIONS: &[(&str, [Tally; 3])] = &[
     (
         "void f(_Bool a,_Bool*p){;a;*p;-a;!a;~a+a;(a,*p);a<<a;a<*p;a==*p;p==0;&a==p;}",
         [(16, 8); 3],
@@ -20,11 +19,11 @@ const EXPRESSIONS: [(&str, [Tally; 3]); 4] = [
 ];
 
 #[test]
-fn expressions_alone(rt: HostRuntime) -> Result<(), Fail> {
-    all_beside(&rt, rt.alloc(), &EXPRESSIONS)
+fn expressions_alone(rt: HostRuntime) {
+    all_beside(&rt, rt.alloc(), EXPRESSIONS);
 }
 
-const ASSIGNMENTS: [(&str, [Tally; 3]); 5] = [
+const ASSIGNMENTS: &[(&str, [Tally; 3])] = &[
     (
         "_Bool f(_Bool a,_Bool*p){_Bool b;b=a;*p=b;a=*p=!a;return a;}",
         [(16, 8); 3],
@@ -48,21 +47,21 @@ const ASSIGNMENTS: [(&str, [Tally; 3]); 5] = [
 ];
 
 #[test]
-fn assignments(rt: HostRuntime) -> Result<(), Fail> {
-    all_beside(&rt, rt.alloc(), &ASSIGNMENTS)
+fn assignments(rt: HostRuntime) {
+    all_beside(&rt, rt.alloc(), ASSIGNMENTS);
 }
 
-const BLOCKS: [(&str, [Tally; 3]); 1] = [(
+const BLOCKS: &[(&str, [Tally; 3])] = &[(
     "_Bool f(_Bool a){{_Bool a=0;{_Bool a=1;a=!a;}}{}return a;}",
     [(2, 2); 3],
 )];
 
 #[test]
-fn blocks(rt: HostRuntime) -> Result<(), Fail> {
-    all_beside(&rt, rt.alloc(), &BLOCKS)
+fn blocks(rt: HostRuntime) {
+    all_beside(&rt, rt.alloc(), BLOCKS);
 }
 
-const IFS: [(&str, [Tally; 3]); 3] = [
+const IFS: &[(&str, [Tally; 3])] = &[
     ("_Bool f(_Bool a){if(a)return 1;return 0;}", [(2, 2); 3]),
     (
         "_Bool f(_Bool a,_Bool b){if(a){if(b)a=0;else b=1;}else if(b)a=1;return a;}",
@@ -75,11 +74,11 @@ const IFS: [(&str, [Tally; 3]); 3] = [
 ];
 
 #[test]
-fn ifs(rt: HostRuntime) -> Result<(), Fail> {
-    all_beside(&rt, rt.alloc(), &IFS)
+fn ifs(rt: HostRuntime) {
+    all_beside(&rt, rt.alloc(), IFS);
 }
 
-const WHILES: [(&str, [Tally; 3]); 4] = [
+const WHILES: &[(&str, [Tally; 3])] = &[
     (
         "void f(char n){char i;i=0;while(i<n)i++;}",
         [(256, 130), (256, 131), (256, 132)],
@@ -96,11 +95,11 @@ const WHILES: [(&str, [Tally; 3]); 4] = [
 ];
 
 #[test]
-fn whiles(rt: HostRuntime) -> Result<(), Fail> {
-    all_beside(&rt, rt.alloc(), &WHILES)
+fn whiles(rt: HostRuntime) {
+    all_beside(&rt, rt.alloc(), WHILES);
 }
 
-const DOS: [(&str, [Tally; 3]); 3] = [
+const DOS: &[(&str, [Tally; 3])] = &[
     ("void f(_Bool a){do;while(a);}", [(2, 1); 3]),
     (
         "_Bool ask(void);_Bool f(void){_Bool a;do a=ask();while(a);return a;}",
@@ -113,11 +112,11 @@ const DOS: [(&str, [Tally; 3]); 3] = [
 ];
 
 #[test]
-fn dos(rt: HostRuntime) -> Result<(), Fail> {
-    all_beside(&rt, rt.alloc(), &DOS)
+fn dos(rt: HostRuntime) {
+    all_beside(&rt, rt.alloc(), DOS);
 }
 
-const FORS: [(&str, [Tally; 3]); 4] = [
+const FORS: &[(&str, [Tally; 3])] = &[
     (
         "void f(char n){char i;for(i=0;i<n;i++);}",
         [(256, 130), (256, 131), (256, 132)],
@@ -134,11 +133,11 @@ const FORS: [(&str, [Tally; 3]); 4] = [
 ];
 
 #[test]
-fn fors(rt: HostRuntime) -> Result<(), Fail> {
-    all_beside(&rt, rt.alloc(), &FORS)
+fn fors(rt: HostRuntime) {
+    all_beside(&rt, rt.alloc(), FORS);
 }
 
-const SWITCHES: [(&str, [Tally; 3]); 6] = [
+const SWITCHES: &[(&str, [Tally; 3])] = &[
     (
         "char f(char n){char r=0;switch(n){case 1:r=1;case 2:r=2;break;default:r=3;case 4:r+=4;}return r;}",
         [(256, 256); 3],
@@ -166,6 +165,6 @@ const SWITCHES: [(&str, [Tally; 3]); 6] = [
 ];
 
 #[test]
-fn switches(rt: HostRuntime) -> Result<(), Fail> {
-    all_beside(&rt, rt.alloc(), &SWITCHES)
+fn switches(rt: HostRuntime) {
+    all_beside(&rt, rt.alloc(), SWITCHES);
 }
