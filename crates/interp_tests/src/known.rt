@@ -1,9 +1,9 @@
 //! Calls that act by a summary, which is written by hand.
 
-use crate::runs::{Given, checked, replayed};
+use crate::runs::{Given, checked, is_text, replayed};
 use sc_base::{List, OutOfMemory};
+use sc_typed::Program;
 use std::alloc::Global;
-use std::test::*;
 use sum_rows::{Gives, Item, ItemRows, Path, Root, Row, State, Step, Summary, Verdict, Write};
 
 const UNLOCKED: State = State::At(0);
@@ -88,12 +88,24 @@ fn makes_one(alloc: Global) -> Result<Verdict, OutOfMemory> {
     Ok(done(alloc, 1, items, writes))
 }
 
-// The text of a run of the second function of a file, which uses the summary of the first.
-fn second(alloc: Global, text: &str, verdict: Verdict, choice: &str) -> Result<Vec<u8>, Fail> {
-    let program = checked(alloc, text)?;
-    let verdicts = vec![in alloc; verdict]?;
+// Whether the run of the second function of a file, which uses the summary of the first, has that text.
+fn is_second(
+    alloc: Global,
+    text: &str,
+    verdict: Result<Verdict, OutOfMemory>,
+    choice: &str,
+    want: &str,
+) -> bool {
+    match (checked(alloc, text), verdict) {
+        (Some(program), Ok(verdict)) => is_text(second(alloc, &program, verdict, choice), want),
+        _ => false,
+    }
+}
+
+fn second(alloc: Global, program: &Program, verdict: Verdict, choice: &str) -> Option<Vec<u8>> {
+    let verdicts = vec![in alloc; verdict].ok()?;
     let given = Given {
-        program: &program,
+        program,
         function: 1,
         kept: &[0],
         verdicts: verdicts.as_slice(),
@@ -105,7 +117,7 @@ const TWICE: &str =
     "typedef struct{int v;}spinlock_t;\nvoid g(spinlock_t*l){spin_lock(l);}\nvoid h(spinlock_t*l){g(l);g(l);}";
 
 /// A choice of a run of it, and the text of that run.
-const CALLS: [(&str, &str); 5] = [
+const CALLS: &[(&str, &str)] = &[
     (
         "98",
         "3:22 call g\n3:27 call g\n3:27 error *l\noutcome error *l\n",
@@ -117,40 +129,42 @@ const CALLS: [(&str, &str); 5] = [
 ];
 
 #[test]
-fn a_lock_is_taken_twice_by_calls(rt: HostRuntime) -> Result<(), Fail> {
-    for (choice, want) in CALLS {
-        let verdict = locks_once(rt.alloc())?;
-        let found = second(rt.alloc(), TWICE, verdict, choice)?;
-        assert_eq!(rt; found.as_slice(), want.as_bytes(), "{choice}");
+fn a_lock_is_taken_twice_by_calls(rt: HostRuntime) {
+    for &(choice, want) in CALLS {
+        let verdict = locks_once(rt.alloc());
+        assert!(rt;
+            is_second(rt.alloc(), TWICE, verdict, choice, want),
+            "{choice}"
+        );
     }
-    Ok(())
 }
 
 const SAME: &str =
     "typedef struct{int v;}spinlock_t;\nvoid g(spinlock_t*a,spinlock_t*b){spin_lock(a);spin_lock(b);}\nvoid h(spinlock_t*p){g(p,p);}";
 
 /// A choice of a run of it, and the text of that run.
-const ALIASES: [(&str, &str); 3] = [
+const ALIASES: &[(&str, &str)] = &[
     ("80", "3:22 call g\noutcome aside alias\n"),
     ("c0", "3:22 call g\noutcome aside alias\n"),
     ("00", "3:22 call g\noutcome aside norow\n"),
 ];
 
 #[test]
-fn two_paths_lead_to_one_lock(rt: HostRuntime) -> Result<(), Fail> {
-    for (choice, want) in ALIASES {
-        let verdict = locks_both(rt.alloc())?;
-        let found = second(rt.alloc(), SAME, verdict, choice)?;
-        assert_eq!(rt; found.as_slice(), want.as_bytes(), "{choice}");
+fn two_paths_lead_to_one_lock(rt: HostRuntime) {
+    for &(choice, want) in ALIASES {
+        let verdict = locks_both(rt.alloc());
+        assert!(rt;
+            is_second(rt.alloc(), SAME, verdict, choice, want),
+            "{choice}"
+        );
     }
-    Ok(())
 }
 
 const MAKER: &str =
     "void mk(char**o){*o=kmalloc(4,0);}\nvoid use(_Bool c){char*p;mk(&p);if(c)kfree(p);}";
 
 /// A choice of a run of it, and the text of that run.
-const OUTS: [(&str, &str); 6] = [
+const OUTS: &[(&str, &str)] = &[
     ("000", "2:26 call mk\n2:33 if 0\n2:47 end\noutcome exit\n"),
     ("200", "2:26 call mk\n2:33 if 0\n2:47 end\noutcome exit\n"),
     ("400", "2:26 call mk\noutcome aside norow\n"),
@@ -166,19 +180,20 @@ const OUTS: [(&str, &str); 6] = [
 ];
 
 #[test]
-fn an_object_is_given_through_a_parameter(rt: HostRuntime) -> Result<(), Fail> {
-    for (choice, want) in OUTS {
-        let verdict = makes_one(rt.alloc())?;
-        let found = second(rt.alloc(), MAKER, verdict, choice)?;
-        assert_eq!(rt; found.as_slice(), want.as_bytes(), "{choice}");
+fn an_object_is_given_through_a_parameter(rt: HostRuntime) {
+    for &(choice, want) in OUTS {
+        let verdict = makes_one(rt.alloc());
+        assert!(rt;
+            is_second(rt.alloc(), MAKER, verdict, choice, want),
+            "{choice}"
+        );
     }
-    Ok(())
 }
 
 const CYCLE: &str = "void g(int n);void f(int n){if(n)g(n-1);}void g(int n){f(n);}";
 
 /// A choice of a run of it, and the text of that run.
-const KEPT: [(&str, &str); 2] = [
+const KEPT: &[(&str, &str)] = &[
     (
         "00000001",
         "1:29 if 1\n1:34 call g\n1:41 end\noutcome exit\n",
@@ -188,10 +203,9 @@ const KEPT: [(&str, &str); 2] = [
 
 // The text of a run of the first function of a file, whose call of the second one is kept. That one comes to its end
 // where it is given 0.
-fn kept(alloc: Global, choice: &str) -> Result<Vec<u8>, Fail> {
+fn kept(alloc: Global, choice: &str) -> Option<Vec<u8>> {
     let program = checked(alloc, CYCLE)?;
-    let items = vec![in alloc; ends(alloc, 0)?]?;
-    let verdicts = vec![in alloc; done(alloc, 1, items, List::new(alloc))]?;
+    let verdicts = ends_only(alloc).ok()?;
     let given = Given {
         program: &program,
         function: 0,
@@ -201,11 +215,14 @@ fn kept(alloc: Global, choice: &str) -> Result<Vec<u8>, Fail> {
     replayed(alloc, given, choice)
 }
 
+fn ends_only(alloc: Global) -> Result<Vec<Verdict>, OutOfMemory> {
+    let items = vec![in alloc; ends(alloc, 0)?]?;
+    Ok(vec![in alloc; done(alloc, 1, items, List::new(alloc))]?)
+}
+
 #[test]
-fn an_edge_of_a_cycle_is_kept(rt: HostRuntime) -> Result<(), Fail> {
-    for (choice, want) in KEPT {
-        let found = kept(rt.alloc(), choice)?;
-        assert_eq!(rt; found.as_slice(), want.as_bytes(), "{choice}");
+fn an_edge_of_a_cycle_is_kept(rt: HostRuntime) {
+    for &(choice, want) in KEPT {
+        assert!(rt; is_text(kept(rt.alloc(), choice), want), "{choice}");
     }
-    Ok(())
 }

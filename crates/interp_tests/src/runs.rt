@@ -21,7 +21,6 @@ use sc_tree::ctype::Widths;
 use sc_tree::unit::Unit;
 use sc_typed::Program;
 use std::alloc::Global;
-use std::test::Fail;
 use sum_rows::{Event, Verdict};
 
 /// More bytes than any text here has, and more names.
@@ -46,12 +45,12 @@ fn read(alloc: Global, names: &mut Names, text: &str) -> Result<Unit, LexAnswer>
 }
 
 /// The typed program of a file.
-pub fn checked(alloc: Global, text: &str) -> Result<Program, Fail> {
+pub fn checked(alloc: Global, text: &str) -> Option<Program> {
     let mut names = Names::new(alloc);
     let mut units = Vec::new(alloc);
-    units.push(read(alloc, &mut names, text)?)?;
+    units.push(read(alloc, &mut names, text).ok()?).ok()?;
     let files = List::new(alloc);
-    Ok(check(alloc, names, files, units.as_slice(), Widths::Ilp32, None)?)
+    check(alloc, names, files, units.as_slice(), Widths::Ilp32, None).ok()
 }
 
 /// The program with its first function alone.
@@ -224,13 +223,37 @@ fn written(
 }
 
 /// The text of the run on the choice that these digits spell.
-pub fn replayed(alloc: Global, given: Given, spelled: &str) -> Result<Vec<u8>, Fail> {
-    let table = machine(alloc)?;
+pub fn replayed(alloc: Global, given: Given, spelled: &str) -> Option<Vec<u8>> {
+    let Ok(table) = machine(alloc) else {
+        return None;
+    };
     let here = context(given, &table);
-    let laid = laid_out(alloc, given)?;
+    let Ok(laid) = laid_out(alloc, given) else {
+        return None;
+    };
     let found = nothing(alloc);
-    let mut runs = reserved(alloc, &here, &found, &laid)?;
-    let bits = bits_of(alloc, spelled)?;
+    let Ok(mut runs) = reserved(alloc, &here, &found, &laid) else {
+        return None;
+    };
+    let Ok(bits) = bits_of(alloc, spelled) else {
+        return None;
+    };
     let outcome = runs.run(up_to(bits.as_slice(), laid.choice_len()));
-    Ok(written(alloc, given, &laid, runs.trace(), outcome)?)
+    written(alloc, given, &laid, runs.trace(), outcome).ok()
+}
+
+/// Whether there is such a text.
+pub fn is_text(found: Option<Vec<u8>>, want: &str) -> bool {
+    match found {
+        Some(found) => found.as_slice() == want.as_bytes(),
+        None => false,
+    }
+}
+
+/// Whether the run of the first function of a file, on that choice, has that text.
+pub fn is_replayed(alloc: Global, text: &str, spelled: &str, want: &str) -> bool {
+    match checked(alloc, text) {
+        Some(program) => is_text(replayed(alloc, first(&program), spelled), want),
+        None => false,
+    }
 }

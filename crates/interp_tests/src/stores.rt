@@ -1,7 +1,5 @@
 //! What is left behind a run, run after run, and questions to a run that is over.
 
-ghost use Rattle.fsm_spec.specs.Table.{IsWhole};
-
 use crate::runs::{
     Given, bits_of, checked, context, first, laid_out, machine, nothing, reserved, texts, up_to,
 };
@@ -10,12 +8,9 @@ use run_questions::Query;
 use run_store::Flag;
 use run_world::Value;
 use sc_base::{OutOfMemory, Pos};
-use sc_gather::Context;
 use sc_interp::{Machine, Outcome};
 use sc_world::Reason;
 use std::alloc::Global;
-use std::process::Abort;
-use std::test::*;
 use sum_rows::{Gives, Row, State};
 
 const UNLOCKED: State = State::At(0);
@@ -26,7 +21,7 @@ const TAKER: &str =
     "typedef struct{int v;}spinlock_t;\nvoid f(_Bool c,spinlock_t*l){spin_lock(l);if(c)spin_lock(l);}";
 
 /// A choice, how its run ends, the state of the lock then, whether it was touched, and how many events there were.
-const LEFT: [(&str, Outcome, u64, bool, usize); 6] = [
+const LEFT: &[(&str, Outcome, u64, bool, usize)] = &[
     ("c", Outcome::Error(2), 1, true, 4),
     ("4", Outcome::Exit(Value::Nothing), 1, true, 3),
     ("0", Outcome::Aside(Reason::Null), 0, false, 1),
@@ -35,46 +30,57 @@ const LEFT: [(&str, Outcome, u64, bool, usize); 6] = [
     ("c", Outcome::Error(2), 1, true, 4),
 ];
 
-// The run on these bits ends so and leaves that, whatever ran before on this memory.
+// Whether the run on these bits ends so and leaves that, whatever ran before on this memory.
 fn leaves(
-    rt: &impl Abort,
     runs: &mut Machine,
     bits: &[bool],
-    left: (&str, Outcome, u64, bool, usize),
-) {
-    let (spelled, outcome, state, touched, events) = left;
-    assert_eq!(rt; runs.run(bits), outcome, "{spelled}");
-    assert_eq!(rt; runs.state(2), state, "{spelled}");
-    assert_eq!(rt; runs.has_mark(2, Flag::Touched), touched, "{spelled}");
-    assert_eq!(rt; runs.trace().len(), events, "{spelled}");
+    outcome: Outcome,
+    state: u64,
+    touched: bool,
+    events: usize,
+) -> bool {
+    runs.run(bits) == outcome
+        && runs.state(2) == state
+        && runs.has_mark(2, Flag::Touched) == touched
+        && runs.trace().len() == events
 }
 
-// Each of the runs in turn, on one memory.
-fn leave_all(rt: &impl Abort, alloc: Global, runs: &mut Machine) -> Result<(), OutOfMemory> {
-    for left in LEFT {
-        let bits = bits_of(alloc, left.0)?;
+// Whether each of the runs does in turn, on one memory.
+fn leave_all(alloc: Global, runs: &mut Machine) -> Result<bool, OutOfMemory> {
+    for &(spelled, outcome, state, touched, events) in LEFT {
+        let bits = bits_of(alloc, spelled)?;
         let choice = up_to(bits.as_slice(), runs.places.choice_len());
-        leaves(rt, runs, choice, left);
+        if !leaves(runs, choice, outcome, state, touched, events) {
+            return Ok(false);
+        }
     }
-    Ok(())
+    Ok(true)
+}
+
+// Location 2 is the lock that `l` points to.
+fn begin_anew(alloc: Global, given: Given) -> bool {
+    let Ok(table) = machine(alloc) else {
+        return false;
+    };
+    let here = context(given, &table);
+    let Ok(laid) = laid_out(alloc, given) else {
+        return false;
+    };
+    let found = nothing(alloc);
+    match reserved(alloc, &here, &found, &laid) {
+        Ok(mut runs) => leave_all(alloc, &mut runs) == Ok(true),
+        Err(_) => false,
+    }
 }
 
 #[test]
-fn each_run_begins_anew(rt: HostRuntime) -> Result<(), Fail> {
-    // Location 2 is the lock that `l` points to.
-    let alloc = rt.alloc();
-    let program = checked(alloc, TAKER)?;
-    let table = machine(alloc)?;
-    let here = context(first(&program), &table);
-    let laid = laid_out(alloc, first(&program))?;
-    let found = nothing(alloc);
-    let mut runs = reserved(alloc, &here, &found, &laid)?;
-    leave_all(&rt, alloc, &mut runs)?;
-    Ok(())
+fn each_run_begins_anew(rt: HostRuntime) {
+    let program = checked(rt.alloc(), TAKER);
+    assert!(rt; matches!(&program, Some(program) if begin_anew(rt.alloc(), first(program))));
 }
 
 /// A function, the choice of a run of it, and what it gives.
-const GIVEN: [(&str, &str, Value); 16] = [
+const GIVEN: &[(&str, &str, Value)] = &[
     (
         "int f(int a,int b){return a/b;}",
         "8000000000000002",
@@ -146,33 +152,33 @@ const GIVEN: [(&str, &str, Value); 16] = [
 ];
 
 // How the run of a function ends, on the choice that these digits spell.
-fn ends(alloc: Global, here: &Context, given: Given, spelled: &str) -> Result<Outcome, Fail>
-    requires { IsWhole here.now.machine.now }
-{
-    let laid = laid_out(alloc, given)?;
+fn ends(alloc: Global, given: Given, spelled: &str) -> Option<Outcome> {
+    let Ok(table) = machine(alloc) else {
+        return None;
+    };
+    let here = context(given, &table);
+    let Ok(laid) = laid_out(alloc, given) else {
+        return None;
+    };
     let found = nothing(alloc);
-    let mut runs = reserved(alloc, here, &found, &laid)?;
-    let bits = bits_of(alloc, spelled)?;
-    Ok(runs.run(up_to(bits.as_slice(), laid.choice_len())))
+    let Ok(mut runs) = reserved(alloc, &here, &found, &laid) else {
+        return None;
+    };
+    let bits = bits_of(alloc, spelled).ok()?;
+    Some(runs.run(up_to(bits.as_slice(), laid.choice_len())))
 }
 
-fn gives(alloc: Global, text: &str, spelled: &str) -> Result<Outcome, Fail> {
+fn gives(alloc: Global, text: &str, spelled: &str) -> Option<Outcome> {
     let program = checked(alloc, text)?;
-    let table = machine(alloc)?;
-    let here = context(first(&program), &table);
-    ends(alloc, &here, first(&program), spelled)
+    ends(alloc, first(&program), spelled)
 }
 
 #[test]
-fn functions_give_values(rt: HostRuntime) -> Result<(), Fail> {
-    for (text, spelled, value) in GIVEN {
-        assert_eq!(rt;
-            gives(rt.alloc(), text, spelled)?,
-            Outcome::Exit(value),
-            "{text} {spelled}"
-        );
+fn functions_give_values(rt: HostRuntime) {
+    for &(text, spelled, value) in GIVEN {
+        let found = gives(rt.alloc(), text, spelled);
+        assert!(rt; found == Some(Outcome::Exit(value)), "{text} {spelled}");
     }
-    Ok(())
 }
 
 fn row(given: u8, before: State, after: State) -> Row {
@@ -200,32 +206,30 @@ fn answer(
 }
 
 // The same, on the choice that these digits spell.
-fn answers(
-    alloc: Global,
-    here: &Context,
-    given: Given,
-    spelled: &str,
-    query: Query,
-) -> Result<bool, Fail>
-    requires { IsWhole here.now.machine.now }
-{
-    let laid = laid_out(alloc, given)?;
+fn answers(alloc: Global, given: Given, spelled: &str, query: Query) -> Option<bool> {
+    let Ok(table) = machine(alloc) else {
+        return None;
+    };
+    let here = context(given, &table);
+    let Ok(laid) = laid_out(alloc, given) else {
+        return None;
+    };
     let found = nothing(alloc);
-    let mut runs = reserved(alloc, here, &found, &laid)?;
-    let bits = bits_of(alloc, spelled)?;
+    let Ok(mut runs) = reserved(alloc, &here, &found, &laid) else {
+        return None;
+    };
+    let bits = bits_of(alloc, spelled).ok()?;
     let choice = up_to(bits.as_slice(), laid.choice_len());
-    Ok(answer(alloc, given, &mut runs, choice, query)?)
+    answer(alloc, given, &mut runs, choice, query).ok()
 }
 
-fn asked(alloc: Global, text: &str, spelled: &str, query: Query) -> Result<bool, Fail> {
+fn asked(alloc: Global, text: &str, spelled: &str, query: Query) -> Option<bool> {
     let program = checked(alloc, text)?;
-    let table = machine(alloc)?;
-    let here = context(first(&program), &table);
-    answers(alloc, &here, first(&program), spelled, query)
+    answers(alloc, first(&program), spelled, query)
 }
 
 #[test]
-fn a_run_answers_on_its_lock(rt: HostRuntime) -> Result<(), Fail> {
+fn a_run_answers_on_its_lock(rt: HostRuntime) {
     // The answers of the run that takes the lock once, and of the one that takes it twice.
     let questions = [
         (Query::Touches(2), true, true),
@@ -239,26 +243,33 @@ fn a_run_answers_on_its_lock(rt: HostRuntime) -> Result<(), Fail> {
         (Query::EndsAt(2), false, false),
     ];
     for (query, once, twice) in questions {
-        assert_eq!(rt; asked(rt.alloc(), TAKER, "4", query)?, once);
-        assert_eq!(rt; asked(rt.alloc(), TAKER, "c", query)?, twice);
+        assert!(rt; asked(rt.alloc(), TAKER, "4", query) == Some(once));
+        assert!(rt; asked(rt.alloc(), TAKER, "c", query) == Some(twice));
     }
-    Ok(())
 }
+
+const FREER: &str = "void f(char*p){kfree(p);}";
 
 const KEEPER: &str = "void f(int n){char*p=kmalloc(8,0);if(n)goto out;kfree(p);out:;}";
 
 #[test]
-fn a_run_answers_on_its_object(rt: HostRuntime) -> Result<(), Fail> {
+fn a_run_answers_on_its_object(rt: HostRuntime) {
     let lost = Query::Leaks(Pos {
         file: 0,
         line: 1,
         col: 22,
     });
-    assert!(rt; asked(rt.alloc(), KEEPER, "00000001800", lost)?);
-    assert!(rt; !asked(rt.alloc(), KEEPER, "00000000800", lost)?);
-    assert!(rt; !asked(rt.alloc(), KEEPER, "00000001000", lost)?);
     let freed = Query::Params(0, row(1, State::Nil, State::Freed));
-    assert!(rt; asked(rt.alloc(), "void f(char*p){kfree(p);}", "800", freed)?);
-    assert!(rt; !asked(rt.alloc(), "void f(char*p){kfree(p);}", "000", freed)?);
-    Ok(())
+    for (text, choice, query, want) in [
+        (KEEPER, "00000001800", lost, true),
+        (KEEPER, "00000000800", lost, false),
+        (KEEPER, "00000001000", lost, false),
+        (FREER, "800", freed, true),
+        (FREER, "000", freed, false),
+    ] {
+        assert!(rt;
+            asked(rt.alloc(), text, choice, query) == Some(want),
+            "{choice}"
+        );
+    }
 }

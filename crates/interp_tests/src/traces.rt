@@ -1,10 +1,9 @@
 //! Runs that come to their end, or to an error of locks.
 
-use crate::runs::{checked, first, replayed};
-use std::test::*;
+use crate::runs::is_replayed;
 
 /// A file, the choice of a run of its first function, and the text of that run.
-const RUNS: [(&str, &str, &str); 27] = [
+const RUNS: &[(&str, &str, &str)] = &[
     (
         "typedef struct{int v;}spinlock_t;\nvoid f(_Bool c,spinlock_t*l){spin_lock(l);if(c)spin_lock(l);}",
         "c",
@@ -143,11 +142,11 @@ const RUNS: [(&str, &str, &str); 27] = [
 ];
 
 #[test]
-fn runs_to_an_end(rt: HostRuntime) -> Result<(), Fail> {
-    for (text, choice, want) in RUNS {
-        let program = checked(rt.alloc(), text)?;
-        let found = replayed(rt.alloc(), first(&program), choice)?;
-        assert_eq!(rt; found.as_slice(), want.as_bytes(), "{text} {choice}");
+fn runs_to_an_end(rt: HostRuntime) {
+    for &(text, choice, want) in RUNS {
+        assert!(rt;
+            is_replayed(rt.alloc(), text, choice, want),
+            "{text} {choice}"
+        );
     }
-    Ok(())
 }
