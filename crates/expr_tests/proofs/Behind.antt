@@ -1,5 +1,5 @@
 -- From what was ready to what the next expression finds ready.
-use Rattle.std.proofs.Common.{◌≡◌, ℕ, ◌^◌, ◌<◌, ◌≤◌, List, [], length, refl, arith}
+use Rattle.std.proofs.Common.{◌≡◌, ℕ, ◌^◌, ◌<◌, ◌≤◌, List, [], length, subst, sym, arith}
 use Rattle.bit_net.specs.declared.nodes.Node.{Node}
 use Rattle.bit_net.specs.Runs.{Grown}
 use Rattle.gl_store.specs.declared.stores.Location.{Location}
@@ -30,12 +30,12 @@ begin_behind a n0 n1 want e l0 l1 b r grown made ready =
 pub begin_first : (a : Around) (ns : List Node) (l : List Location) (b : ℕ) → length (laid.layout_of a.layout.now.places.now).locations < 2 ^ 32
     → laid.layout_of a.layout.now.places.now ≡ layout_of a → temps_of a ≡ [] → b < length ns → IsEntered (source_of a) (layout_of a) ns l → CanBegin a ns l b
 unfolding temps_top
-begin_first a ns l b few same refl low made =
+begin_first a ns l b few same none low made =
     record {
       few = few;
       same = same;
       laid = made.laid;
       store = made.below;
       live = low;
-      temps = omega (arith, low);
+      temps = subst (λ xs. temps_top xs ≤ length ns) (sym none) (omega arith);
     }
