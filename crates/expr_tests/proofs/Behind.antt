@@ -27,10 +27,10 @@ begin_behind a n0 n1 want e l0 l1 b r grown made ready =
       temps = omega (arith, ready.temps, grown.longer);
     }
 
-pub begin_first : (a : Around) (ns : List Node) (l : List Location) (b : ℕ) → length (laid.layout_of a.layout.now.places.now).locations < 2 ^ 32
+pub begin_first : {a : Around} {ns : List Node} {l : List Location} {b : ℕ} → length (laid.layout_of a.layout.now.places.now).locations < 2 ^ 32
     → laid.layout_of a.layout.now.places.now ≡ layout_of a → temps_of a ≡ [] → b < length ns → IsEntered (source_of a) (layout_of a) ns l → CanBegin a ns l b
 unfolding temps_top
-begin_first a ns l b few same none low made =
+begin_first {a} {ns} few same none low made =
     record {
       few = few;
       same = same;

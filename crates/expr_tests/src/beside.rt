@@ -239,7 +239,7 @@ fn gates_for<'p, 'm, 'f>(
 ) -> Option<Gates>
     ensures { IfSome result (λ g. input_count g.net ≡ (laid.layout_of places.now).bits) }
 {
-    if places.locations.len() > u32::MAX as usize {
+    if places.count() > u32::MAX as usize {
         return None;
     }
     let body = ground.here.body()?;

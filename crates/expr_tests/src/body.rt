@@ -141,7 +141,6 @@ fn all_made(
 }
 
 // The gates of the expressions of a body; none where one of them has none.
-#[tactic(auto, using(crate::proofs::Behind::begin_first), unfolding(run_world::specs::Seen::env))]
 fn walked(
     alloc: Global,
     here: &Here,
@@ -165,6 +164,7 @@ fn walked(
 }
 
 /// The gates of a body; none where it is no list of expressions that all have gates.
+#[tactic(auto, unfolding(run_world::specs::Seen::env))]
 pub fn gates_of(
     alloc: Global,
     here: &Here,

@@ -1,4 +1,3 @@
-use Rattle.std.proofs.Common.{◌≡◌}
 use Rattle.bit_net.specs.Runs.{Grown}
 use Rattle.tr_walk.specs.Walks.{CanBegin}
 use Rattle.expr_tests.proofs.body.all_made.Given as goal

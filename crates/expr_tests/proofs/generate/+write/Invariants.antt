@@ -1,4 +1,3 @@
-use Rattle.std.proofs.Common.{◌≡◌, ℕ, ◌<◌}
 use Rattle.expr_tests.proofs.generate.+write.Given as goal
 
 -- parts of parts are less deep

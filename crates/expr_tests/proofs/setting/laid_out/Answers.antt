@@ -1,3 +1,4 @@
+use Rattle.std.specs.Prelude.{[]}
 use Rattle.sc_world.specs.Programs.{source}
 use Rattle.expr_tests.proofs.Layouts.{closed_if}
 use Rattle.expr_tests.proofs.setting.laid_out.Goals as goal
