@@ -41,13 +41,19 @@ const REASONS: [Reason; 11] = [
     Reason::NoReturn,
 ];
 
-/// On how many choices a function was tried, on how many of them it comes to its end, and how many gates were made for its
-/// expressions.
-#[derive(Clone, Copy, Debug, PartialEq, Eq)]
+/// What came of a function.
+#[derive(Clone, Copy)]
 pub struct Tally {
+    /// On how many choices it was tried.
     pub choices: u64,
+    /// On how many of them it comes to its end.
     pub exits: u64,
+    /// How many gates were made for its expressions.
     pub gates: usize,
+    /// How its run ends on the last choice.
+    pub last: Option<Outcome>,
+    /// How many targets the pointer has that its last expression gives; none where it gives another value.
+    pub targets: usize,
 }
 
 // The value of a gate; none of what is no gate of the net.
@@ -157,8 +163,8 @@ fn tells(values: &[bool], gates: &Gates, slots: &[Slot], outcome: Outcome) -> bo
         && are_slots(values, gates.stored.locations.as_slice(), slots)
 }
 
-// Whether the run on a choice comes to its end; none where the gates do not tell it, or for want of memory.
-fn agrees(alloc: Global, runs: &mut Machine, gates: &Gates, choice: &[bool]) -> Option<bool>
+// How the run on a choice ends; none where the gates do not tell it, or for want of memory.
+fn agrees(alloc: Global, runs: &mut Machine, gates: &Gates, choice: &[bool]) -> Option<Outcome>
     requires inputs { length choice.now ≡ input_count gates.now.net }
 {
     let Ok(mut values) = vec![in alloc; false; gates.net.len()] else {
@@ -174,7 +180,7 @@ fn agrees(alloc: Global, runs: &mut Machine, gates: &Gates, choice: &[bool]) -> 
     ) {
         return None;
     }
-    Some(matches!(outcome, Outcome::Exit(_)))
+    Some(outcome)
 }
 
 // The next choice: all in turn where there are few, else any.
@@ -208,6 +214,21 @@ fn count(made: &[Made]) -> usize {
     count
 }
 
+// How many targets the pointer has that the last expression gives.
+fn targets(made: &[Made]) -> usize {
+    match made.last() {
+        Some(Made { evaled, .. }) => match &evaled.val {
+            Val::Set(set) => set.pairs.len(),
+            Val::Word(_) | Val::Unit => 0,
+        },
+        None => 0,
+    }
+}
+
+fn is_exit(outcome: Outcome) -> bool {
+    matches!(outcome, Outcome::Exit(_))
+}
+
 // The same on all choices, or on some where there are many.
 fn all_agree(alloc: Global, runs: &mut Machine, gates: &Gates, bits: usize) -> Option<Tally>
     requires inputs { bits ≡ input_count gates.now.net }
@@ -217,16 +238,19 @@ fn all_agree(alloc: Global, runs: &mut Machine, gates: &Gates, bits: usize) -> O
     };
     let mut numbers = Numbers { state: 1 };
     let mut exits = 0u64;
+    let mut last = None;
     for _choice in 0..choices(bits) {
-        if agrees(alloc, runs, gates, choice.as_slice())? {
-            exits = exits.saturating_add(1);
-        }
+        let outcome = agrees(alloc, runs, gates, choice.as_slice())?;
+        exits = exits.saturating_add(u64::from(is_exit(outcome)));
+        last = Some(outcome);
         go_on(&mut choice, &mut numbers);
     }
     Some(Tally {
         choices: choices(bits),
         exits,
         gates: count(gates.made.as_slice()),
+        last,
+        targets: targets(gates.made.as_slice()),
     })
 }
 

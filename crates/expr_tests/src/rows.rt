@@ -1,6 +1,8 @@
 //! Single functions, each kind of expression among them (C11 6.5, 6.3).
 
-use crate::beside::beside;
+use crate::beside::{Tally, beside};
+use run_world::Value;
+use sc_interp::Outcome;
 use sc_tree::ctype::Widths;
 use std::alloc::Global;
 use std::process::Abort;
@@ -20,6 +22,34 @@ fn all_beside(rt: &impl Abort, alloc: Global, rows: &[Row]) {
     for &(text, choices, exits) in rows {
         assert!(rt; is_beside(alloc, text, choices, exits), "{text}");
     }
+}
+
+// On the last choice all bits are set.
+fn is_last(tally: Option<Tally>, value: Value, targets: usize) -> bool {
+    match tally {
+        Some(tally) => tally.last == Some(Outcome::Exit(value)) && tally.targets == targets,
+        None => false,
+    }
+}
+
+#[test]
+fn one_more_than_255_is_256(rt: HostRuntime) {
+    let sum = beside(
+        rt.alloc(),
+        "int f(unsigned char x){return x+1;}",
+        Widths::Ilp32,
+    );
+    assert!(rt; is_last(sum, Value::Number(32, 256), 0));
+}
+
+#[test]
+fn the_place_of_a_parameter_is_its_location_alone(rt: HostRuntime) {
+    let place = beside(
+        rt.alloc(),
+        "unsigned char*f(unsigned char x){return&x;}",
+        Widths::Ilp32,
+    );
+    assert!(rt; is_last(place, Value::Pointer(Some(0)), 1));
 }
 
 const NUMBERS: &[Row] = &[
