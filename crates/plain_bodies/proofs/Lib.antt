@@ -4,6 +4,11 @@ pub mod Calls
 pub mod Parts
 pub mod Walk
 pub mod Plain
+pub mod Mentioned
 pub mod Induction
+pub mod Filled
+pub mod Within
+pub mod Declared
+pub mod Declarations
 pub mod Jumped
 pub mod Stated

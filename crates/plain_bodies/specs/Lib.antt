@@ -1,2 +1,3 @@
+pub mod Tagged
 pub mod Leaves
 pub mod Plain

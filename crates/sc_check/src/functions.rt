@@ -11,7 +11,6 @@ ghost use Rattle.sc_tree.specs.declared.expr.Head.{out-Head};
 ghost use Rattle.sc_tree.specs.declared.expr.Specs.{out-Specs};
 ghost use Rattle.sc_declare.specs.Storage.{has_local};
 ghost use Rattle.sc_check.specs.Files as spec;
-ghost use Rattle.sc_check.specs.Left as left;
 ghost use Rattle.sc_check.specs.Parts as parts;
 
 use crate::heads::{
@@ -19,7 +18,7 @@ use crate::heads::{
 };
 use sc_base::{Boxed, List, NameId, OutOfMemory, Pos};
 use sc_bodies::{Around, bare_statement};
-use sc_declare::{GlobalNumbers, Parameter, has_local, signature_of};
+use sc_declare::{GlobalNumbers, has_local, signature_of};
 use sc_names::Scope;
 use sc_rules::Walk;
 use sc_tree::ctype::CType;
@@ -71,8 +70,8 @@ fn no_own(alloc: Global) -> Result<Own, OutOfMemory>
     })
 }
 
-// The parameters of a function, which stand directly round its name.
-fn own_or(alloc: Global, own: Option<Own>) -> Result<Own, OutOfMemory>
+/// The parameters of a function, which stand directly round its name.
+pub fn own_or(alloc: Global, own: Option<Own>) -> Result<Own, OutOfMemory>
     ensures { IfOk result (λ x. x ≡ spec.own_or own) }
 {
     match own {
@@ -91,8 +90,8 @@ fn result_of(alloc: Global, t: &CType) -> Result<Option<CType>, OutOfMemory>
     }
 }
 
-// The same where the type is known.
-fn result_type(alloc: Global, t: Option<&CType>) -> Result<Option<CType>, OutOfMemory>
+/// The result of a function type that may not be known.
+pub fn result_type(alloc: Global, t: Option<&CType>) -> Result<Option<CType>, OutOfMemory>
     ensures { IfOk result (λ x. x ≡ spec.result_type (option_copied t.entry)) }
 {
     match t {
@@ -121,8 +120,8 @@ fn tree_in(
     Ok(x)
 }
 
-// The body of a function with that result, whose name stands at that place.
-fn body_in(
+/// The body of a function with that result, whose name stands at that place.
+pub fn body_in(
     alloc: Global,
     walk: &mut Walk,
     numbers: &mut GlobalNumbers,
@@ -189,15 +188,15 @@ fn function_shaped(
     finish(alloc, walk, name, at, params, result, s)
 }
 
-// The name that the head of a function declares, with its place.
-fn head_name(here: &Tables, h: &Head) -> (NameId, Pos)
+/// The name that the head of a function declares, with its place.
+pub fn head_name(here: &Tables, h: &Head) -> (NameId, Pos)
     ensures { result ≡ declared.name_of (heading (tables.here_of here.now) h.now).name }
 {
     name_or(here.declared_name(&h.declarator))
 }
 
-// Whether the words of a head make its function local to the file.
-fn head_is_local(h: &Head) -> bool
+/// Whether the words of a head make its function local to the file.
+pub fn head_is_local(h: &Head) -> bool
     ensures { result ≡ has_local (out-Specs (out-Head h.now).specs).storage }
 {
     has_local(h.specs.storage.as_slice())
@@ -256,68 +255,4 @@ pub fn function(
     let (name, at) = head_name(here, h);
     let is_local = head_is_local(h);
     function_named(alloc, walk, numbers, here, h, is_local, b, name, at)
-}
-
-// Ends a function of which the head alone was typed.
-fn head_ended(
-    alloc: Global,
-    walk: &mut Walk,
-    name: NameId,
-    at: Pos,
-    params: List<Parameter>,
-) -> Result<(), OutOfMemory>
-    ensures ended { Gives (left.head_ended name at params walk.old) result walk.new }
-    ensures kept { OnOk result (walk.new.globals ≡ walk.old.globals) }
-{
-    drop(finish(alloc, walk, name, at, params, None, None)?);
-    Ok(())
-}
-
-// A function of that name and type without its body.
-fn head_shaped(
-    alloc: Global,
-    walk: &mut Walk,
-    here: &Tables,
-    name: NameId,
-    at: Pos,
-    is_local: bool,
-    t: Option<&CType>,
-    own: Own,
-) -> Result<(), OutOfMemory>
-    ensures typed { Gives (left.head_shaped (tables.here_of here.now) name at is_local (option_copied t.entry)
-        own walk.old) result walk.new }
-    ensures kept { OnOk result (walk.new.globals ≡ walk.old.globals) }
-{
-    judge_head(alloc, walk, here, name, at, is_local, t, &own)?;
-    let Own { params, .. } = own;
-    head_ended(alloc, walk, name, at, params)
-}
-
-// A function of that name, with its head alone.
-fn head_named(
-    alloc: Global,
-    walk: &mut Walk,
-    here: &Tables,
-    h: &Head,
-    is_local: bool,
-    name: NameId,
-    at: Pos,
-) -> Result<(), OutOfMemory>
-    ensures typed { Gives (left.head_named (tables.here_of here.now) (heading (tables.here_of here.now) h.now) is_local
-        (name, at) walk.old) result walk.new }
-    ensures kept { OnOk result (walk.new.globals ≡ walk.old.globals) }
-{
-    let Shape { ctype, own } = shape_of(alloc, walk, here, h, at)?;
-    let own = own_or(alloc, own)?;
-    head_shaped(alloc, walk, here, name, at, is_local, ctype.as_ref(), own)
-}
-
-/// What the head of a function leaves of the walk: its name is declared, and what is declared in it.
-pub fn head_left(alloc: Global, walk: &mut Walk, here: &Tables, h: &Head) -> Result<(), OutOfMemory>
-    ensures typed { Gives (left.head_left (tables.here_of here.now) h.now walk.old) result walk.new }
-    ensures kept { OnOk result (walk.new.globals ≡ walk.old.globals) }
-{
-    let (name, at) = head_name(here, h);
-    let is_local = head_is_local(h);
-    head_named(alloc, walk, here, h, is_local, name, at)
 }
