@@ -1,18 +1,15 @@
 -- The nodes of a new net, and the values that `values_into` has written so far.
-use Rattle.std.proofs.Common.{◌≡◌, ℕ, zero, suc, ◌+◌, ◌<◌, ◌≤◌, Bool, true, false, List, [], ◌∷◌, ◌++◌, length, take, set, get_or, slice_get, Some, refl, sym, ◌∙◌, ap, subst, arith, add-one, length-append, length-take, ◌⊎◌, inl, inr, if◌then◌else◌}
+use Rattle.std.proofs.Common.{◌≡◌, ℕ, zero, suc, ◌+◌, ◌<◌, ◌≤◌, Bool, true, false, List, [], ◌∷◌, ◌++◌, length, take, set, get_or, slice_get, Some, refl, sym, ◌∙◌, ap, subst, arith, add-one, length-append, length-take, ◌⊎◌, inl, inr}
 use Rattle.std.proofs.lemmas.Grind.{common_steps}
 use Rattle.std.proofs.lemmas.Bool.{cases_lt}
 use Rattle.std.proofs.lemmas.List.{take_more, take_more_set}
-use Rattle.std.proofs.lemmas.List.Folds.{list_any-append}
 use Rattle.std.proofs.lemmas.Option.{slice_get-get_or}
-use Rattle.std.specs.List.{count_by, list_any}
+use Rattle.std.specs.List.{count_by}
 use Rattle.bit_net.specs.declared.nodes.Node.{Node}
 use Rattle.bit_net.specs.declared.nodes.Node.TheVariants.{Constant, Input, Not, And, Or, Xor, Mux}
 use Rattle.bit_net.specs.Value.{bit_at, table, values}
 use Rattle.bit_net.specs.Circuit.{is_input, input_count, first_nodes, ReadsBelow, IsCircuit}
-use Rattle.bit_net.specs.contracts.nodes.NodePartialEq.TheImpl as derived
 use Rattle.bit_net.proofs.ListLemmas.{slice_get_front, slice_get_end, slice_get_push}
-use Rattle.bit_net.proofs.NodeLemmas.{same_node}
 use Rattle.bit_net.proofs.ValueLemmas.{values-push}
 
 reads_more : (g n : ℕ) (m : Node) → ReadsBelow g n m → ReadsBelow g (suc n) m
@@ -80,36 +77,15 @@ IsCircuit-first_nodes n = record {
   earlier = λ g m at. subst (λ (i : ℕ). ReadsBelow g i m) (sym (input_count-first_nodes n)) (reads_first n g m at);
 }
 
-other_input : (n k : ℕ) → n < k → derived.eq-value.it (Input k) (Input n) ≡ false
-other_input n k h = by (derived.eq-value.it (Input k) (Input n)) refl
-  where
-    by : (b : Bool) → derived.eq-value.it (Input k) (Input n) ≡ b → derived.eq-value.it (Input k) (Input n) ≡ false
-    by false e = e
-    by true e = let same : Input k ≡ Input n = same_node (Input k) (Input n) e in let equal : k ≡ n = cc same in absurd (omega arith)
-
--- the inputs so far are not the next one
-pub new_input : (n k : ℕ) → n ≤ k → list_any (derived.eq-value.it (Input k)) (first_nodes n) ≡ false
-unfolding first_nodes
-new_input zero k h = refl
-new_input (suc n) k h =
-    let before : n ≤ k = omega arith in
-    let last : n < k = omega arith in
-    rw (list_any-append (derived.eq-value.it (Input k)) (first_nodes n) (Input n ∷ []), new_input n k before, other_input n k last) refl
-
 -- one more input behind the first nodes
 pub first_nodes-more : (n : ℕ) → first_nodes (n + 1) ≡ first_nodes n ++ Input n ∷ []
 unfolding first_nodes
 first_nodes-more n = rw add-one refl
 
--- what inserting the constants leaves
-pub inserted_constants : (xs ys zs : List Node) → xs ≡ [] → ys ≡ (if list_any (derived.eq-value.it (Constant false)) xs then xs else xs ++ Constant false ∷ [])
-    → zs ≡ (if list_any (derived.eq-value.it (Constant true)) ys then ys else ys ++ Constant true ∷ []) → zs ≡ first_nodes 0
+-- the nodes of a net without inputs
+pub first_nodes-none : first_nodes 0 ≡ Constant false ∷ Constant true ∷ []
 unfolding first_nodes
-inserted_constants xs ys zs e f g = g ∙ ap (λ ns. if list_any (derived.eq-value.it (Constant true)) ns then ns else ns ++ Constant true ∷ []) (f ∙ ap (λ ns. if list_any (derived.eq-value.it (Constant false)) ns then ns else ns ++ Constant false ∷ []) e)
-
--- what inserting the next input leaves
-pub inserted_input : (ns : List Node) (n : ℕ) → ns ≡ (if list_any (derived.eq-value.it (Input n)) (first_nodes n) then first_nodes n else first_nodes n ++ Input n ∷ []) → ns ≡ first_nodes (n + 1)
-inserted_input ns n e = e ∙ rw (new_input n n (omega arith), first_nodes-more n) refl
+first_nodes-none = refl
 
 pub values-none : (choice : ℕ → Bool) → [] ≡ values choice []
 unfolding values

@@ -7,3 +7,5 @@ pub mod FoldLemmas
 pub mod LiteralLemmas
 pub mod BuildLemmas
 pub mod LawLemmas
+pub mod FactLemmas
+pub mod LaneLemmas

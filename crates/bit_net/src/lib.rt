@@ -5,11 +5,15 @@
 //! every call keeps the values of earlier gates (`Grown`).
 #![tactic(auto)]
 
+mod facts;
+mod lanes;
 mod laws;
 mod literals;
 mod memory;
 mod nodes;
 
+pub use facts::{Fact, Facts, known, seen};
+pub use lanes::lanes_stay;
 pub use laws::{growth_composes, runs_fit_tables, values_are_runs};
 pub use memory::OutOfMemory;
 pub use nodes::{Gate, Net, Node};

@@ -1,12 +1,12 @@
 //! Gates, the nodes behind them, and the net that holds the nodes.
-ghost use Rattle.std.specs.Prelude.{◌≡◌, ℕ, ◌+◌, ◌<◌, ◌≤◌, Bool, true, false, not, ◌&&◌, ◌||◌, if◌then◌else◌, List, length, take, slice_get, IfOk, OnOk, OnErr, IfSome, IsTrue, Some, ◌↔◌};
+ghost use Rattle.std.specs.Prelude.{◌≡◌, ℕ, ◌+◌, ◌<◌, ◌≤◌, Bool, true, false, not, ◌&&◌, ◌||◌, if◌then◌else◌, List, [], ◌∷◌, ◌++◌, length, take, slice_get, IfOk, OnOk, OnErr, IfSome, IsTrue, Some, ◌↔◌};
 ghost use Rattle.bit_net.specs.Value.{bit_at, xor, table, values};
 ghost use Rattle.bit_net.specs.Circuit.{first_nodes, input_count, ReadsBelow, IsCircuit};
 ghost use Rattle.bit_net.specs.Runs.{Grown, Gives, Always};
 
 use crate::OutOfMemory;
-use indexmap::IndexSet;
 use std::alloc::Global;
+use std::collections::HashMap;
 use std::marker::Model;
 
 /// A gate of a net: the place of its node.
@@ -35,7 +35,10 @@ pub enum Node {
 #[derive(Drop)]
 pub struct Net {
     alloc: Global,
-    nodes: IndexSet<Node>,
+    nodes: Vec<Node>,
+
+    /// Where a node was last put. It is a hint: a place is used only where that very node still stands there.
+    places: HashMap<Node, usize>,
 }
 
 impl Model for Net {
@@ -45,9 +48,9 @@ impl Model for Net {
 
     ghost Value = { List Nodes };
 
-    ghost view = { λ n. n.nodes.keys };
+    ghost view = { λ n. n.nodes.items };
 
-    ghost invariant = { λ n. IsCircuit n.nodes.keys };
+    ghost invariant = { λ n. IsCircuit n.nodes.items };
 }
 
 impl Net {
@@ -57,13 +60,18 @@ impl Net {
         ensures count { IfOk result (λ net. input_count net ≡ inputs) }
         ensures len { IfOk result (λ net. length net ≡ 2 + inputs) }
     {
-        let mut nodes = IndexSet::new(alloc);
-        nodes.insert_full(Node::Constant(false))?;
-        nodes.insert_full(Node::Constant(true))?;
+        let mut nodes = Vec::new(alloc);
+        let mut places = HashMap::new(alloc);
+        put(&mut nodes, &mut places, Node::Constant(false))?;
+        put(&mut nodes, &mut places, Node::Constant(true))?;
         for k in 0..inputs {
-            nodes.insert_full(Node::Input(k))?;
+            put(&mut nodes, &mut places, Node::Input(k))?;
         }
-        Ok(Net { alloc, nodes })
+        Ok(Net {
+            alloc,
+            nodes,
+            places,
+        })
     }
 
     /// The allocator that the net was made with.
@@ -90,7 +98,7 @@ impl Net {
         requires { gate.at < length self.now }
         ensures { slice_get self.now gate.at ≡ Some result }
     {
-        self.nodes.as_slice()[gate.at]
+        self.nodes[gate.at]
     }
 
     /// Tells a caller's proof what holds of every net.
@@ -221,8 +229,23 @@ impl Net {
         ensures front { take (length self.old) self.new ≡ self.old }
         ensures err { OnErr result (self.new ≡ self.old) }
     {
-        let (at, _) = self.nodes.insert_full(node)?;
+        if let Some(gate) = self.gate_with(node) {
+            return Ok(gate);
+        }
+        let at = self.nodes.len();
+        put(&mut self.nodes, &mut self.places, node)?;
         Ok(Gate { at })
+    }
+
+    /// The gate that this node has already, where it is found.
+    fn gate_with(&self, node: Node) -> Option<Gate>
+        ensures { IfSome result (λ r. slice_get self.now r.at ≡ Some node) }
+    {
+        let at = *self.places.get(&node)?;
+        if at < self.nodes.len() && self.nodes[at] == node {
+            return Some(Gate { at });
+        }
+        None
     }
 
     /// The constant that the gate is, where it is one.
@@ -417,6 +440,20 @@ impl Net {
             None => None,
         }
     }
+}
+
+/// Adds a node behind the others, and notes its place.
+fn put(
+    nodes: &mut Vec<Node>,
+    places: &mut HashMap<Node, usize>,
+    node: Node,
+) -> Result<(), OutOfMemory>
+    ensures ok { OnOk result (nodes.new.items ≡ nodes.old.items ++ node ∷ []) }
+    ensures err { OnErr result (nodes.new.items ≡ nodes.old.items) }
+{
+    places.insert(node, nodes.len())?;
+    nodes.push(node)?;
+    Ok(())
 }
 
 /// The value of a node, from the values of the gates before it.

@@ -300,6 +300,15 @@ pub fn equal(net: &mut Net, a: &Word, b: &Word) -> Result<Gate, OutOfMemory>
     bits::equal(net, &a.bits, &b.bits)
 }
 
+/// Holds where the bits spell this number: a constant of a state, of a case, of a row. A number that does not fit is never spelt.
+pub fn is_number(net: &mut Net, bits: &[Gate], n: u64) -> Result<Gate, OutOfMemory>
+    requires { top bits.now ≤ length net.old }
+    ensures grown { Grown net.old net.new }
+    ensures ok { IfOk result (λ r. Gives net.new r.at (λ choice v. nat_eq (number v bits.now) n)) }
+{
+    making::is_number(net, bits, n)
+}
+
 /// The word of `width` bits that a conversion makes of `a` (C11 6.3.1.3): its low bits, or copies of its sign bit above it where it is
 /// signed, or zeros. It makes no gate.
 pub fn convert(net: &mut Net, a: &Word, signed: bool, width: usize) -> Result<Word, OutOfMemory>

@@ -1,6 +1,7 @@
 //! Words that are made of a gate or of a number: they make no gate.
-ghost use Rattle.std.specs.Prelude.{◌≡◌, ℕ, ◌-◌, ◌%◌, ◌^◌, ◌<◌, length, IfOk};
-ghost use Rattle.bit_words.specs.Number.{bit};
+ghost use Rattle.std.specs.Prelude.{◌≡◌, ℕ, ◌-◌, ◌%◌, ◌^◌, ◌<◌, ◌≤◌, nat_eq, length, IfOk, IsTrue, ◌↔◌};
+ghost use Rattle.bit_net.specs.Runs.{Grown, Gives};
+ghost use Rattle.bit_words.specs.Number.{bit, number, top};
 ghost use Rattle.bit_words.specs.Spells.{Spells};
 
 use crate::bits;
@@ -32,4 +33,28 @@ pub fn number_word(net: &Net, n: u64, width: usize) -> Result<Vec<Gate>, OutOfMe
     }
     bits.reverse();
     Ok(bits)
+}
+
+/// Whether a number fits this many bits.
+fn fits(n: u64, width: usize) -> bool
+    ensures { IsTrue result ↔ (n < 2 ^ width) }
+{
+    if width >= 64 {
+        return true;
+    }
+    n >> width == 0
+}
+
+/// Holds where the word spells this number. A number that does not fit its width is never spelt.
+pub fn is_number(net: &mut Net, a: &[Gate], n: u64) -> Result<Gate, OutOfMemory>
+    requires { top a.now ≤ length net.old }
+    ensures grown { Grown net.old net.new }
+    ensures ok { IfOk result (λ r. Gives net.new r.at (λ choice v. nat_eq (number v a.now) n)) }
+{
+    if !fits(n, a.len()) {
+        return Ok(net.constant(false));
+    }
+    let bits = number_word(net, n, a.len())?;
+    let same = bits::equal(net, a, &bits)?;
+    Ok(same)
 }

@@ -25,7 +25,7 @@ negated_value true false = refl
 negated_value false true = refl
 negated_value false false = refl
 
-lit_true-negation : (f : ℕ → Bool) (l : Lit) → lit_true f (negation l) ≡ not (lit_true f l)
+pub lit_true-negation : (f : ℕ → Bool) (l : Lit) → lit_true f (negation l) ≡ not (lit_true f l)
 unfolding lit_true
 lit_true-negation f l = negated_value l.neg (f l.var)
 

@@ -42,13 +42,13 @@ gates_hold_from v ns (suc n) each =
     and_from (gates_hold v ns n) (gate_holds v n (get_or ns n (Constant false)))
     (gates_hold_from v ns n (λ g below. each g (omega (arith, below)))) (each n (omega arith))
 
-same_from_alike : (a b : Bool) → alike a b ≡ true → a ≡ b
+pub same_from_alike : (a b : Bool) → alike a b ≡ true → a ≡ b
 same_from_alike true true is = refl
 same_from_alike true false is = absurd (false≢true is)
 same_from_alike false true is = absurd (false≢true is)
 same_from_alike false false is = refl
 
-alike-same : (a b : Bool) → a ≡ b → alike a b ≡ true
+pub alike-same : (a b : Bool) → a ≡ b → alike a b ≡ true
 alike-same true true is = refl
 alike-same true false is = sym is
 alike-same false true is = is
@@ -106,7 +106,7 @@ some_true-agree f h base same (l ∷ c) below =
     ap (λ b. b || some_true f c) (lit_true-agree f h base same l (All-head (λ q. q.var < base) l c below))
     ∙ ap (λ b. lit_true h l || b) (some_true-agree f h base same c (All-tail (λ q. q.var < base) l c below))
 
-all_true-agree : (f h : ℕ → Bool) (base : ℕ) → ((x : ℕ) → x < base → f x ≡ h x) → (cs : List (List Lit)) → ClausesBelow base cs
+pub all_true-agree : (f h : ℕ → Bool) (base : ℕ) → ((x : ℕ) → x < base → f x ≡ h x) → (cs : List (List Lit)) → ClausesBelow base cs
     → all_true f cs ≡ all_true h cs
 all_true-agree f h base same [] below = refl
 all_true-agree f h base same (c ∷ cs) below =

@@ -1,3 +1,4 @@
 pub mod Adding
 pub mod Gates
 pub mod Loaded
+pub mod Cones

@@ -12,7 +12,7 @@ use sat_base::{Lit, OutOfMemory, Solver};
 
 /// The literal has this value.
 #[tactic(auto, using(crate::proofs::Tables::adds_true, crate::proofs::Tables::adds_false))]
-fn constant_clauses<S: Solver>(s: &mut S, out: Lit, b: bool) -> Result<(), OutOfMemory>
+pub fn constant_clauses<S: Solver>(s: &mut S, out: Lit, b: bool) -> Result<(), OutOfMemory>
     requires { out.var < S.vars s.old }
     ensures vars { S.vars s.new ≡ S.vars s.old }
     ensures ok { OnOk result (Adds (S.clauses s.old) (S.clauses s.new) (λ f. alike (lit_true f out) b)) }
@@ -41,7 +41,7 @@ fn not_clauses<S: Solver>(s: &mut S, out: Lit, a: Lit) -> Result<(), OutOfMemory
 }
 
 /// The literal holds where both others do.
-fn and_clauses<S: Solver>(s: &mut S, out: Lit, a: Lit, b: Lit) -> Result<(), OutOfMemory>
+pub fn and_clauses<S: Solver>(s: &mut S, out: Lit, a: Lit, b: Lit) -> Result<(), OutOfMemory>
     requires out { out.var < S.vars s.old }
     requires a { a.var < S.vars s.old }
     requires b { b.var < S.vars s.old }
@@ -59,7 +59,7 @@ fn and_clauses<S: Solver>(s: &mut S, out: Lit, a: Lit, b: Lit) -> Result<(), Out
 }
 
 /// The literal holds where at least one of the others does: its opposite holds where both opposites do.
-fn or_clauses<S: Solver>(s: &mut S, out: Lit, a: Lit, b: Lit) -> Result<(), OutOfMemory>
+pub fn or_clauses<S: Solver>(s: &mut S, out: Lit, a: Lit, b: Lit) -> Result<(), OutOfMemory>
     requires out { out.var < S.vars s.old }
     requires a { a.var < S.vars s.old }
     requires b { b.var < S.vars s.old }
@@ -75,7 +75,7 @@ fn or_clauses<S: Solver>(s: &mut S, out: Lit, a: Lit, b: Lit) -> Result<(), OutO
 }
 
 /// The literal holds where just one of the others does.
-fn xor_clauses<S: Solver>(s: &mut S, out: Lit, a: Lit, b: Lit) -> Result<(), OutOfMemory>
+pub fn xor_clauses<S: Solver>(s: &mut S, out: Lit, a: Lit, b: Lit) -> Result<(), OutOfMemory>
     requires out { out.var < S.vars s.old }
     requires a { a.var < S.vars s.old }
     requires b { b.var < S.vars s.old }
@@ -94,7 +94,13 @@ fn xor_clauses<S: Solver>(s: &mut S, out: Lit, a: Lit, b: Lit) -> Result<(), Out
 }
 
 /// The literal is as `a` where `c` holds, else as `b`.
-fn mux_clauses<S: Solver>(s: &mut S, out: Lit, c: Lit, a: Lit, b: Lit) -> Result<(), OutOfMemory>
+pub fn mux_clauses<S: Solver>(
+    s: &mut S,
+    out: Lit,
+    c: Lit,
+    a: Lit,
+    b: Lit,
+) -> Result<(), OutOfMemory>
     requires out { out.var < S.vars s.old }
     requires c { c.var < S.vars s.old }
     requires a { a.var < S.vars s.old }

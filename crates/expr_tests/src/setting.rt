@@ -7,9 +7,10 @@ ghost use Rattle.run_laws.specs.Proper.{IsClosed};
 
 use fsm_spec::{MachineSpec, locks, whole_machines};
 use layout_base::{Ground, Places};
+use name_interner::Interner;
 use places::{PlaceAnswer, places};
 use run_laws::layouts_are_closed;
-use sc_base::{List, Names, OutOfMemory};
+use sc_base::{List, OutOfMemory};
 use sc_check::check;
 use sc_gather::{Context, Found};
 use sc_interp::Machine;
@@ -30,7 +31,7 @@ const DEPTH: u32 = 1;
 const REACH: u32 = 2;
 
 // The segments of a file.
-fn read(alloc: Global, names: &mut Names, text: &[u8]) -> Result<Unit, LexAnswer> {
+fn read(alloc: Global, names: &mut Interner, text: &[u8]) -> Result<Unit, LexAnswer> {
     if names.len() > MANY || text.len() > MANY {
         return Err(LexAnswer::OutOfMemory);
     }
@@ -40,10 +41,11 @@ fn read(alloc: Global, names: &mut Names, text: &[u8]) -> Result<Unit, LexAnswer
 
 /// The typed program of a file; none of what is no file.
 pub fn checked(alloc: Global, text: &[u8], widths: Widths) -> Option<Program> {
-    let mut names = Names::new(alloc);
+    let mut names = Interner::new(alloc);
     let mut units = Vec::new(alloc);
     units.push(read(alloc, &mut names, text).ok()?).ok()?;
     let files = List::new(alloc);
+    let names = names.into_names().ok()?;
     check(alloc, names, files, units.as_slice(), widths, None).ok()
 }
 

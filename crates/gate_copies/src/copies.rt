@@ -45,8 +45,8 @@ fn read_number(
     Ok(reading)
 }
 
-// What all cells have of the object to which `from` leads.
-fn read_all(
+/// What all cells have of the object to which `from` leads, in their order: one reading for each number of a cell.
+pub fn read_all(
     here: &Here,
     net: &mut Net,
     store: &Store,
@@ -94,8 +94,8 @@ fn store_number(
     Ok(())
 }
 
-// What was read is stored in the cells of the object to which `place` leads, where `live` holds.
-fn store_all(
+/// What was read is stored in the cells of the object to which `place` leads, where `live` holds.
+pub fn store_all(
     net: &mut Net,
     stored: &mut Store,
     live: Gate,

@@ -10,6 +10,6 @@ mod objects;
 mod readings;
 mod widths;
 
-pub use copies::copy;
-pub use objects::Object;
-pub use readings::{Guarded, Reading};
+pub use copies::{copy, read_all, store_all};
+pub use objects::{Object, cells_of, cells_with, most_cells, objects_of};
+pub use readings::{Guarded, Reading, read_cell, store_cell};

@@ -85,8 +85,8 @@ fn add_cell(places: &Places, at: u32, k: u32, cells: &mut Vec<u32>) -> Result<()
     Ok(())
 }
 
-// The targets of the cells of the object at `at`, in order.
-fn cells_of(places: &Places, alloc: Global, at: u32) -> Result<Object, OutOfMemory>
+/// The targets of the cells of the object at `at`, in order.
+pub fn cells_of(places: &Places, alloc: Global, at: u32) -> Result<Object, OutOfMemory>
     requires few { length (laid.layout_of places.now).locations < 2 ^ 32 }
     ensures { IfOk result (λ r. r.cells.items ≡ cell_targets (laid.layout_of places.now) at) }
 {

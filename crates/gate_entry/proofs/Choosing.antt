@@ -1,9 +1,9 @@
 -- Bits and numbers of the choice.
-use Rattle.std.proofs.Common.{◌≡◌, ℕ, ◌+◌, ◌-◌, ◌*◌, ◌<◌, ◌≤◌, Bool, true, false, List, [], ◌∷◌, ◌++◌, length, inl, inr, refl, sym, ◌∙◌, ap, subst, arith, length-append}
+use Rattle.std.proofs.Common.{◌≡◌, ℕ, ◌+◌, ◌-◌, ◌*◌, ◌<◌, ◌≤◌, nat_eq, Bool, true, false, List, [], ◌∷◌, ◌++◌, length, inl, inr, refl, sym, ◌∙◌, ap, subst, arith, length-append}
 use Rattle.std.proofs.lemmas.List.{get_or_past}
 use Rattle.bit_net.specs.declared.nodes.Gate.{Gate}
 use Rattle.bit_net.specs.declared.nodes.Node.{Node}
-use Rattle.bit_net.specs.Runs.{Runs, Gives}
+use Rattle.bit_net.specs.Runs.{Runs, Grown, Gives}
 use Rattle.bit_words.specs.Number.{bit, number, top}
 use Rattle.bit_words.proofs.NumberLemmas.{number-nil, number-push, top-nil, top-push}
 use Rattle.sc_world.specs.Layout.{Layout}
@@ -12,7 +12,7 @@ use Rattle.layout_base.specs.Seen.{layout_of}
 use Rattle.run_world.specs.declared.pointers.Here.{Here}
 use Rattle.run_world.specs.Seen.{env}
 use Rattle.run_entry.proofs.Digits.{digit_more}
-use Rattle.gate_entry.specs.Entry.{HasBits, IsBit, IsNumber}
+use Rattle.gate_entry.specs.Entry.{HasBits, IsBit, IsChosenNumber, IsNumber}
 
 pub bit_within : (p : Layout) (ns : List Node) (k g : ℕ) → Gives ns g (λ choice v. choice k) → IsBit p ns k g
 bit_within p ns k g gives = record { below = gives.below; value = λ bits v runs has. gives.value (bit_at bits) v runs }
@@ -83,4 +83,13 @@ digits_whole p ns at width k word all so_far =
       value = λ bits v runs has.
           (let done : width - k ≡ 0 = omega arith in
           sym (ap (λ m. number_from m bits (at + k) (number v word)) done) ∙ so_far.value bits v runs has);
+    }
+
+-- the gate of a comparison with the word of these bits
+pub chosen_number_is : (p : Layout) (old ns : List Node) (at width n gate : ℕ) (word : List Gate) → Grown old ns → IsNumber p old at width word
+    → Gives ns gate (λ choice v. nat_eq (number v word) n) → IsChosenNumber p ns at width n gate
+chosen_number_is p old ns at width n gate word grown is gives =
+    record {
+      below = gives.below;
+      value = λ bits v runs has. gives.value (bit_at bits) v runs ∙ ap (λ k. nat_eq k n) (is.value bits v (grown.runs (bit_at bits) v runs) has);
     }

@@ -1,6 +1,6 @@
 -- The store with which a function begins, as gates whose inputs are the bits of the choice: for each choice it is the
 -- store of the world at entry.
-use Rattle.std.specs.Prelude.{◌≡◌, ◌⊎◌, ℕ, ◌+◌, ◌<◌, ◌≤◌, Bool, Option, IfSome, List, ◌++◌, length, map, All}
+use Rattle.std.specs.Prelude.{◌≡◌, ◌⊎◌, ℕ, ◌+◌, ◌<◌, ◌≤◌, nat_eq, Bool, Option, IfSome, List, ◌++◌, length, map, All}
 use Rattle.bit_net.specs.declared.nodes.Gate.{Gate}
 use Rattle.bit_net.specs.declared.nodes.Node.{Node}
 use Rattle.bit_net.specs.Runs.{Runs}
@@ -39,6 +39,11 @@ pub record IsNumber (p : Layout) (ns : List Node) (at width : ℕ) (word : List 
   pub wide : length word ≡ width
   pub below : top word ≤ length ns
   pub value : (bits : List Bool) (v : ℕ → Bool) → Runs ns (bit_at bits) v → HasBits p bits at width → number v word ≡ number_at bits at width
+
+-- the gate holds where these bits of the choice spell the number n
+pub record IsChosenNumber (p : Layout) (ns : List Node) (at width n gate : ℕ) : Type 0 where
+  pub below : gate < length ns
+  pub value : (bits : List Bool) (v : ℕ → Bool) → Runs ns (bit_at bits) v → HasBits p bits at width → v gate ≡ nat_eq (number_at bits at width) n
 
 -- Cells.
 

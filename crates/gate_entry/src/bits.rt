@@ -2,11 +2,12 @@
 
 ghost use Rattle.std.specs.Prelude.{◌≤◌, IfOk};
 ghost use Rattle.bit_net.specs.Circuit.{input_count};
+ghost use Rattle.bit_net.specs.Runs.{Grown};
 ghost use Rattle.run_world.specs.Seen as seen;
-ghost use Rattle.gate_entry.specs.Entry.{IsBit, IsNumber};
+ghost use Rattle.gate_entry.specs.Entry.{IsBit, IsChosenNumber, IsNumber};
 
 use bit_net::{Gate, Net, OutOfMemory};
-use bit_words::Word;
+use bit_words::{Word, is_number};
 use run_world::Here;
 
 /// The bit of the choice with that number, which is an input; the constant false beyond the bits of the layout.
@@ -33,4 +34,21 @@ pub fn chosen_number(here: &Here, net: &Net, at: u32, width: u32) -> Result<Word
         bits.push(bit)?;
     }
     Ok(Word { bits })
+}
+
+/// Holds where so many bits of the choice from that one on spell the number.
+pub fn chosen_is(
+    here: &Here,
+    net: &mut Net,
+    at: u32,
+    width: u32,
+    n: u64,
+) -> Result<Gate, OutOfMemory>
+    requires inputs { (seen.env here.now).layout.bits ≤ input_count net.old }
+    ensures grown { Grown net.old net.new }
+    ensures ok { IfOk result (λ r. IsChosenNumber (seen.env here.now).layout net.new at width n r.at) }
+{
+    let word = chosen_number(here, net, at, width)?;
+    let same = is_number(net, &word.bits, n)?;
+    Ok(same)
 }

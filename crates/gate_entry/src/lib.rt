@@ -11,6 +11,7 @@ mod entry;
 mod laws;
 mod states;
 
-pub use bits::{chosen_bit, chosen_number};
+pub use bits::{chosen_bit, chosen_is, chosen_number};
 pub use entry::entered;
 pub use laws::locations_read_their_layout;
+pub use states::named_state;

@@ -44,8 +44,8 @@ fn state_bits(here: &Here) -> u32
     here.ground.state_bits()
 }
 
-// The state that a number names, of so many states.
-fn named_state(net: &mut Net, states: usize, name: &Word) -> Result<Word, OutOfMemory>
+/// The state that a number names, of so many states: the number itself, or the last of the states.
+pub fn named_state(net: &mut Net, states: usize, name: &Word) -> Result<Word, OutOfMemory>
     requires some { 0 < length name.now.bits.items }
     requires few { length name.now.bits.items ≤ 3 }
     requires name { top name.now.bits.items ≤ length net.old }

@@ -22,12 +22,12 @@ use Rattle.gate_places.specs.Checks.{DoesCheck, fails, reason_of}
 use Rattle.gate_places.specs.Places.{DoesFollow, Reaches, env_of}
 
 -- the location that a target is
-abbrev before : (target : ℕ) → ℕ
+abbrev pub before : (target : ℕ) → ℕ
 before zero = 0
 before (suc at) = at
 
 -- the check that a run makes of a target
-abbrev checks : Check → Layout → Ty → (target : ℕ) → Run (Unit {0})
+abbrev pub checks : Check → Layout → Ty → (target : ℕ) → Run (Unit {0})
 checks c p t target = aside_where (λ w. fails c p t w.places target) (reason_of c)
 
 abbrev behind_type : Layout → Ty → (target : ℕ) → Run ℕ

@@ -1,5 +1,6 @@
-mod Checking
+pub mod Checking
 pub mod Dereferencing
+pub mod Reaching
 pub mod Placing
 pub mod Assigning
 pub mod Indexing

@@ -15,8 +15,8 @@ use Rattle.sc_base.specs.declared.pos.NameId.{NameId}
 use Rattle.sum_rows.specs.declared.path.Step.TheVariants as step
 use Rattle.sc_world.specs.Tree.{Ty, target_or_void}
 use Rattle.sc_world.specs.Source.{Source}
-use Rattle.sc_world.specs.Layout.{Layout, location, has_type, part, or_zero}
-use Rattle.sc_world.specs.World.{Env, ◌>>=◌, dereference, kind_of_type}
+use Rattle.sc_world.specs.Layout.{Layout, location, has_type, is_stub, part, or_zero}
+use Rattle.sc_world.specs.World.{Env, ◌>>=◌, dereference, reach, kind_of_type}
 use Rattle.sc_world.specs.Eval.{Want, Value, Place', place_of, wanted, assign_value, member, or_itself, first_element}
 use Rattle.run_laws.specs.Fits.{is_scalar, StandsAt, IsPlaceOf, MemberFits}
 use Rattle.run_values.specs.Steps.{member_behind, pointer_index}
@@ -39,6 +39,16 @@ pub record Reaches (v : ℕ → Bool) (gates : Ends) (pointer : List Pair) (p : 
 pub record DoesFollow (ns : List Node) (p : Layout) (t : Ty) (locations : List Location) (pointer : List Pair) (old new : Ends) : Type 0 where
   pub does : (choice v : ℕ → Bool) → Runs ns choice v → (s : Source) (bits : List Bool) (temps : List Cell) (turn target : ℕ) → Points v pointer target
       → Does v locations old (dereference (env_of s p bits temps turn) t (Pointer target)) locations new (Reaches v new pointer p t)
+
+-- the pointer leads, where the run goes on, to this location, which is no stub
+pub record Leads (v : ℕ → Bool) (gates : Ends) (pointer : List Pair) (p : Layout) (at : ℕ) : Type 0 where
+  pub leads : LeadsTo v gates pointer at
+  pub real : v gates.live.at ≡ true → is_stub (location p at) ≡ false
+
+-- the pointer is followed to a location, of whatever type
+pub record DoesReach (ns : List Node) (p : Layout) (locations : List Location) (pointer : List Pair) (old new : Ends) : Type 0 where
+  pub does : (choice v : ℕ → Bool) → Runs ns choice v → (s : Source) (bits : List Bool) (temps : List Cell) (turn target : ℕ) → Points v pointer target
+      → Does v locations old (reach (env_of s p bits temps turn) (Pointer target)) locations new (Leads v new pointer p)
 
 -- each location of the store has a cell of the kind that its type has
 pub record IsLaid (s : Source) (p : Layout) (stored : List Location) : Type 0 where

@@ -11,6 +11,6 @@ mod members;
 mod places;
 
 pub use checks::{Check, check_target};
-pub use following::dereference;
+pub use following::{dereference, reach};
 pub use members::{Way, first_element, member_behind, member_of, part};
 pub use places::{assign, indirection, pointer_index, wanted};

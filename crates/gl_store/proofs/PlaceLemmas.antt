@@ -3,13 +3,17 @@ use Rattle.std.proofs.Common.{◌≡◌, ℕ, zero, suc, ◌-◌, ◌<◌, ◌�
 use Rattle.std.proofs.Common.{ap, subst, arith}
 use Rattle.bit_net.specs.declared.nodes.Node.{Node}
 use Rattle.bit_net.specs.Runs.{Grown}
+use Rattle.bit_net.specs.declared.nodes.Gate.{Gate}
+use Rattle.bit_words.specs.Number.{number, top}
 use Rattle.gl_sets.specs.declared.pairs.Pair.{Pair}
+use Rattle.gl_store.specs.declared.values.Val.TheVariants.{Set, Unit as Empty}
+use Rattle.gl_sets.specs.declared.sets.Set.{Set as Sets}
 use Rattle.gl_store.specs.declared.values.Val.{Val}
 use Rattle.gl_store.specs.declared.stores.Flags.{Flags}
 use Rattle.gl_store.specs.declared.stores.Location.{Location}
 use Rattle.run_store.specs.Concrete.{Cell, Number, Pointer, Nothing, Place, put, nth_cell, cell_at, change, write}
 use Rattle.gl_store.specs.Meets.{Meets, MeetsMarks, MeetsAll, val_kind, val_top, kinds, flags_top, locations_top}
-use Rattle.gl_store.specs.Steps.{IsOverwritten, IsRead, IsWritten}
+use Rattle.gl_store.specs.Steps.{IsNumberAt, IsOverwritten, IsPut, IsRead, IsWritten, number_in}
 
 pub locations_top-at : (ls : List Location) (i : ℕ) (d : Location) → i < length ls → val_top (get_or ls i d).val ≤ locations_top ls
 unfolding locations_top
@@ -148,3 +152,68 @@ written_there old ns when target val ls ls' d l g some low below e f s = record 
         → MeetsAll v (set ls (target - 1) l) (if b then write ps target x else ps)
     by choice v ps x m true h = subst (MeetsAll v (set ls (target - 1) l)) (sym (write-target ps target x some)) (MeetsAll-change v ls ps (target - 1) d l x low f m h)
     by choice v ps x m false h = MeetsAll-same v ls ps (target - 1) d l low f m h
+
+-- a value put to a location, where there is one
+pub put_past : (ns : List Node) (when at : ℕ) (val : Val) (ls : List Location) → length ls ≤ at → locations_top ls ≤ length ns → IsPut ns when at val ls ls
+put_past ns when at val ls past below = record {
+  below = below;
+  same = refl;
+  value = λ choice v r ps x m hx. subst (MeetsAll v ls) (either_way (v when) ps (change ps at x) (change-past v ls ps at x past m)) m;
+}
+
+pub put_there : (old ns : List Node) (when at : ℕ) (val : Val) (ls ls' : List Location) (d l : Location) → Grown old ns → at < length ls → locations_top ls ≤ length old
+    → ls' ≡ set ls at l → l.flags ≡ (get_or ls at d).flags → IsOverwritten ns when (get_or ls at d).val val l.val → IsPut ns when at val ls ls'
+put_there old ns when at val ls ls' d l g low below e f s = record {
+  below = rw e (locations_top-set ls at l (length ns) (omega (arith, g.longer)) s.below
+      (let flags : flags_top l.flags ≤ length ns = omega (arith, ap flags_top f, flags_top-at ls at d low, below, g.longer) in flags));
+  same = ap kinds e ∙ kinds-set ls at d l low s.kind;
+  value = λ choice v r ps x m hx.
+      subst (λ (k : List Location). MeetsAll v k (if v when then change ps at x else ps)) (sym e)
+      (by v ps x m (v when) (s.value choice v r (nth_cell ps at) x (Meets-at v ls ps at d low m) hx));
+}
+  where
+    by : (v : ℕ → Bool) (ps : List Place) (x : Cell) → MeetsAll v ls ps → (b : Bool) → Meets v l.val (if b then put (nth_cell ps at) x else nth_cell ps at)
+        → MeetsAll v (set ls at l) (if b then change ps at x else ps)
+    by v ps x m true h = MeetsAll-change v ls ps at d l x low f m h
+    by v ps x m false h = MeetsAll-same v ls ps at d l low f m h
+
+-- the bits of a word
+top-none : top [] ≡ 0
+unfolding top
+top-none = refl
+
+number-none : (v : ℕ → Bool) → number v [] ≡ 0
+unfolding number
+number-none v = refl
+
+set_bits : (s : Sets) (v : ℕ → Bool) (x : Cell) → Meets v (Set s) x → number v [] ≡ number_in x
+set_bits s v (Number width n) h = absurd h
+set_bits s v (Pointer t) h = number-none v
+set_bits s v Nothing h = absurd h
+
+pub bits_set : (val : Val) (s : Sets) → val ≡ Set s → (v : ℕ → Bool) (x : Cell) → Meets v val x → number v [] ≡ number_in x
+bits_set val s e v x h = set_bits s v x (subst (λ (k : Val). Meets v k x) e h)
+
+empty_bits : (v : ℕ → Bool) (x : Cell) → Meets v Empty x → number v [] ≡ number_in x
+empty_bits v (Number width n) h = absurd h
+empty_bits v (Pointer t) h = absurd h
+empty_bits v Nothing h = number-none v
+
+pub bits_empty : (val : Val) → val ≡ Empty → (v : ℕ → Bool) (x : Cell) → Meets v val x → number v [] ≡ number_in x
+bits_empty val e v x h = empty_bits v x (subst (λ (k : Val). Meets v k x) e h)
+
+pub no_bits : (bits : List Gate) (n : ℕ) → bits ≡ [] → top bits ≤ n
+no_bits bits n e = omega (arith, ap top e, top-none)
+
+pub number_there : (ls : List Location) (at : ℕ) (d : Location) (bits : List Gate) → at < length ls → top bits ≤ val_top (get_or ls at d).val
+    → ((v : ℕ → Bool) (x : Cell) → Meets v (get_or ls at d).val x → number v bits ≡ number_in x) → IsNumberAt ls at bits
+number_there ls at d bits low below h = record {
+  below = omega (arith, locations_top-at ls at d low, below);
+  value = λ v ps m. h v (nth_cell ps at) (Meets-at v ls ps at d low m);
+}
+
+pub number_past : (ls : List Location) (at : ℕ) (bits : List Gate) → length ls ≤ at → bits ≡ [] → IsNumberAt ls at bits
+number_past ls at bits past e = record {
+  below = no_bits bits (locations_top ls) e;
+  value = λ v ps m. ap (number v) e ∙ number-none v ∙ sym (ap number_in (nth_cell-past v ls ps at past m));
+}

@@ -1,7 +1,9 @@
 -- What the calls promise, for every choice.
 use Rattle.std.specs.Prelude.{◌≡◌, ℕ, zero, suc, ◌<◌, ◌≤◌, Bool, List, [], ◌∷◌, length, Option, Some, None, if◌then◌else◌}
+use Rattle.bit_net.specs.declared.nodes.Gate.{Gate}
 use Rattle.bit_net.specs.declared.nodes.Node.{Node}
 use Rattle.bit_net.specs.Runs.{Runs}
+use Rattle.bit_words.specs.Number.{number, top}
 use Rattle.gl_sets.specs.Guards.{Points}
 use Rattle.gl_sets.specs.declared.pairs.Pair.{Pair}
 use Rattle.gl_store.specs.declared.values.Val.{Val}
@@ -10,7 +12,7 @@ use Rattle.gl_store.specs.declared.values.CellKind.{CellKind}
 use Rattle.gl_store.specs.declared.values.CellKind.TheVariants.{Words, Pointers, NoCell}
 use Rattle.gl_store.specs.declared.stores.Flags.{Flags}
 use Rattle.gl_store.specs.declared.stores.Location.{Location}
-use Rattle.run_store.specs.Concrete.{Cell, Kind, Numbers, Pointers as PointerCells, NoCell as NoCells, Marks, Place, blank, put, load, write, fresh}
+use Rattle.run_store.specs.Concrete.{Cell, Kind, Numbers, Pointers as PointerCells, NoCell as NoCells, Marks, Place, Number, blank, put, load, change, write, nth_cell, fresh}
 use Rattle.run_store.specs.Concrete.{width_kind, flag_at, marked, cell_at}
 use Rattle.gl_store.specs.Meets.{Meets, MeetsMarks, MeetsPlace, MeetsAll, val_kind, val_top, flags_top, kinds, locations_top}
 
@@ -86,6 +88,23 @@ pub record IsWritten (ns : List Node) (when target : ℕ) (val : Val) (old new :
   pub same : kinds new ≡ kinds old
   pub value : (choice v : ℕ → Bool) → Runs ns choice v → (ps : List Place) (x : Cell) → MeetsAll v old ps → Meets v val x
       → MeetsAll v new (if v when then write ps target x else ps)
+
+-- where a gate holds, the value is written to a location, which stays where it is of another kind
+pub record IsPut (ns : List Node) (when place : ℕ) (val : Val) (old new : List Location) : Type 0 where
+  pub below : locations_top new ≤ length ns
+  pub same : kinds new ≡ kinds old
+  pub value : (choice v : ℕ → Bool) → Runs ns choice v → (ps : List Place) (x : Cell) → MeetsAll v old ps → Meets v val x
+      → MeetsAll v new (if v when then change ps place x else ps)
+
+-- the number that a cell has, 0 where it has none
+abbrev pub number_in : Cell → ℕ
+number_in (Number width n) = n
+number_in _ = 0
+
+-- the bits of the word of a location: they spell the number of its cell
+pub record IsNumberAt (locations : List Location) (place : ℕ) (bits : List Gate) : Type 0 where
+  pub below : top bits ≤ locations_top locations
+  pub value : (v : ℕ → Bool) (ps : List Place) → MeetsAll v locations ps → number v bits ≡ number_in (nth_cell ps place)
 
 -- the flags of a where c holds, else those of b
 pub record IsMergedFlags (ns : List Node) (c : ℕ) (a b r : Flags) : Type 0 where

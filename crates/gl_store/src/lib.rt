@@ -14,4 +14,4 @@ mod values;
 pub use making::merge;
 pub use run_store::Flag;
 pub use stores::{Flags, Location, Shape, Store};
-pub use values::{Val, blank, choose};
+pub use values::{Val, blank, choose, overwrite};

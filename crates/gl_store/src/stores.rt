@@ -1,10 +1,11 @@
 //! Stores: made fresh, read and written through guarded sets, merged at a branch, and marked.
-ghost use Rattle.std.specs.Prelude.{◌≡◌, ℕ, ◌<◌, ◌≤◌, ◌||◌, length, IfOk, OnOk, OnErr};
+ghost use Rattle.std.specs.Prelude.{◌≡◌, ℕ, ◌<◌, ◌≤◌, ◌||◌, Bool, length, IfOk, OnOk, OnErr};
 ghost use Rattle.bit_net.specs.Runs.{Grown, Gives};
+ghost use Rattle.bit_words.specs.Number.{number, top};
 ghost use Rattle.gl_sets.specs.Guards.{guards_top};
-ghost use Rattle.run_store.specs.Concrete.{width_kind};
-ghost use Rattle.gl_store.specs.Meets.{val_top, locations_top, kinds};
-ghost use Rattle.gl_store.specs.Steps.{IsLoaded, IsStored, IsRead, IsWritten};
+ghost use Rattle.run_store.specs.Concrete.{Cell, width_kind};
+ghost use Rattle.gl_store.specs.Meets.{val_top, locations_top, kinds, Meets};
+ghost use Rattle.gl_store.specs.Steps.{IsLoaded, IsNumberAt, IsPut, IsStored, IsRead, IsWritten, number_in};
 
 use crate::values::{Val, blank, overwrite};
 use bit_net::{Gate, Net, OutOfMemory};
@@ -62,6 +63,76 @@ impl Store {
     {
         store_into(net, live, &mut self.locations, at.pairs.as_slice(), v)
     }
+
+    /// Where `when` holds, writes the value to the location with that number, unless it is of another kind or there is none. After
+    /// a refusal the store is not to be used again.
+    pub fn put_where(
+        &mut self,
+        net: &mut Net,
+        when: Gate,
+        at: usize,
+        v: &Val,
+    ) -> Result<(), OutOfMemory>
+        requires store { locations_top self.old.locations.items ≤ length net.old }
+        requires when { when.at < length net.old }
+        requires v { val_top v.now ≤ length net.old }
+        ensures grown { Grown net.old net.new }
+        ensures ok { OnOk result (IsPut net.new when.at at v.now self.old.locations.items self.new.locations.items) }
+    {
+        put_at(net, when, at, &mut self.locations, v)
+    }
+
+    /// The bits of the word that the location with that number has; none where it has no word. They spell the number of its cell.
+    pub fn word_at(&self, at: usize) -> &[Gate]
+        ensures { IsNumberAt self.now.locations.items at result.now }
+    {
+        bits_at(&self.locations, at)
+    }
+}
+
+/// The bits of the word of a location.
+fn bits_at(locations: &[Location], at: usize) -> &[Gate]
+    ensures { IsNumberAt locations.now at result.now }
+{
+    if at < locations.len() {
+        bits_of(&locations[at].val)
+    } else {
+        &[]
+    }
+}
+
+/// The bits of a word, none of another value.
+fn bits_of(val: &Val) -> &[Gate]
+    ensures below { top result.now ≤ val_top val.now }
+    ensures value { (v : ℕ → Bool) (x : Cell) → Meets v val.now x → number v result.now ≡ number_in x }
+{
+    match val {
+        Val::Word(word) => &word.bits,
+        Val::Set(_) => &[],
+        Val::Unit => &[],
+    }
+}
+
+/// Writes a value to a location, where `when` holds.
+fn put_at(
+    net: &mut Net,
+    when: Gate,
+    at: usize,
+    locations: &mut [Location],
+    v: &Val,
+) -> Result<(), OutOfMemory>
+    requires locations { locations_top locations.old ≤ length net.old }
+    requires when { when.at < length net.old }
+    requires v { val_top v.now ≤ length net.old }
+    ensures grown { Grown net.old net.new }
+    ensures ok { OnOk result (IsPut net.new when.at at v.now locations.old locations.new) }
+{
+    if at >= locations.len() {
+        return Ok(());
+    }
+    let location = &mut locations[at];
+    overwrite(net, when, &mut location.val, v)?;
+    Ok(())
 }
 
 /// Reads at the target of the pairs.

@@ -1,8 +1,9 @@
 //! The ground, `sc_base`. What no clause says: that the calls succeed with ample memory, and what the real
 //! files and streams do.
 
+use name_interner::Interner;
 use sc_base::{
-    Failed, Files, IllTyped, LimitKind, List, MemFiles, MemSink, NameId, Names, OutOfMemory, Pos,
+    Failed, Files, IllTyped, LimitKind, List, MemFiles, MemSink, NameId, OutOfMemory, Pos,
     RealFiles, RealSink, Sink, Skip, Unsupported,
 };
 use std::alloc::Global;
@@ -23,12 +24,13 @@ fn a_list_holds_its_items(rt: HostRuntime) {
 }
 
 fn text_is_kept_once(alloc: Global) -> Result<bool, OutOfMemory> {
-    let mut names = Names::new(alloc);
+    let mut names = Interner::new(alloc);
     for (text, at) in [("spin_lock", 0), ("l", 1), ("spin_lock", 0)] {
         if names.len() > 2 || names.intern(text)?.at != at {
             return Ok(false);
         }
     }
+    let names = names.into_names()?;
     Ok(names.len() == 2 && names.text(NameId { at: 1 }) == "l")
 }
 

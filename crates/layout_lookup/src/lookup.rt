@@ -1,7 +1,7 @@
 // The look-ups in a layout, over tables that are made once.
 
 ghost use Rattle.std.specs.Prelude.{◌≡◌, IfOk, slice_index_or};
-ghost use Rattle.indexmap.specs.IndexMap.{get};
+ghost use Rattle.std.specs.HashMap.{get};
 ghost use Rattle.sum_rows.specs.declared.path.Step.TheVariants as step;
 ghost use Rattle.sc_world.specs.Layout as layouts;
 ghost use Rattle.layout_base.specs.Seen as laid;
@@ -13,11 +13,11 @@ use crate::key::{Key, Place, key_of, part_key, place_of};
 use crate::placed::Placed;
 use crate::table::find;
 use crate::tables::{firsts, locations_by_key, number_at, number_or, site_with, sites_by_bracket};
-use indexmap::IndexMap;
 use layout_base::{Occurrence, Places, Spot};
 use sc_base::{OutOfMemory, Pos};
 use sc_world::Origin;
 use std::alloc::Global;
+use std::collections::HashMap;
 use sum_rows::Step;
 
 /// Look-ups in a layout.
@@ -27,10 +27,10 @@ pub struct Lookup<'p, 'f> {
     pub places: &'f Places<'p>,
 
     // of each key the number of the first location that has it
-    by_key: IndexMap<Key, u32>,
+    by_key: HashMap<Key, u32>,
 
     // of each opening bracket the number of the first call that has it
-    by_bracket: IndexMap<Place, u32>,
+    by_bracket: HashMap<Place, u32>,
 
     // the number of the first occurrence of each call, and of what would stand behind the last one
     firsts: Vec<u32>,

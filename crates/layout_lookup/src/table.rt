@@ -1,16 +1,16 @@
 // A table that keeps the first value of each key.
 
 ghost use Rattle.std.specs.Prelude.{◌≡◌, OnOk};
-ghost use Rattle.indexmap.specs.IndexMap.{get};
+ghost use Rattle.std.specs.HashMap.{get};
 ghost use Rattle.layout_lookup.specs.Firsts.{or_else, some_if};
 
-use indexmap::IndexMap;
 use sc_base::OutOfMemory;
+use std::collections::HashMap;
 use std::hash::Hash;
 
 /// Notes the value of a key, if the key has none yet.
 pub fn note<K: Hash + Eq + Drop, V: Drop>(
-    table: &mut IndexMap<K, V>,
+    table: &mut HashMap<K, V>,
     key: K,
     value: V,
 ) -> Result<(), OutOfMemory>
@@ -23,7 +23,7 @@ pub fn note<K: Hash + Eq + Drop, V: Drop>(
 }
 
 /// The value of a key.
-pub fn find<K: Hash + Eq + Copy, V: Copy>(table: &IndexMap<K, V>, key: K) -> Option<V>
+pub fn find<K: Hash + Eq + Copy, V: Copy>(table: &HashMap<K, V>, key: K) -> Option<V>
     ensures { result ≡ get K.eq table.now key }
 {
     table.get(&key).copied()

@@ -1,7 +1,7 @@
 // The tables of a layout.
 
 ghost use Rattle.std.specs.Prelude.{◌≡◌, ◌+◌, IfOk, map, slice_index_or};
-ghost use Rattle.indexmap.specs.IndexMap.{get};
+ghost use Rattle.std.specs.HashMap.{get};
 ghost use Rattle.sc_world.specs.Layout.{no_site};
 ghost use Rattle.sc_gather.specs.Seen.{call};
 ghost use Rattle.layout_base.specs.Seen.{location_of};
@@ -12,11 +12,11 @@ ghost use Rattle.layout_lookup.specs.Seen as seen;
 
 use crate::key::{Key, Place, key_of, place_of};
 use crate::table::note;
-use indexmap::IndexMap;
 use layout_base::Location;
 use sc_base::OutOfMemory;
 use sc_gather::Site;
 use std::alloc::Global;
+use std::collections::HashMap;
 
 fn behind(n: u32, more: u32) -> Result<u32, OutOfMemory>
     ensures { IfOk result (λ k. k ≡ n + more) }
@@ -31,11 +31,11 @@ fn behind(n: u32, more: u32) -> Result<u32, OutOfMemory>
 pub fn locations_by_key(
     alloc: Global,
     locations: &[Location],
-) -> Result<IndexMap<Key, u32>, OutOfMemory>
+) -> Result<HashMap<Key, u32>, OutOfMemory>
     ensures tells { IfOk result (λ t. spec.TellsLocations (get same_key t) (map location_of locations.now)) }
     ensures few { IfOk result (λ t. spec.HasFewElements (get same_key t)) }
 {
-    let mut table = IndexMap::new(alloc);
+    let mut table = HashMap::new(alloc);
     let mut at = 0;
     for location in locations {
         note(&mut table, key_of(location.origin), at)?;
@@ -45,10 +45,10 @@ pub fn locations_by_key(
 }
 
 /// Of each opening bracket the number of the first call that has it.
-pub fn sites_by_bracket(alloc: Global, sites: &[Site]) -> Result<IndexMap<Place, u32>, OutOfMemory>
+pub fn sites_by_bracket(alloc: Global, sites: &[Site]) -> Result<HashMap<Place, u32>, OutOfMemory>
     ensures { IfOk result (λ t. spec.TellsSites (get same_place t) (map call sites.now)) }
 {
-    let mut table = IndexMap::new(alloc);
+    let mut table = HashMap::new(alloc);
     let mut at = 0;
     for site in sites {
         note(&mut table, place_of(site.bracket), at)?;

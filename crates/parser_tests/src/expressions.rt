@@ -1,6 +1,7 @@
 //! Small expressions: how operators group, casts and calls, and how high a tree may be.
 
-use sc_base::{NameId, Names, OutOfMemory};
+use name_interner::Interner;
+use sc_base::{NameId, OutOfMemory};
 use sc_lexer::{LexAnswer, tokens};
 use sc_parse_expr::{Parsed, expr};
 use sc_parse_front::TypeNames;
@@ -13,7 +14,7 @@ fn parsed(alloc: Global, text: &str, types: &TypeNames) -> Result<Parsed<Expr>, 
     if text.len() > 1000 {
         return Err(LexAnswer::OutOfMemory);
     }
-    let mut names = Names::new(alloc);
+    let mut names = Interner::new(alloc);
     let found = tokens(alloc, &mut names, 0, text.as_bytes())?;
     let count = found.list.len();
     Ok(expr(alloc, &found, 0, count, types)?)

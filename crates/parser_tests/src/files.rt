@@ -1,7 +1,8 @@
 //! What small files fall into: each statement and declaration of the grammar that is easily read
 //! otherwise, where a fault is placed, and how high a tree may be.
 
-use sc_base::{Names, OutOfMemory, Pos, Skip};
+use name_interner::Interner;
+use sc_base::{OutOfMemory, Pos, Skip};
 use sc_lexer::{LexAnswer, tokens};
 use sc_parse_unit::unit;
 use sc_tree::expr::Expr;
@@ -23,7 +24,7 @@ fn units(alloc: Global, text: &str) -> Result<Unit, LexAnswer> {
     if text.len() > 1000000 {
         return Err(LexAnswer::OutOfMemory);
     }
-    let mut names = Names::new(alloc);
+    let mut names = Interner::new(alloc);
     let found = tokens(alloc, &mut names, 0, text.as_bytes())?;
     Ok(unit(alloc, &found)?)
 }

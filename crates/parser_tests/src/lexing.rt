@@ -1,13 +1,14 @@
 //! The tokens of small files: each kind of token with its edges, places, refusals and segments.
 
-use sc_base::{NameId, Names};
+use name_interner::Interner;
+use sc_base::NameId;
 use sc_lexer::{LexAnswer, tokens};
 use sc_tree::{IntToken, Kind, Punct, Reserved, StrToken, Token, Tokens};
 use std::alloc::Global;
 
 /// The tokens of a short file, over names that hold `x`.
 fn lex(alloc: Global, text: &str) -> Result<Tokens, LexAnswer> {
-    let mut names = Names::new(alloc);
+    let mut names = Interner::new(alloc);
     names.intern("x")?;
     if text.len() > 1000 || names.len() > 1 {
         return Err(LexAnswer::OutOfMemory);

@@ -3,6 +3,7 @@
 use crate::trees::{
     arrow, call, function, leaf, member, one, param, pointer, pos, program, program_of,
 };
+use name_interner::Interner;
 use places::places;
 use sc_base::{Boxed, List, NameId, Names, OutOfMemory};
 use sc_tree::ctype::{CType, IntKind};
@@ -32,14 +33,14 @@ fn what_pointers_point_to_at_entry(rt: HostRuntime) -> Result<(), Fail> {
 fn a_call_in_each_turn(rt: HostRuntime) -> Result<(), Fail> {
     // `{ while (1) malloc(); }` in two turns: two calls, each with an object and one bit.
     let alloc = rt.alloc();
-    let mut names = Names::new(alloc);
+    let mut names = Interner::new(alloc);
     let malloc = names.intern("malloc")?;
     let given = pointer(alloc, CType::Void)?;
     let called = call(alloc, malloc, None, List::new(alloc), given, 9)?;
     let body = Boxed::new(alloc, TStmt::Expr(Some(called), pos(9)))?;
     let turns = TStmt::While(one(5), body, pos(3));
     let f = function(List::new(alloc), List::new(alloc), turns);
-    let program = program_of(alloc, names, f)?;
+    let program = program_of(alloc, names.into_names()?, f)?;
     match places(alloc, &program, 0, &[], &[], 2, 2) {
         Ok(laid) => {
             assert_eq!(rt; (laid.sites.len(), laid.occurrences.len()), (1, 2));
@@ -90,14 +91,14 @@ fn struct_s(alloc: Global) -> Result<StructDef, OutOfMemory> {
 fn a_list_to_the_reach(rt: HostRuntime) -> Result<(), Fail> {
     // Three structs behind the parameter, each with its two members, and then a stub.
     let alloc = rt.alloc();
-    let mut names = Names::new(alloc);
+    let mut names = Interner::new(alloc);
     names.intern("n")?;
     names.intern("v")?;
     let structs = vec![in alloc; struct_s(alloc)?]?;
     let functions = vec![in alloc; follower(alloc)?]?;
     let program = program(
         alloc,
-        names,
+        names.into_names()?,
         List::from_vec(structs),
         List::from_vec(functions),
     );
@@ -162,10 +163,15 @@ fn a_known_call_that_gives_through_a_parameter(rt: HostRuntime) -> Result<(), Fa
     // The parameter, the local, and the object that `p` may then point to; one bit of `c`, two of what becomes of
     // `p`, and one of the object.
     let alloc = rt.alloc();
-    let mut names = Names::new(alloc);
+    let mut names = Interner::new(alloc);
     names.intern("mk")?;
     let functions = vec![in alloc; maker(alloc)?, user(alloc)?]?;
-    let program = program(alloc, names, List::new(alloc), List::from_vec(functions));
+    let program = program(
+        alloc,
+        names.into_names()?,
+        List::new(alloc),
+        List::from_vec(functions),
+    );
     let verdicts = vec![in alloc; writes_behind(alloc)?]?;
     match places(alloc, &program, 1, &[0], &verdicts, 2, 2) {
         Ok(laid) => {

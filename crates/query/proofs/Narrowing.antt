@@ -67,22 +67,23 @@ values_from_have f (l ∷ ls) (x ∷ w) same holds =
     ap (λ y. y ∷ values_of f ls) (same_from_alike (lit_true f l) x parts.0)
     ∙ ap (λ ys. x ∷ ys) (values_from_have f ls w (omega (arith, same)) parts.1)
 
--- w is the least so far: the literals fixed are the goal and the bits of the front with the values w
-pub record Narrowed (clauses : List (List Lit)) (front : List Lit) (goal : Lit) (w : List Bool) (fixed : List Lit) : Type 0 where
+-- w is the least so far: the literals fixed are the goals and the bits of the front with the values w
+pub record Narrowed (clauses : List (List Lit)) (front : List Lit) (goals : List Lit) (w : List Bool) (fixed : List Lit) : Type 0 where
   pub wide : length w ≡ length front
-  pub exact : (f : ℕ → Bool) → each_true f fixed ≡ (lit_true f goal && have f front w)
+  pub exact : (f : ℕ → Bool) → each_true f fixed ≡ (each_true f goals && have f front w)
   pub some : CanHold clauses fixed
-  pub least : (f : ℕ → Bool) → Hits f clauses goal → is_before w (values_of f front) ≡ true
+  pub least : (f : ℕ → Bool) → Hits f clauses goals → is_before w (values_of f front) ≡ true
 
-narrowed_none : (clauses : List (List Lit)) (goal : Lit) (fixed : List Lit) → fixed ≡ goal ∷ [] → CanHold clauses fixed → Narrowed clauses [] goal [] fixed
+narrowed_none : (clauses : List (List Lit)) (goals : List Lit) (fixed : List Lit) → fixed ≡ goals → CanHold clauses fixed → Narrowed clauses [] goals [] fixed
 unfolding have
-narrowed_none clauses goal fixed is some = record { wide = refl; exact = λ f. ap (each_true f) is; some = some; least = λ f hits. refl }
+narrowed_none clauses goals fixed is some =
+    record { wide = refl; exact = λ f. ap (each_true f) is ∙ sym (and-true' (each_true f goals)); some = some; least = λ f hits. refl }
 
-narrowed_push : (clauses : List (List Lit)) (front : List Lit) (goal : Lit) (w : List Bool) (fixed more : List Lit) (l : Lit) (value : Bool)
+narrowed_push : (clauses : List (List Lit)) (front : List Lit) (goals : List Lit) (w : List Bool) (fixed more : List Lit) (l : Lit) (value : Bool)
     → more ≡ fixed ++ fixed_to value l ∷ [] → CanHold clauses more
     → (value ≡ true → (f : ℕ → Bool) → satisfied f clauses fixed ≡ true → lit_true f l ≡ true)
-    → Narrowed clauses front goal w fixed → Narrowed clauses (front ++ l ∷ []) goal (w ++ value ∷ []) more
-narrowed_push clauses front goal w fixed more l value is some forced narrowed =
+    → Narrowed clauses front goals w fixed → Narrowed clauses (front ++ l ∷ []) goals (w ++ value ∷ []) more
+narrowed_push clauses front goals w fixed more l value is some forced narrowed =
     let wider : length (w ++ value ∷ []) ≡ length (front ++ l ∷ []) =
     let wide = narrowed.wide in omega (arith, wide, length-append w (value ∷ []), length-append front (l ∷ [])) in
     let equal_width : (f : ℕ → Bool) → length w ≡ length (values_of f front) = λ f. narrowed.wide ∙ sym (length-map front (lit_true f)) in
@@ -93,9 +94,9 @@ narrowed_push clauses front goal w fixed more l value is some forced narrowed =
           ap (each_true f) is
           ∙ each_true-push f fixed (fixed_to value l)
           ∙ ap (λ b. b && lit_true f (fixed_to value l)) (narrowed.exact f)
-          ∙ ap (λ b. (lit_true f goal && have f front w) && b) (lit_true-fixed_to f value l)
-          ∙ sym (and_assoc (lit_true f goal) (have f front w) (alike (lit_true f l) value))
-          ∙ ap (λ b. lit_true f goal && b) (sym (have-push f front w l value narrowed.wide));
+          ∙ ap (λ b. (each_true f goals && have f front w) && b) (lit_true-fixed_to f value l)
+          ∙ sym (and_assoc (each_true f goals) (have f front w) (alike (lit_true f l) value))
+          ∙ ap (λ b. each_true f goals && b) (sym (have-push f front w l value narrowed.wide));
       some = some;
       least =
           λ f hits.
@@ -110,49 +111,46 @@ narrowed_push clauses front goal w fixed more l value is some forced narrowed =
                 high refl f
                 (and_from (all_true f clauses) (each_true f fixed) hits.model
                 (narrowed.exact f
-                ∙ and_from (lit_true f goal) (have f front w) hits.hit (subst (λ vs. have f front vs ≡ true) (sym same) (have_values f front)))))
+                ∙ and_from (each_true f goals) (have f front w) hits.hit (subst (λ vs. have f front vs ≡ true) (sym same) (have_values f front)))))
             | false ↦ λ _. is_before-push_low w (values_of f front) (lit_true f l) (equal_width f) (narrowed.least f hits)
           ])
           forced);
     }
 
-pub narrowed_more : (clauses now : List (List Lit)) (bits : List Lit) (goal : Lit) (w v : List Bool) (fixed more : List Lit) (i : ℕ) (d : Lit) (value : Bool)
+pub narrowed_more : (clauses now : List (List Lit)) (bits : List Lit) (goals : List Lit) (w v : List Bool) (fixed more : List Lit) (i : ℕ) (d : Lit) (value : Bool)
     → now ≡ clauses → i < length bits → v ≡ w ++ value ∷ []
     → more ≡ fixed ++ fixed_to value (get_or bits i d) ∷ [] → CanHold now more
     → (value ≡ true → (f : ℕ → Bool) → satisfied f now fixed ≡ true → lit_true f (get_or bits i d) ≡ true)
-    → Narrowed clauses (take i bits) goal w fixed → Narrowed clauses (take (i + 1) bits) goal v more
-narrowed_more clauses now bits goal w v fixed more i d value same inside next is some forced narrowed =
-    subst (λ front. Narrowed clauses front goal v more) (sym (take_more bits i d inside))
-    (subst (λ x. Narrowed clauses (take i bits ++ get_or bits i d ∷ []) goal x more) (sym next)
-    (narrowed_push clauses (take i bits) goal w fixed more (get_or bits i d) value is
+    → Narrowed clauses (take i bits) goals w fixed → Narrowed clauses (take (i + 1) bits) goals v more
+narrowed_more clauses now bits goals w v fixed more i d value same inside next is some forced narrowed =
+    subst (λ front. Narrowed clauses front goals v more) (sym (take_more bits i d inside))
+    (subst (λ x. Narrowed clauses (take i bits ++ get_or bits i d ∷ []) goals x more) (sym next)
+    (narrowed_push clauses (take i bits) goals w fixed more (get_or bits i d) value is
     (subst (λ cs. CanHold cs more) same some)
     (λ high f holds. forced high f (subst (λ cs. satisfied f cs fixed ≡ true) (sym same) holds))
     narrowed))
 
-pub narrowed_start : (clauses : List (List Lit)) (goal : Lit) (w : List Bool) (fixed : List Lit)
-    → w ≡ [] → fixed ≡ goal ∷ [] → CanHold clauses fixed → Narrowed clauses [] goal w fixed
-narrowed_start clauses goal w fixed start is some =
-    subst (λ x. Narrowed clauses [] goal x fixed) (sym start) (narrowed_none clauses goal fixed is some)
+pub narrowed_start : (clauses : List (List Lit)) (goals : List Lit) (w : List Bool) (fixed : List Lit)
+    → w ≡ [] → fixed ≡ goals → CanHold clauses fixed → Narrowed clauses [] goals w fixed
+narrowed_start clauses goals w fixed start is some =
+    subst (λ x. Narrowed clauses [] goals x fixed) (sym start) (narrowed_none clauses goals fixed is some)
 
-pub can_hold_now : (clauses now : List (List Lit)) (front : List Lit) (goal : Lit) (w : List Bool) (fixed : List Lit)
-    → now ≡ clauses → Narrowed clauses front goal w fixed → CanHold now fixed
-can_hold_now clauses now front goal w fixed same narrowed = subst (λ cs. CanHold cs fixed) (sym same) narrowed.some
+pub can_hold_now : (clauses now : List (List Lit)) (front : List Lit) (goals : List Lit) (w : List Bool) (fixed : List Lit)
+    → now ≡ clauses → Narrowed clauses front goals w fixed → CanHold now fixed
+can_hold_now clauses now front goals w fixed same narrowed = subst (λ cs. CanHold cs fixed) (sym same) narrowed.some
 
-pub least_from : (clauses : List (List Lit)) (bits : List Lit) (goal : Lit) (w : List Bool) (fixed : List Lit) (i : ℕ)
-    → length bits ≡ i → Narrowed clauses (take i bits) goal w fixed → IsLeast clauses bits goal w
-least_from clauses bits goal w fixed i end narrowed =
+pub least_from : (clauses : List (List Lit)) (bits : List Lit) (goals : List Lit) (w : List Bool) (fixed : List Lit) (i : ℕ)
+    → length bits ≡ i → Narrowed clauses (take i bits) goals w fixed → IsLeast clauses bits goals w
+least_from clauses bits goals w fixed i end narrowed =
     let whole : take i bits ≡ bits = take_all i bits (omega (arith, end)) in
-    let all : Narrowed clauses bits goal w fixed = subst (λ front. Narrowed clauses front goal w fixed) whole narrowed in
+    let all : Narrowed clauses bits goals w fixed = subst (λ front. Narrowed clauses front goals w fixed) whole narrowed in
     let f = all.some.0 in
     let holds = and_parts (all_true f clauses) (each_true f fixed) all.some.1 in
-    let parts = and_parts (lit_true f goal) (have f bits w) (sym (all.exact f) ∙ holds.1) in
+    let parts = and_parts (each_true f goals) (have f bits w) (sym (all.exact f) ∙ holds.1) in
     record {
       model = (f, record { model = holds.0; hit = parts.0 }, values_from_have f bits w all.wide parts.1);
       least = all.least;
     }
 
-pub none_from : (clauses : List (List Lit)) (goal : Lit) (fixed : List Lit) → fixed ≡ goal ∷ []
-    → ((f : ℕ → Bool) → satisfied f clauses fixed ≡ false) → HasNone clauses goal
-none_from clauses goal fixed is none f hits =
-    let one : each_true f fixed ≡ true = ap (each_true f) is ∙ and_from (lit_true f goal) true hits.hit refl in
-    false≢true (sym (none f) ∙ and_from (all_true f clauses) (each_true f fixed) hits.model one)
+pub none_from : (clauses : List (List Lit)) (goals : List Lit) → ((f : ℕ → Bool) → satisfied f clauses goals ≡ false) → HasNone clauses goals
+none_from clauses goals none f hits = false≢true (sym (none f) ∙ and_from (all_true f clauses) (each_true f goals) hits.model hits.hit)

@@ -5,7 +5,7 @@ use Rattle.std.specs.Prelude.{◌≡◌, ◌↔◌, ℕ, ◌+◌, ◌*◌, Bool,
 use Rattle.std.specs.declared.alloc.Global.{Global}
 use Rattle.std.specs.List.Sorted.{IsStrictlyIncreasing}
 use Rattle.sat_base.specs.declared.literal.Lit.{Lit}
-use Rattle.sat_base.specs.Logic.{negation, lit_true, all_true, satisfied}
+use Rattle.sat_base.specs.Logic.{negation, lit_true, each_true, all_true, satisfied}
 
 -- the values that an assignment gives to these literals
 abbrev pub values_of : (ℕ → Bool) → List Lit → List Bool
@@ -44,19 +44,19 @@ IsFound clauses bits fixed None = (f : ℕ → Bool) → satisfied f clauses fix
 pub record IsPart (clauses : List (List Lit)) (bits fixed : List Lit) (model : Option (Vec Bool Global)) : Type 0 where
   pub found : IsFound clauses bits fixed model
 
--- a model in which the goal holds
-pub record Hits (f : ℕ → Bool) (clauses : List (List Lit)) (goal : Lit) : Type 0 where
+-- a model in which the goals hold
+pub record Hits (f : ℕ → Bool) (clauses : List (List Lit)) (goals : List Lit) : Type 0 where
   pub model : all_true f clauses ≡ true
-  pub hit : lit_true f goal ≡ true
+  pub hit : each_true f goals ≡ true
 
--- no model makes the goal true
-abbrev pub HasNone : List (List Lit) → Lit → Type 0
-HasNone clauses goal = (f : ℕ → Bool) → Hits f clauses goal → ⊥
+-- no model makes the goals true
+abbrev pub HasNone : List (List Lit) → List Lit → Type 0
+HasNone clauses goals = (f : ℕ → Bool) → Hits f clauses goals → ⊥
 
--- some model in which the goal holds has these values, and no such model has values before them
-pub record IsLeast (clauses : List (List Lit)) (bits : List Lit) (goal : Lit) (values : List Bool) : Type 0 where
-  pub model : (f : ℕ → Bool) × Hits f clauses goal × (values_of f bits ≡ values)
-  pub least : (f : ℕ → Bool) → Hits f clauses goal → is_before values (values_of f bits) ≡ true
+-- some model in which the goals hold has these values, and no such model has values before them
+pub record IsLeast (clauses : List (List Lit)) (bits goals : List Lit) (values : List Bool) : Type 0 where
+  pub model : (f : ℕ → Bool) × Hits f clauses goals × (values_of f bits ≡ values)
+  pub least : (f : ℕ → Bool) → Hits f clauses goals → is_before values (values_of f bits) ≡ true
 
 -- the number whose bits are those of `high` and then these, the first bit highest
 abbrev pub number_from : ℕ → List Bool → ℕ

@@ -47,10 +47,10 @@ fn put_functions(
 
 /// How many functions are skipped, and how many rows and reports the others have.
 #[derive(Clone, Copy)]
-struct Totals {
-    skipped: usize,
-    rows: usize,
-    reports: usize,
+pub struct Totals {
+    pub skipped: usize,
+    pub rows: usize,
+    pub reports: usize,
 }
 
 /// A sum; memory could not hold what it counts where it does not fit.
@@ -89,7 +89,7 @@ fn with_verdict(totals: Totals, verdict: &Verdict) -> Result<Totals, OutOfMemory
     }
 }
 
-fn totals_of(verdicts: &[Arc<Verdict>]) -> Result<Totals, OutOfMemory>
+pub fn totals_of(verdicts: &[Arc<Verdict>]) -> Result<Totals, OutOfMemory>
     ensures skipped { IfOk result (λ t. t.skipped ≡ sum_by spec.skipped_in (map arc_value verdicts.now)) }
     ensures rows { IfOk result (λ t. t.rows ≡ sum_by spec.rows_in (map arc_value verdicts.now)) }
     ensures reports { IfOk result (λ t. t.reports ≡ sum_by spec.reports_in (map arc_value verdicts.now)) }

@@ -15,5 +15,10 @@ mod reports;
 mod rows;
 mod shown;
 
-pub use checks::text;
+pub use checks::{Totals, text, totals_of};
+pub use names::{file_text, global_text, name_text, param_text};
+pub use paths::put_path;
+pub use reasons::{ill_typed_word, limit_word, unsupported_word};
 pub use replays::{Ending, replay};
+pub use rows::{machine_state, machine_word};
+pub use shown::put_choice;

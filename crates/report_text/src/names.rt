@@ -8,7 +8,7 @@ use sc_base::{NameId, OutOfMemory, Pos};
 use sc_typed::{Param, Program};
 
 /// The text of a name.
-pub(crate) fn name_text(program: &Program, name: NameId) -> &str
+pub fn name_text(program: &Program, name: NameId) -> &str
     ensures { result.now ≡ spec.name_text program.now name }
 {
     if (name.at as usize) < program.names.len() {
@@ -19,7 +19,7 @@ pub(crate) fn name_text(program: &Program, name: NameId) -> &str
 }
 
 /// The name of a file.
-pub(crate) fn file_text(program: &Program, file: u32) -> &str
+pub fn file_text(program: &Program, file: u32) -> &str
     ensures { result.now ≡ spec.file_text program.now file }
 {
     match program.files.as_slice().get(file as usize) {
@@ -29,7 +29,7 @@ pub(crate) fn file_text(program: &Program, file: u32) -> &str
 }
 
 /// The name of a parameter.
-pub(crate) fn param_text<'a>(program: &'a Program, params: &[Param], n: u32) -> &'a str
+pub fn param_text<'a>(program: &'a Program, params: &[Param], n: u32) -> &'a str
     ensures { result.now ≡ spec.param_text program.now params.now n }
 {
     match params.get(n as usize) {
@@ -39,7 +39,7 @@ pub(crate) fn param_text<'a>(program: &'a Program, params: &[Param], n: u32) -> 
 }
 
 /// The name of a global.
-pub(crate) fn global_text(program: &Program, n: u32) -> &str
+pub fn global_text(program: &Program, n: u32) -> &str
     ensures { result.now ≡ spec.global_text program.now n }
 {
     match program.globals.as_slice().get(n as usize) {

@@ -111,7 +111,7 @@ fn root_text<'a>(program: &'a Program, params: &[Param], root: Root) -> &'a str
 }
 
 /// Puts the text of a path that begins at one of these parameters, or at a global.
-pub(crate) fn put_path(
+pub fn put_path(
     out: &mut Vec<u8>,
     alloc: Global,
     program: &Program,

@@ -10,7 +10,7 @@ use sc_base::{IllTyped, LimitKind, OutOfMemory, Pos, Skip, Unsupported};
 use sc_typed::Program;
 
 #[tactic(auto, unfolding(crate::specs::Reasons::unsupported_word))]
-fn unsupported_word(kind: Unsupported) -> &'static [u8]
+pub fn unsupported_word(kind: Unsupported) -> &'static [u8]
     ensures { result.now ≡ spec.unsupported_word kind }
 {
     match kind {
@@ -35,7 +35,7 @@ fn unsupported_word(kind: Unsupported) -> &'static [u8]
 }
 
 #[tactic(auto, unfolding(crate::specs::Reasons::ill_typed_word))]
-fn ill_typed_word(kind: IllTyped) -> &'static [u8]
+pub fn ill_typed_word(kind: IllTyped) -> &'static [u8]
     ensures { result.now ≡ spec.ill_typed_word kind }
 {
     match kind {
@@ -53,7 +53,7 @@ fn ill_typed_word(kind: IllTyped) -> &'static [u8]
 }
 
 #[tactic(auto, unfolding(crate::specs::Reasons::limit_word))]
-fn limit_word(kind: LimitKind) -> &'static [u8]
+pub fn limit_word(kind: LimitKind) -> &'static [u8]
     ensures { result.now ≡ spec.limit_word kind }
 {
     match kind {

@@ -24,7 +24,7 @@ fn lock_state(n: u32) -> &'static str
 }
 
 /// The name of a state of the machine; of locks where there is none.
-fn machine_state(machine: &Option<MachineSpec>, n: u32) -> &str
+pub fn machine_state(machine: &Option<MachineSpec>, n: u32) -> &str
     ensures { result.now ≡ spec.machine_state machine.now n }
 {
     match machine {
@@ -118,7 +118,7 @@ fn put_row(
     put(out, b"\n")
 }
 
-fn machine_word(machine: &Option<MachineSpec>) -> &str
+pub fn machine_word(machine: &Option<MachineSpec>) -> &str
     ensures { result.now ≡ spec.machine_word machine.now }
 {
     match machine {

@@ -42,7 +42,7 @@ fn digit_at(choice: &[bool], k: usize) -> u8
 }
 
 /// Puts a choice in hexadecimal digits; `none` where it has no bit.
-fn put_choice(out: &mut Vec<u8>, choice: &[bool]) -> Result<(), OutOfMemory>
+pub fn put_choice(out: &mut Vec<u8>, choice: &[bool]) -> Result<(), OutOfMemory>
     ensures { OnOk result (out.new.items ≡ out.old.items ++ spec.choice_text choice.now) }
 {
     if choice.is_empty() {

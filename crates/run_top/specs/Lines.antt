@@ -1,11 +1,12 @@
 -- What stands behind the program's name in the lines that a check does not write.
 use Rattle.std.specs.Prelude.{ℕ, List, ◌++◌, codes}
+use Rattle.top_answers.specs.Lines.{shown_name}
 
 abbrev pub no_function_tail : (name : List ℕ) → List ℕ
-no_function_tail name = codes "no function " ++ name
+no_function_tail name = codes "no function " ++ shown_name name
 
 abbrev pub skipped_tail : (name : List ℕ) → List ℕ
-skipped_tail name = codes "skipped " ++ name
+skipped_tail name = codes "skipped " ++ shown_name name
 
 abbrev pub bad_choice_tail : List ℕ
 bad_choice_tail = codes "bad choice"

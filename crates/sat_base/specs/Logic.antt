@@ -49,3 +49,13 @@ Answers Model vars clauses assumed values =
     (length values ≡ vars) × (satisfied (at values) clauses assumed ≡ true)
 Answers NoModel vars clauses assumed values =
     (assignment : ℕ → Bool) → satisfied assignment clauses assumed ≡ false
+
+-- both assignments give the variables below n the same values
+abbrev pub AgreeBelow : ℕ → (f h : ℕ → Bool) → Type 0
+AgreeBelow n f h = (x : ℕ) → x < n → h x ≡ f x
+
+-- clauses with which nothing is lost and nothing is won: whoever satisfies the new clauses satisfies the old ones, and whoever
+-- satisfies the old ones satisfies the new ones by other values for variables from n on
+pub record Extends (n : ℕ) (old new : List (List Lit)) : Type 0 where
+  pub earlier : (f : ℕ → Bool) → all_true f new ≡ true → all_true f old ≡ true
+  pub later : (f : ℕ → Bool) → all_true f old ≡ true → (h : ℕ → Bool) × AgreeBelow n f h × (all_true h new ≡ true)

@@ -77,6 +77,8 @@ impl Solver for Plain {
         }
     }
 
+    fn prefer(&mut self, _lits: Vec<Lit>) {}
+
     #[tactic(auto, unfolding(crate::specs::Logic::at))]
     fn model(&self, var: usize) -> bool {
         self.found[var]

@@ -52,6 +52,14 @@ pub trait Solver {
         ensures clauses { clauses self.new ≡ clauses self.old }
         ensures answer { IfOk result (λ answer. Answers answer (vars self.old) (clauses self.old) assumed.now (found self.new)) };
 
+    /// A hint: these literals are to be decided first, in their order, as false, from now on and
+    /// until the next hint; without literals it is taken back. It takes no memory. No answer and no
+    /// model is less right if the solver does otherwise.
+    fn prefer(&mut self, lits: Vec<Lit>)
+        ensures vars { vars self.new ≡ vars self.old }
+        ensures clauses { clauses self.new ≡ clauses self.old }
+        ensures found { found self.new ≡ found self.old };
+
     /// The value of a variable in the model that was found. It takes no memory.
     fn model(&self, var: usize) -> bool
         requires { var < length (found self.now) }

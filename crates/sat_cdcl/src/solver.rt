@@ -183,6 +183,10 @@ impl Solver for Cdcl {
         }
     }
 
+    fn prefer(&mut self, lits: Vec<Lit>) {
+        self.search.activity.prefer(lits);
+    }
+
     #[tactic(auto, unfolding(sat_base::specs::Logic::at))]
     fn model(&self, var: usize) -> bool {
         self.found[var]

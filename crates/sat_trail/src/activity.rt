@@ -21,6 +21,17 @@ pub struct Activity {
     /// How many learnt clauses there are, and how many there may be.
     live: usize,
     limit: usize,
+    preferred: Preferred,
+}
+
+/// Literals that are decided before all others, in their order, as false.
+#[derive(Debug, Drop)]
+struct Preferred {
+    lits: Vec<Lit>,
+    /// The literals before this place have values, so that no decision looks through the list anew.
+    next: usize,
+    /// The first place of each variable in the list, or one past every place.
+    places: Vec<usize>,
 }
 
 /// The sign of a variable: that which it had last, and before it had any, that in which most of its
@@ -58,6 +69,46 @@ impl Phase {
     }
 }
 
+impl Preferred {
+    fn new(alloc: Global) -> Preferred {
+        Preferred {
+            lits: Vec::new(alloc),
+            next: 0,
+            places: Vec::new(alloc),
+        }
+    }
+
+    /// Takes these literals in place of those before.
+    fn replace(&mut self, lits: Vec<Lit>) {
+        for lit in self.lits.iter() {
+            if let Some(place) = self.places.get_mut(lit.var) {
+                *place = usize::MAX;
+            }
+        }
+        for (i, lit) in lits.iter().enumerate() {
+            if let Some(place) = self.places.get_mut(lit.var) {
+                *place = (*place).min(i);
+            }
+        }
+        self.lits = lits;
+        self.next = 0;
+    }
+
+    /// The next literal, if there is one more; it is passed.
+    fn pass(&mut self) -> Option<Lit> {
+        let lit = self.lits.get(self.next).copied()?;
+        self.next += 1;
+        Some(lit)
+    }
+
+    /// Goes back to a variable that has no value any more.
+    fn reopen(&mut self, var: usize) {
+        if let Some(place) = self.places.get(var).copied() {
+            self.next = self.next.min(place);
+        }
+    }
+}
+
 impl Activity {
     /// No variable. It takes no memory.
     pub fn new(alloc: Global) -> Activity {
@@ -71,7 +122,23 @@ impl Activity {
             use_step: 1 << 20,
             live: 0,
             limit: FIRST_LIMIT,
+            preferred: Preferred::new(alloc),
         }
+    }
+
+    /// From now on these literals are decided first, in their order, as false.
+    pub fn prefer(&mut self, lits: Vec<Lit>) {
+        self.preferred.replace(lits);
+    }
+
+    /// How many literals are decided first.
+    pub fn preferred_count(&self) -> usize {
+        self.preferred.lits.len()
+    }
+
+    /// The next of the literals that are decided first; it is passed until its variable is reopened.
+    pub fn pass_preferred(&mut self) -> Option<Lit> {
+        self.preferred.pass()
     }
 
     /// One variable more.
@@ -79,6 +146,7 @@ impl Activity {
         let var = self.score.len();
         self.score.push(0)?;
         self.place.push(usize::MAX)?;
+        self.preferred.places.push(usize::MAX)?;
         self.phases.push(Phase {
             neg: true,
             had_value: false,
@@ -123,6 +191,7 @@ impl Activity {
             phase.neg = lit.neg;
             phase.had_value = true;
         }
+        self.preferred.reopen(lit.var);
         self.insert(lit.var)
     }
 

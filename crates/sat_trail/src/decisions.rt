@@ -19,11 +19,10 @@ pub enum Choice {
     Full(Vec<bool>),
 }
 
-/// Decides a variable, with the sign that it had last, if it has no value.
-fn decide_variable(trail: &mut Trail, activity: &Activity, var: usize) -> Put
+/// Decides a variable with this sign, if it has no value.
+fn decide_sign(trail: &mut Trail, var: usize, neg: bool) -> Put
     ensures { IsDecided trail.old trail.new var result }
 {
-    let neg = activity.sign(var);
     let step = Step {
         lit: Lit { var, neg },
         implied: false,
@@ -31,6 +30,14 @@ fn decide_variable(trail: &mut Trail, activity: &Activity, var: usize) -> Put
     };
     let len = trail.len();
     trail.put(len, step)
+}
+
+/// Decides a variable, with the sign that it had last, if it has no value.
+fn decide_variable(trail: &mut Trail, activity: &Activity, var: usize) -> Put
+    ensures { IsDecided trail.old trail.new var result }
+{
+    let neg = activity.sign(var);
+    decide_sign(trail, var, neg)
 }
 
 /// The values of all variables, or a decision of one that has none.
@@ -47,6 +54,24 @@ fn collect(alloc: Global, trail: &mut Trail, activity: &Activity) -> Result<Choi
         values.push(value)?;
     }
     Ok(Choice::Full(values))
+}
+
+/// Decides the first of the preferred literals without a value, as false, if there is one.
+fn decide_preferred(trail: &mut Trail, activity: &mut Activity) -> bool
+    ensures { MatchBool result (IsDecision trail.old trail.new) (trail.new ≡ trail.old) }
+{
+    for _literal in 0..activity.preferred_count() {
+        let lit = match activity.pass_preferred() {
+            None => return false,
+            Some(lit) => lit,
+        };
+        match decide_sign(trail, lit.var, !lit.neg) {
+            Put::Done => return true,
+            Put::Taken(_) => {}
+            Put::Absent => {}
+        }
+    }
+    false
 }
 
 /// Decides the most active of the variables without a value, if the order has one.
@@ -67,7 +92,8 @@ fn decide_active(trail: &mut Trail, activity: &mut Activity) -> bool
     false
 }
 
-/// Decides a variable without a value, the most active one if the order has it.
+/// Decides a variable without a value: that of a preferred literal if there is one, else the most
+/// active one if the order has it.
 pub fn decide(
     alloc: Global,
     trail: &mut Trail,
@@ -75,6 +101,9 @@ pub fn decide(
 ) -> Result<Choice, OutOfMemory>
     ensures { IfOk result (λ choice. IsChoice trail.old trail.new choice) }
 {
+    if decide_preferred(trail, activity) {
+        return Ok(Choice::Made);
+    }
     if decide_active(trail, activity) {
         return Ok(Choice::Made);
     }

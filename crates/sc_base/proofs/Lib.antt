@@ -1,2 +1,3 @@
-pub mod Interned
+pub mod KeyNumbers
+pub mod KeyedValues
 pub mod Named

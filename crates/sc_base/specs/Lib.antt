@@ -2,6 +2,7 @@ pub mod Causes
 pub mod Held
 pub mod Memory
 pub mod Names
+pub mod Numbers
 pub mod Real
 pub mod Skip
 pub mod Taken

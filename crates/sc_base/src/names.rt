@@ -1,19 +1,16 @@
 // Names by number: each text is kept once, and the trees carry its place in their stead.
 
-ghost use Rattle.std.specs.Prelude.{◌≡◌, ◌+◌, ◌-◌, ◌^◌, ◌<◌, ◌∷◌, ◌++◌, [], Some, true, false, length, map, slice_get, string_bytes, IsTrue, IfOk, OnErr, MatchOption};
-ghost use Rattle.sc_base.specs.Held.{is_named};
-ghost use Rattle.sc_base.specs.Names.{place_of, with_text, all_different};
+ghost use Rattle.std.specs.Prelude.{◌≡◌, ◌<◌, [], Some, length, map, slice_get, string_bytes, IsTrue};
+ghost use Rattle.sc_base.specs.Names.{all_different};
 
-use crate::{NameId, OutOfMemory};
-use indexmap::IndexSet;
+use crate::NameId;
 use std::alloc::Global;
 use std::marker::Model;
 
-/// The interned texts. Contracts see the list of them, in which all are different.
+/// The texts of names, each at its place. Contracts see the list of them, in which all are different.
 #[derive(Debug, Drop)]
 pub struct Names {
-    alloc: Global,
-    texts: IndexSet<String>,
+    texts: Vec<String>,
 }
 
 impl Model for Names {
@@ -22,9 +19,9 @@ impl Model for Names {
 
     ghost Value = { List (List ℕ) };
 
-    ghost view = { λ n. map string_bytes n.texts.keys };
+    ghost view = { λ n. map string_bytes n.texts.items };
 
-    ghost invariant = { λ n. IsTrue (all_different (map string_bytes n.texts.keys)) };
+    ghost invariant = { λ n. IsTrue (all_different (map string_bytes n.texts.items)) };
 }
 
 impl Names {
@@ -33,9 +30,16 @@ impl Names {
         ensures { result ≡ [] }
     {
         Names {
-            alloc,
-            texts: IndexSet::new(alloc),
+            texts: Vec::new(alloc),
         }
+    }
+
+    /// These texts, all different, each at its place. It takes no memory.
+    pub fn from_texts(texts: Vec<String>) -> Names
+        requires { IsTrue (all_different (map string_bytes texts.items)) }
+        ensures { result ≡ map string_bytes texts.items }
+    {
+        Names { texts }
     }
 
     /// The number of texts.
@@ -46,23 +50,6 @@ impl Names {
         self.texts.len()
     }
 
-    /// The place of this text, which goes behind the others where it is not there yet. Where
-    /// memory is refused the texts stay as they were.
-    pub fn intern(&mut self, text: &str) -> Result<NameId, OutOfMemory>
-        requires { length self.old < 2 ^ 32 - 1 }
-        ensures place { IfOk result (λ id. id.at ≡ place_of text.now self.old) }
-        ensures texts { IfOk result (λ _. self.new ≡ with_text self.old text.now) }
-        ensures stands { IfOk result (λ id. slice_get self.new id.at ≡ Some text.now) }
-        ensures err { OnErr result (self.new ≡ self.old) }
-        ensures different { IsTrue (all_different self.new) }
-    {
-        if let Some(at) = found(&self.texts, text) {
-            return Ok(NameId { at: at as u32 });
-        }
-        let at = append(&mut self.texts, String::from_str(self.alloc, text)?)?;
-        Ok(NameId { at: at as u32 })
-    }
-
     /// The text at that place.
     pub fn text(&self, id: NameId) -> &str
         requires { id.at < length self.now }
@@ -71,24 +58,4 @@ impl Names {
     {
         self.texts[id.at as usize].as_str()
     }
-}
-
-// The place of a text that is there.
-fn found(texts: &IndexSet<String>, text: &str) -> Option<usize>
-    ensures { MatchOption result (is_named text.now (map string_bytes texts.now.keys) ≡ false)
-        (λ at. (is_named text.now (map string_bytes texts.now.keys) ≡ true) × (at ≡ place_of text.now (map string_bytes texts.now.keys)) × (at < length texts.now.keys)
-        × (slice_get (map string_bytes texts.now.keys) at ≡ Some text.now)) }
-{
-    texts.get_index_of(text)
-}
-
-// Puts a text that is not there behind the others.
-fn append(texts: &mut IndexSet<String>, text: String) -> Result<usize, OutOfMemory>
-    requires { is_named (string_bytes text) (map string_bytes texts.old.keys) ≡ false }
-    ensures place { IfOk result (λ at. at ≡ length texts.old.keys) }
-    ensures texts { IfOk result (λ _. texts.new.keys ≡ texts.old.keys ++ text ∷ []) }
-    ensures err { OnErr result (texts.new.keys ≡ texts.old.keys) }
-{
-    let (at, _) = texts.insert_full(text)?;
-    Ok(at)
 }

@@ -9,8 +9,7 @@ ghost use Rattle.sc_check.specs.Typed as typed;
 
 use crate::functions::name_or;
 use crate::walks::alone_tables;
-use indexmap::IndexSet;
-use sc_base::{List, NameId, OutOfMemory};
+use sc_base::{List, NameId, Numbers, OutOfMemory};
 use sc_program::Bodied;
 use sc_rules::Builtin;
 use sc_tree::ctype::Widths;
@@ -22,7 +21,7 @@ use std::marker::Model;
 // The functions that are local to their file. Contracts see the files and names, each pair once.
 #[derive(Drop)]
 pub struct LocalFunctions {
-    keys: IndexSet<(u32, u32)>,
+    keys: Numbers<(u32, u32)>,
 }
 
 impl Model for LocalFunctions {
@@ -30,7 +29,7 @@ impl Model for LocalFunctions {
 
     ghost Value = { List (ℕ × ℕ) };
 
-    ghost view = { λ l. l.keys.keys };
+    ghost view = { λ l. l.keys };
 }
 
 impl LocalFunctions {
@@ -48,7 +47,7 @@ impl LocalFunctions {
             → spec.has_pair l file name ≡ typed.is_local_function locals.now file name) }
     {
         let mut all = LocalFunctions {
-            keys: IndexSet::new(alloc),
+            keys: Numbers::new(alloc),
         };
         for (file, name) in locals {
             all.add(*file, *name)?;

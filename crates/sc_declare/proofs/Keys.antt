@@ -1,10 +1,9 @@
 -- The keys of globals as the index by hash holds them: as pairs of the number of a name and of a file.
 use Rattle.std.proofs.Common.{◌≡◌, ℕ, ◌+◌, Bool, true, false, not, ◌||◌, ◌&&◌, cond, List, [], ◌∷◌, ◌++◌, map, take, length, Option, Some, None, is_some, nat_eq, if◌then◌else◌, refl, sym, ◌∙◌, ap, arith}
-use Rattle.std.proofs.lemmas.Option.{cond_some}
 use Rattle.std.proofs.lemmas.List.{length-map, map-append, take-map}
-use Rattle.std.specs.List.{list_any, position_or_len, position}
-use Rattle.std.specs.Option.{option_eq, unwrap_or}
-use Rattle.indexmap.specs.IndexSet.{insert_key}
+use Rattle.std.specs.List.{list_any, position_or_len}
+use Rattle.std.specs.Option.{option_eq}
+use Rattle.sc_base.specs.Numbers.{insert_key}
 use Rattle.sc_tree.specs.declared.ctype.CType.{CType}
 use Rattle.sc_typed.specs.declared.program.Global.{Global}
 use Rattle.sc_typed.specs.Types.{same_length}
@@ -35,24 +34,11 @@ any_at k [] = refl
 any_at k (p ∷ ps) =
     ap (λ b. b || list_any (same_pair (pair_of k)) ps) (is_key_at k p) ∙ ap (λ b. is_key k (key_at p) || b) (any_at k ps)
 
-place_at : (k : GlobalKey) (ps : List Pair) → position_or_len (same_pair (pair_of k)) ps ≡ place_of k (map key_at ps)
+pub place_at : (k : GlobalKey) (ps : List Pair) → position_or_len (same_pair (pair_of k)) ps ≡ place_of k (map key_at ps)
 place_at k [] = refl
 place_at k (p ∷ ps) =
     ap (λ b. cond (not b) (1 + position_or_len (same_pair (pair_of k)) ps) 0) (is_key_at k p)
     ∙ ap (λ n. cond (not (is_key k (key_at p))) (1 + n) 0) (place_at k ps)
-
-absent_step : (test : Pair → Bool) (p : Pair) (ps : List Pair) (b : Bool) → test p ≡ b → list_any test (p ∷ ps) ≡ false → (list_any test ps ≡ false → position_or_len test ps ≡ length ps) → position_or_len test (p ∷ ps) ≡ length (p ∷ ps)
-absent_step test p ps true is none rest = let no : true ≡ false = rw is at none in (cc)
-absent_step test p ps false is none rest = rw (is, rest (rw is at none)) (omega arith)
-
-absent_len : (test : Pair → Bool) (ps : List Pair) → list_any test ps ≡ false → position_or_len test ps ≡ length ps
-absent_len test [] none = refl
-absent_len test (p ∷ ps) none = absent_step test p ps (test p) refl none (absent_len test ps)
-
--- what the look-up by hash gives is the place of the key
-pub looked_up : (k : GlobalKey) (ps : List Pair) (r : Option ℕ) → r ≡ position (same_pair (pair_of k)) ps → is_some r ≡ list_any (same_pair (pair_of k)) ps → unwrap_or r (length ps) ≡ place_of k (map key_at ps)
-looked_up k ps None index found = sym (absent_len (same_pair (pair_of k)) ps (sym found)) ∙ place_at k ps
-looked_up k ps (Some at) index found = sym (cond_some _ _ _ (sym index)).1 ∙ place_at k ps
 
 added_by : (b : Bool) (ps : List Pair) (k : GlobalKey) → map key_at (if b then ps else ps ++ pair_of k ∷ []) ≡ (if b then map key_at ps else map key_at ps ++ k ∷ [])
 added_by true ps k = refl

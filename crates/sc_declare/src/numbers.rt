@@ -4,8 +4,7 @@ ghost use Rattle.std.specs.Prelude.{◌≡◌, [], take, IfOk, OnOk, OnErr};
 ghost use Rattle.std.specs.List.{list_any};
 ghost use Rattle.sc_declare.specs.Numbers.{is_key, place_of, with_key};
 
-use indexmap::IndexSet;
-use sc_base::OutOfMemory;
+use sc_base::{Numbers, OutOfMemory};
 use sc_rules::GlobalKey;
 use std::alloc::Global;
 use std::marker::Model;
@@ -13,7 +12,7 @@ use std::marker::Model;
 /// The numbers of the globals of a walk. Contracts see the list of their keys, in the order of the globals.
 #[derive(Drop)]
 pub struct GlobalNumbers {
-    keys: IndexSet<(u32, Option<u32>)>,
+    keys: Numbers<(u32, Option<u32>)>,
 }
 
 impl Model for GlobalNumbers {
@@ -23,7 +22,7 @@ impl Model for GlobalNumbers {
 
     ghost Value = { List Key };
 
-    ghost view = { λ n. map key_at n.keys.keys };
+    ghost view = { λ n. map key_at n.keys };
 }
 
 impl GlobalNumbers {
@@ -32,7 +31,7 @@ impl GlobalNumbers {
         ensures { result ≡ [] }
     {
         GlobalNumbers {
-            keys: IndexSet::new(alloc),
+            keys: Numbers::new(alloc),
         }
     }
 
@@ -48,11 +47,7 @@ impl GlobalNumbers {
     pub fn number(&self, key: GlobalKey) -> Result<u32, OutOfMemory>
         ensures { IfOk result (λ number. number ≡ place_of key self.now) }
     {
-        let count = self.keys.len();
-        let number = self
-            .keys
-            .get_index_of(&(key.name.at, key.file))
-            .unwrap_or(count);
+        let number = self.keys.number(&(key.name.at, key.file));
         if number > u32::MAX as usize {
             return Err(OutOfMemory);
         }

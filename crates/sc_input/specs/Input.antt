@@ -16,6 +16,7 @@ use Rattle.sc_tree.specs.Lexed.{lexed, Lexemes}
 use Rattle.sc_tree.specs.Lexed as lex
 use Rattle.sc_tree.specs.Units.{AllFit}
 use Rattle.sc_input.specs.declared.input.Input.{Input}
+use Rattle.sc_input.specs.declared.input.Reading.{Reading}
 use Rattle.sc_input.specs.declared.refusal.Refusal.{Refusal}
 use Rattle.sc_input.specs.declared.refusal.Refusal.TheVariants as refusal
 
@@ -83,6 +84,10 @@ pub record Adds (held : Option (List (List ℕ × List ℕ))) (name : List ℕ) 
   pub used : after.used ≡ before.used + length bytes
 
 -- ---- all files
+
+-- what was read so far, if no file is left
+abbrev pub so_far : Reading → Input
+so_far reading = record { names = reading.names; files = reading.files; units = reading.units; machine = reading.machine; used = reading.used }
 
 -- what was read before the first file: nothing but the machine
 abbrev pub nothing_but : Option MachineSpec → ℕ → Input

@@ -3,12 +3,13 @@
 ghost use Rattle.std.specs.Prelude.{◌≡◌, ◌<◌, ◌≤◌, ◌+◌, ◌-◌, ◌^◌, IfErr, IfOk, length};
 ghost use Rattle.sc_lexer.specs.Answer.{Grow};
 ghost use Rattle.sc_lexer.specs.Naming.{names_after};
-ghost use Rattle.sc_input.specs.Input.{most_bytes, most_files, Adds, Fit, IsOpen, IsTree};
+ghost use Rattle.sc_input.specs.Input.{most_bytes, most_files, so_far, Adds, Fit, IsOpen, IsTree};
 ghost use Rattle.sc_input.specs.Input.{RefuseBytes, RefuseFile, RefuseTree};
 
 use crate::refusal::Refusal;
 use fsm_spec::MachineSpec;
-use sc_base::{Files, List, NameId, Names};
+use name_interner::Interner;
+use sc_base::{Files, List, NameId, Names, OutOfMemory};
 use sc_lexer::{LexAnswer, tokens};
 use sc_parse_unit::unit;
 use sc_tree::unit::Unit;
@@ -31,6 +32,44 @@ pub struct Input {
     pub machine: Option<MachineSpec>,
     /// How many bytes were read.
     pub used: usize,
+}
+
+/// The files that were read so far, while names still come.
+#[derive(Drop)]
+pub struct Reading {
+    /// The names that were met so far.
+    pub names: Interner,
+    /// The names of the files, in order.
+    pub files: List<NameId>,
+    /// The trees of the files, in order.
+    pub units: List<Unit>,
+    /// The machine of states, if one is named.
+    pub machine: Option<MachineSpec>,
+    /// How many bytes were read.
+    pub used: usize,
+}
+
+impl Reading {
+    /// What was read, where no file is left.
+    pub fn into_input(self) -> Result<Input, OutOfMemory>
+        ensures { IfOk result (λ input. input ≡ so_far self) }
+    {
+        let Reading {
+            names,
+            files,
+            units,
+            machine,
+            used,
+        } = self;
+        let names = names.into_names()?;
+        Ok(Input {
+            names,
+            files,
+            units,
+            machine,
+            used,
+        })
+    }
 }
 
 /// The bytes of the file of this name, behind so many of the files before it.
@@ -62,7 +101,7 @@ pub fn bytes_within<'a, F: Files>(
 // The tree of a file with these bytes.
 fn tree<'a>(
     alloc: Global,
-    names: &mut Names,
+    names: &mut Interner,
     file: u32,
     name: &'a str,
     bytes: &[u8],
@@ -88,31 +127,31 @@ fn tree<'a>(
 pub fn with_file<'a, F: Files>(
     alloc: Global,
     files: &mut F,
-    input: Input,
+    reading: Reading,
     name: &'a str,
-) -> Result<Input, Refusal<'a>>
-    requires room { IsOpen input }
-    requires few { length input.units < most_files }
-    ensures added { IfOk result (Adds (F.held files.old) name.entry.now input) }
-    ensures room { IfOk result (λ more. IsOpen more) }
-    ensures refused { IfErr result (RefuseFile (record { held = F.held files.old; firm = F.firm files.old; faults_before = F.faults files.old; faults_after = F.faults files.new }) input name.entry.now) }
+) -> Result<Reading, Refusal<'a>>
+    requires room { IsOpen (so_far reading) }
+    requires few { length reading.units < most_files }
+    ensures added { IfOk result (λ more. Adds (F.held files.old) name.entry.now (so_far reading) (so_far more)) }
+    ensures room { IfOk result (λ more. IsOpen (so_far more)) }
+    ensures refused { IfErr result (RefuseFile (record { held = F.held files.old; firm = F.firm files.old; faults_before = F.faults files.old; faults_after = F.faults files.new }) (so_far reading) name.entry.now) }
     ensures held { F.held files.new ≡ F.held files.old }
     ensures firm { F.firm files.new ≡ F.firm files.old }
     ensures later { F.faults files.old ≤ F.faults files.new }
 {
-    let Input {
+    let Reading {
         mut names,
         files: mut ids,
         mut units,
         machine,
         used,
-    } = input;
+    } = reading;
     let id = names.intern(name)?;
     let bytes = bytes_within(alloc, files, used, name)?;
     let unit = tree(alloc, &mut names, units.len() as u32, name, &bytes)?;
     ids.push(id)?;
     units.push(unit)?;
-    Ok(Input {
+    Ok(Reading {
         names,
         files: ids,
         units,

@@ -1,20 +1,21 @@
 // What is read before the first file: the machine of states.
 
 ghost use Rattle.std.specs.Prelude.{◌≡◌, ◌≤◌, [], IfErr, IfOk, None, Some};
-ghost use Rattle.sc_input.specs.Input.{nothing_but, Begins, IsOpen, RefuseMachine};
+ghost use Rattle.sc_input.specs.Input.{nothing_but, so_far, Begins, IsOpen, RefuseMachine};
 
-use crate::input::{Input, bytes_within};
+use crate::input::{Reading, bytes_within};
 use crate::refusal::Refusal;
 use fsm_spec::{MachineAnswer, MachineSpec, machine};
-use sc_base::{Files, List, Names};
+use name_interner::Interner;
+use sc_base::{Files, List};
 use std::alloc::Global;
 
 // Nothing but a machine, of which so many bytes were read.
-fn nothing_but(alloc: Global, machine: Option<MachineSpec>, used: usize) -> Input
-    ensures { result ≡ nothing_but machine used }
+fn nothing_but(alloc: Global, machine: Option<MachineSpec>, used: usize) -> Reading
+    ensures { so_far result ≡ nothing_but machine used }
 {
-    Input {
-        names: Names::new(alloc),
+    Reading {
+        names: Interner::new(alloc),
         files: List::new(alloc),
         units: List::new(alloc),
         machine,
@@ -27,9 +28,9 @@ pub fn with_machine<'a, F: Files>(
     alloc: Global,
     files: &mut F,
     name: &'a str,
-) -> Result<Input, Refusal<'a>>
-    ensures begins { IfOk result (Begins (F.held files.old) (Some name.entry.now)) }
-    ensures room { IfOk result (λ input. IsOpen input × (input.units ≡ [])) }
+) -> Result<Reading, Refusal<'a>>
+    ensures begins { IfOk result (λ reading. Begins (F.held files.old) (Some name.entry.now) (so_far reading)) }
+    ensures room { IfOk result (λ reading. IsOpen (so_far reading) × (reading.units ≡ [])) }
     ensures refused { IfErr result (RefuseMachine (record { held = F.held files.old; firm = F.firm files.old; faults_before = F.faults files.old; faults_after = F.faults files.new }) name.entry.now) }
     ensures held { F.held files.new ≡ F.held files.old }
     ensures firm { F.firm files.new ≡ F.firm files.old }
@@ -44,8 +45,8 @@ pub fn with_machine<'a, F: Files>(
 }
 
 /// What is read before the first file where no machine is named: nothing.
-pub fn without_machine(alloc: Global) -> Input
-    ensures { result ≡ nothing_but None 0 }
+pub fn without_machine(alloc: Global) -> Reading
+    ensures { so_far result ≡ nothing_but None 0 }
 {
     nothing_but(alloc, None, 0)
 }

@@ -1,9 +1,9 @@
 // The input of a check, file after file.
 
 ghost use Rattle.std.specs.Prelude.{◌≡◌, ◌≤◌, [], length, map, option_map, IfErr, IfOk};
-ghost use Rattle.sc_input.specs.Input.{most_files, Answers, Begins, Give, IsOpen, RefuseBegin, Stops};
+ghost use Rattle.sc_input.specs.Input.{most_files, so_far, Answers, Begins, Give, IsOpen, RefuseBegin, Stops};
 
-use crate::input::{Input, with_file};
+use crate::input::{Input, Reading, with_file};
 use crate::machine::{with_machine, without_machine};
 use crate::refusal::Refusal;
 use sc_base::Files;
@@ -16,23 +16,23 @@ const MOST_FILES: usize = 64;
 fn with_files<'a, F: Files>(
     alloc: Global,
     files: &mut F,
-    start: Input,
+    start: Reading,
     named: &[&'a str],
-) -> Result<Input, Refusal<'a>>
-    requires room { IsOpen start }
+) -> Result<Reading, Refusal<'a>>
+    requires room { IsOpen (so_far start) }
     requires first { start.units ≡ [] }
     requires few { length named.now ≤ most_files }
-    ensures read { IfOk result (Give (F.held files.old) start (map (λ name. name.now) named.now)) }
-    ensures stops { IfErr result (Stops (record { held = F.held files.old; firm = F.firm files.old; faults_before = F.faults files.old; faults_after = F.faults files.new }) start (map (λ name. name.now) named.now)) }
+    ensures read { IfOk result (λ reading. Give (F.held files.old) (so_far start) (map (λ name. name.now) named.now) (so_far reading)) }
+    ensures stops { IfErr result (Stops (record { held = F.held files.old; firm = F.firm files.old; faults_before = F.faults files.old; faults_after = F.faults files.new }) (so_far start) (map (λ name. name.now) named.now)) }
     ensures held { F.held files.new ≡ F.held files.old }
     ensures firm { F.firm files.new ≡ F.firm files.old }
     ensures later { F.faults files.old ≤ F.faults files.new }
 {
-    let mut input = start;
+    let mut reading = start;
     for name in named {
-        input = with_file(alloc, files, input, *name)?;
+        reading = with_file(alloc, files, reading, *name)?;
     }
-    Ok(input)
+    Ok(reading)
 }
 
 // The input where there are not too many files.
@@ -40,9 +40,9 @@ fn begun<'a, F: Files>(
     alloc: Global,
     files: &mut F,
     machine: Option<&'a str>,
-) -> Result<Input, Refusal<'a>>
-    ensures begins { IfOk result (Begins (F.held files.old) (option_map (λ name. name.now) machine.entry)) }
-    ensures room { IfOk result (λ input. IsOpen input × (input.units ≡ [])) }
+) -> Result<Reading, Refusal<'a>>
+    ensures begins { IfOk result (λ reading. Begins (F.held files.old) (option_map (λ name. name.now) machine.entry) (so_far reading)) }
+    ensures room { IfOk result (λ reading. IsOpen (so_far reading) × (reading.units ≡ [])) }
     ensures refused { IfErr result (RefuseBegin (record { held = F.held files.old; firm = F.firm files.old; faults_before = F.faults files.old; faults_after = F.faults files.new }) (option_map (λ name. name.now) machine.entry)) }
     ensures held { F.held files.new ≡ F.held files.old }
     ensures firm { F.firm files.new ≡ F.firm files.old }
@@ -78,5 +78,6 @@ pub fn read_input<'a, F: Files>(
         return Err(Refusal::Files(named.len() as u64));
     }
     let start = begun(alloc, files, machine)?;
-    with_files(alloc, files, start, named)
+    let reading = with_files(alloc, files, start, named)?;
+    Ok(reading.into_input()?)
 }

@@ -4,8 +4,7 @@ ghost use Rattle.std.specs.Prelude.{◌≡◌, OnOk, IfOk};
 ghost use Rattle.std.specs.Option.{option_copied};
 ghost use Rattle.sc_jumps.specs.Jumps as spec;
 
-use indexmap::IndexMap;
-use sc_base::{List, NameId, OutOfMemory, Pos};
+use sc_base::{Keyed, List, NameId, OutOfMemory, Pos};
 use std::alloc::Global;
 use std::marker::Model;
 
@@ -30,7 +29,7 @@ pub struct Goto {
 /// labels that have one of these names once more, and each `goto`, all in the order of the text.
 #[derive(Drop)]
 pub struct Jumps {
-    labels: IndexMap<u32, List<Inward>>,
+    labels: Keyed<u32, List<Inward>>,
     again: List<Pos>,
     gotos: List<Goto>,
 }
@@ -40,7 +39,7 @@ impl Model for Jumps {
 
     ghost Value = { Found };
 
-    ghost view = { λ j. record { labels = j.labels.entries; again = j.again; gotos = j.gotos } };
+    ghost view = { λ j. record { labels = j.labels; again = j.again; gotos = j.gotos } };
 }
 
 impl Jumps {
@@ -49,7 +48,7 @@ impl Jumps {
         ensures { result ≡ spec.nothing }
     {
         Jumps {
-            labels: IndexMap::new(alloc),
+            labels: Keyed::new(alloc),
             again: List::new(alloc),
             gotos: List::new(alloc),
         }
@@ -85,7 +84,7 @@ impl Jumps {
     ) -> Result<(), OutOfMemory>
         ensures { OnOk result (self.new ≡ spec.with_label name pos way.now.items self.old) }
     {
-        if self.labels.contains_key(&name.at) {
+        if self.labels.contains(&name.at) {
             self.again.push(pos)?;
             return Ok(());
         }

@@ -12,7 +12,7 @@ use crate::brackets::unbalanced;
 use crate::removal::kept;
 use crate::scan::scan;
 use crate::segments::ends_of;
-use sc_base::Names;
+use name_interner::Interner;
 use sc_tree::Tokens;
 use std::alloc::Global;
 
@@ -23,7 +23,7 @@ use std::alloc::Global;
 #[tactic(auto, using(crate::proofs::CutProofs::ends_cut), unfolding(sc_tree::specs::Lexed::lexed, crate::specs::Naming::names_after))]
 pub fn tokens(
     alloc: Global,
-    names: &mut Names,
+    names: &mut Interner,
     file: u32,
     bytes: &[u8],
 ) -> Result<Tokens, LexAnswer>

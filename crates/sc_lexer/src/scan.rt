@@ -10,7 +10,8 @@ use crate::answer::LexAnswer;
 use crate::pieces::piece;
 use crate::place::Place;
 use crate::words::kind_of;
-use sc_base::{List, Names, OutOfMemory, Pos};
+use name_interner::Interner;
+use sc_base::{List, OutOfMemory, Pos};
 use sc_tree::{Kind, Token};
 use std::alloc::Global;
 
@@ -27,7 +28,7 @@ fn push(tokens: &mut List<Token>, kind: Option<Kind>, pos: Pos) -> Result<(), Ou
 /// The tokens of the pieces, or the place where nothing begins.
 pub(crate) fn scan(
     alloc: Global,
-    names: &mut Names,
+    names: &mut Interner,
     file: u32,
     bytes: &[u8],
 ) -> Result<List<Token>, LexAnswer>

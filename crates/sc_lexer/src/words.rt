@@ -11,7 +11,8 @@ ghost use Rattle.sc_lexer.specs.Naming.{with_piece, with_word};
 ghost use Rattle.sc_lexer.specs.Texts.{HasText};
 
 use crate::tables::reserved;
-use sc_base::{Names, OutOfMemory};
+use name_interner::Interner;
+use sc_base::OutOfMemory;
 use sc_tree::{Form, Kind};
 
 /// The bytes of a word as a text.
@@ -27,7 +28,7 @@ fn text_of(word: &[u8]) -> &str
 }
 
 /// What a word is. Its text goes behind the other names where it is not reserved and not there yet.
-fn word_kind(names: &mut Names, word: &[u8]) -> Result<Kind, OutOfMemory>
+fn word_kind(names: &mut Interner, word: &[u8]) -> Result<Kind, OutOfMemory>
     requires room { length names.old < 2 ^ 32 - 1 }
     requires text { list_all is_word_byte word.now ≡ true }
     ensures kind { IfOk result (λ kind. (more : List (List ℕ)) → kind ≡ word_kind (names.new ++ more) word.now) }
@@ -43,7 +44,7 @@ fn word_kind(names: &mut Names, word: &[u8]) -> Result<Kind, OutOfMemory>
 
 /// What a piece of this text is, if it is a token.
 pub(crate) fn kind_of(
-    names: &mut Names,
+    names: &mut Interner,
     form: Form,
     text: &[u8],
 ) -> Result<Option<Kind>, OutOfMemory>

@@ -3,7 +3,7 @@ use Rattle.std.proofs.Common.{◌≡◌, ℕ, Bool, true, false, ◌||◌, List,
 use Rattle.std.specs.List.{list_any}
 use Rattle.std.proofs.lemmas.List.{map-append, take-map}
 use Rattle.std.proofs.lemmas.Cmp.{nat_eq_equiv}
-use Rattle.indexmap.specs.IndexSet.{insert_key}
+use Rattle.sc_base.specs.Numbers.{insert_key}
 use Rattle.sc_base.specs.declared.pos.NameId.{NameId}
 use Rattle.sc_tree.specs.Tokens.{is_type}
 use Rattle.sc_tree.specs.Units.{with_type}

@@ -4,8 +4,7 @@ ghost use Rattle.std.specs.Prelude.{◌≡◌, ◌≤◌, ℕ, [], ◌++◌, ◌
 ghost use Rattle.sc_tree.specs.Tokens.{is_type};
 ghost use Rattle.sc_tree.specs.Units.{with_type};
 
-use indexmap::IndexSet;
-use sc_base::{NameId, OutOfMemory};
+use sc_base::{NameId, Numbers, OutOfMemory};
 use std::alloc::Global;
 use std::marker::Model;
 
@@ -13,7 +12,7 @@ use std::marker::Model;
 /// which they were declared first.
 #[derive(Debug, Drop)]
 pub struct TypeNames {
-    places: IndexSet<u32>,
+    places: Numbers<u32>,
 }
 
 impl Model for TypeNames {
@@ -23,7 +22,7 @@ impl Model for TypeNames {
 
     ghost Value = { List NameId };
 
-    ghost view = { λ t. map name_at t.places.keys };
+    ghost view = { λ t. map name_at t.places };
 }
 
 impl TypeNames {
@@ -32,7 +31,7 @@ impl TypeNames {
         ensures { result ≡ [] }
     {
         TypeNames {
-            places: IndexSet::new(alloc),
+            places: Numbers::new(alloc),
         }
     }
 

@@ -2,4 +2,3 @@ pub mod Booleans
 pub mod Numbers
 pub mod BodyTable
 pub mod RecordTable
-pub mod Insert

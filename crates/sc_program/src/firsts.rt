@@ -4,15 +4,14 @@
 ghost use Rattle.std.specs.Prelude.{◌≡◌, [], IfOk, OnOk};
 ghost use Rattle.sc_program.specs.Places as spec;
 
-use indexmap::IndexMap;
-use sc_base::OutOfMemory;
+use sc_base::{Keyed, OutOfMemory};
 use std::alloc::Global;
 use std::marker::Model;
 
 /// The number of the first item with each key. Contracts see keys and numbers in the order in which they came.
 #[derive(Drop)]
 pub struct Firsts {
-    places: IndexMap<(u32, Option<u32>), u32>,
+    places: Keyed<(u32, Option<u32>), u32>,
 }
 
 impl Model for Firsts {
@@ -20,7 +19,7 @@ impl Model for Firsts {
 
     ghost Value = { Table };
 
-    ghost view = { λ f. f.places.entries };
+    ghost view = { λ f. f.places };
 }
 
 impl Firsts {
@@ -29,7 +28,7 @@ impl Firsts {
         ensures { result ≡ [] }
     {
         Firsts {
-            places: IndexMap::new(alloc),
+            places: Keyed::new(alloc),
         }
     }
 
@@ -44,9 +43,6 @@ impl Firsts {
     pub fn note(&mut self, name: u32, file: Option<u32>, number: u32) -> Result<(), OutOfMemory>
         ensures { OnOk result (self.new ≡ spec.noted (name, file) number self.old) }
     {
-        if self.places.contains_key(&(name, file)) {
-            return Ok(());
-        }
         self.places.insert((name, file), number)?;
         Ok(())
     }

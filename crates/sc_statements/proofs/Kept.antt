@@ -4,7 +4,7 @@ use Rattle.std.proofs.lemmas.Bool.{false≢true, eqb-true}
 use Rattle.std.proofs.lemmas.List.{map-append}
 use Rattle.std.specs.List.{list_any}
 use Rattle.std.specs.Option.{option_eq}
-use Rattle.indexmap.specs.IndexSet.{insert_key}
+use Rattle.sc_base.specs.Numbers.{insert_key}
 use Rattle.sc_base.specs.declared.pos.Pos.{Pos}
 use Rattle.sc_typed.specs.declared.stmt.TStmt.{TStmt}
 use Rattle.sc_rules.specs.declared.walk.Walk.{Walk}

@@ -8,8 +8,7 @@ ghost use Rattle.sc_rules.specs.Gives.{Gives};
 ghost use Rattle.sc_statements.specs.Choices as spec;
 ghost use Rattle.sc_statements.specs.Seen as kept;
 
-use indexmap::IndexSet;
-use sc_base::{Boxed, IllTyped, OutOfMemory, Pos};
+use sc_base::{Boxed, IllTyped, Numbers, OutOfMemory, Pos};
 use sc_rules::{Walk, holds_or, ill_typed_at};
 use sc_typed::TStmt;
 use std::alloc::Global;
@@ -27,7 +26,7 @@ pub enum Choice {
 // The choices seen so far, each once: a number, or `None` for `default`.
 #[derive(Drop)]
 struct Choices {
-    seen: IndexSet<Option<u64>>,
+    seen: Numbers<Option<u64>>,
 }
 
 impl Model for Choices {
@@ -37,7 +36,7 @@ impl Model for Choices {
 
     ghost Value = { List Item };
 
-    ghost view = { λ c. map choice_at c.seen.keys };
+    ghost view = { λ c. map choice_at c.seen };
 }
 
 fn key_of(choice: Choice) -> Option<u64>
@@ -54,7 +53,7 @@ impl Choices {
         ensures { result ≡ [] }
     {
         Choices {
-            seen: IndexSet::new(alloc),
+            seen: Numbers::new(alloc),
         }
     }
 
@@ -63,7 +62,7 @@ impl Choices {
         ensures new { IfOk result (λ new. new ≡ not (list_any (spec.same_choice choice) self.old)) }
         ensures added { OnOk result (self.new ≡ kept.kept_with choice self.old) }
     {
-        Ok(self.seen.insert(key_of(choice))?)
+        self.seen.insert(key_of(choice))
     }
 }
 

@@ -1,5 +1,5 @@
-// The walk over expressions, specifiers and declarators (C11 6.5, 6.7). Each function types the parts and asks the
-// of the definition, and asks the rule.
+// The walk over expressions, specifiers and declarators (C11 6.5, 6.7). Each function types the parts of what it is
+// given, and then asks the rule of the whole.
 
 ghost use Rattle.std.specs.Prelude.{◌≡◌, [], None, Some, map};
 ghost use Rattle.sc_rules.specs.Gives.{Gives};

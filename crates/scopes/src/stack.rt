@@ -5,11 +5,11 @@
 ghost use Rattle.std.specs.Prelude.{◌≡◌, ℕ, ◌+◌, ◌^◌, ◌<◌, [], ◌∷◌, ◌++◌, nat_eq, length, take, drop, if◌then◌else◌, Option, Some, None, IsSome, IfOk, OnOk, OnErr, IfSome, IfNone};
 ghost use Rattle.std.specs.Option.{option_copied, option_to_list};
 ghost use Rattle.std.specs.Map.{lookup, update};
-ghost use Rattle.indexmap.specs.IndexMap.{get};
+ghost use Rattle.std.specs.HashMap.{get};
 
-use indexmap::IndexMap;
 use sc_base::OutOfMemory;
 use std::alloc::Global;
+use std::collections::HashMap;
 use std::marker::Model;
 
 /// A declaration: a name, what it means, and the number of the entry that it hides.
@@ -24,12 +24,12 @@ pub struct Entry<T> {
 #[derive(Drop)]
 pub struct Stack<T> {
     entries: Vec<Entry<T>>,
-    index: IndexMap<u32, usize>,
+    index: HashMap<u32, usize>,
 }
 
 impl<T> Model for Stack<T> {
     ghost use Rattle.std.specs.Prelude.{List, ℕ, nat_eq, map, reverse};
-    ghost use Rattle.indexmap.specs.IndexMap.{get};
+    ghost use Rattle.std.specs.HashMap.{get};
 
     ghost Value = { List (ℕ × T) };
 
@@ -47,7 +47,7 @@ impl<T> Stack<T> {
     {
         Stack {
             entries: Vec::new(alloc),
-            index: IndexMap::new(alloc),
+            index: HashMap::new(alloc),
         }
     }
 
@@ -122,7 +122,7 @@ impl<T> Stack<T> {
 }
 
 // Sets the index of a name that is there back to what it was, which takes no memory.
-fn restore(index: &mut IndexMap<u32, usize>, name: u32, hidden: Option<usize>)
+fn restore(index: &mut HashMap<u32, usize>, name: u32, hidden: Option<usize>)
     requires { IsSome (get nat_eq index.old name) }
     ensures { (other : ℕ) → get nat_eq index.new other ≡ update nat_eq (get nat_eq index.old) name hidden other }
 {
@@ -131,7 +131,7 @@ fn restore(index: &mut IndexMap<u32, usize>, name: u32, hidden: Option<usize>)
             let _ = index.insert(name, number);
         }
         None => {
-            let _ = index.swap_remove(&name);
+            let _ = index.remove(&name);
         }
     }
 }

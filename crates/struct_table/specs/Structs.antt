@@ -1,6 +1,6 @@
 -- The structs and unions of a walk (C11 6.7.2.1).
 use Rattle.std.specs.Prelude.{ℕ, nat_lt, nat_eq, Option, Some, None, List, [], ◌∷◌, ◌++◌, length, slice_set, if◌then◌else◌}
-use Rattle.indexmap.specs.IndexMap.{get}
+use Rattle.std.specs.HashMap.{get}
 use Rattle.sc_typed.specs.declared.program.FieldDef.{FieldDef}
 use Rattle.sc_typed.specs.declared.program.StructDef.{StructDef}
 use Rattle.struct_table.specs.declared.members.Index.{Index}

@@ -1,13 +1,13 @@
 // The members of a struct or union, found by name.
 
 ghost use Rattle.std.specs.Prelude.{◌≡◌, ◌++◌, nat_eq, [], ◌∷◌, OnOk, IfOk};
-ghost use Rattle.indexmap.specs.IndexMap.{get};
+ghost use Rattle.std.specs.HashMap.{get};
 ghost use Rattle.struct_table.specs.Members as spec;
 
-use indexmap::IndexMap;
 use sc_base::{List, NameId, OutOfMemory};
 use sc_typed::FieldDef;
 use std::alloc::Global;
+use std::collections::HashMap;
 use std::marker::Model;
 
 /// Whether a member has a name, and that one.
@@ -23,7 +23,7 @@ pub fn is_called(name: NameId, member: Option<NameId>) -> bool
 // Where members stand: by its name the number of the first that has it, and the numbers of the unnamed ones.
 #[derive(Drop)]
 pub(crate) struct Index {
-    pub(crate) numbers: IndexMap<u32, usize>,
+    pub(crate) numbers: HashMap<u32, usize>,
     pub(crate) unnamed: Vec<usize>,
 }
 
@@ -32,14 +32,14 @@ pub(crate) fn no_index(alloc: Global) -> Index
     ensures { spec.IsIndexed (get nat_eq result.numbers) result.unnamed.items [] }
 {
     Index {
-        numbers: IndexMap::new(alloc),
+        numbers: HashMap::new(alloc),
         unnamed: Vec::new(alloc),
     }
 }
 
 // Notes the number of a member under its name, if it has one that no member before it has.
 fn note_name(
-    numbers: &mut IndexMap<u32, usize>,
+    numbers: &mut HashMap<u32, usize>,
     name: Option<NameId>,
     number: usize,
 ) -> Result<(), OutOfMemory>
@@ -86,7 +86,7 @@ pub struct Members {
 
 impl Model for Members {
     ghost use Rattle.std.specs.Prelude.{List as Items, nat_eq};
-    ghost use Rattle.indexmap.specs.IndexMap.{get};
+    ghost use Rattle.std.specs.HashMap.{get};
     ghost use Rattle.sc_typed.specs.declared.program.FieldDef.{FieldDef as Field};
     ghost use Rattle.struct_table.specs.Members.{IsIndexed};
     ghost use Rattle.sc_tree.specs.contracts.ctype.CType as ctype;

@@ -1,7 +1,8 @@
 //! Small whole texts, worked out by hand from the rules.
 
+use name_interner::Interner;
 use report_text::{Ending, replay, text};
-use sc_base::{LimitKind, List, NameId, Names, OutOfMemory, Pos, RowList, Skip};
+use sc_base::{LimitKind, List, Names, OutOfMemory, Pos, RowList, Skip};
 use sc_tree::ctype::{CType, Widths};
 use sc_typed::{Function, Program, TBody};
 use sc_world::Reason;
@@ -10,10 +11,10 @@ use std::sync::Arc;
 use std::test::Fail;
 use sum_rows::{Event, Verdict, What};
 
-/// A program without functions.
-fn nothing(alloc: Global) -> Program {
+/// A program with these names and without functions.
+fn nothing(alloc: Global, names: Names) -> Program {
     Program {
-        names: Names::new(alloc),
+        names,
         files: List::new(alloc),
         widths: Widths::Ilp32,
         machine: None,
@@ -24,25 +25,18 @@ fn nothing(alloc: Global) -> Program {
     }
 }
 
-fn name(program: &mut Program, text: &str) -> Result<NameId, OutOfMemory> {
-    if program.names.len() < 2 {
-        program.names.intern(text)
-    } else {
-        Err(OutOfMemory)
-    }
-}
-
 /// A program of a file `a.c` with a function `f`.
 fn one_function(alloc: Global) -> Result<Program, OutOfMemory> {
-    let mut program = nothing(alloc);
-    let file = name(&mut program, "a.c")?;
+    let mut names = Interner::new(alloc);
+    let file = names.intern("a.c")?;
+    let name = names.intern("f")?;
+    let mut program = nothing(alloc, names.into_names()?);
     program.files.push(file)?;
     let pos = Pos {
         file: 0,
         line: 2,
         col: 6,
     };
-    let name = name(&mut program, "f")?;
     program.functions.push(Function {
         name,
         pos,
@@ -88,7 +82,7 @@ outcome aside noreturn
 
 #[test]
 fn a_run_that_is_set_aside(rt: HostRuntime) -> Result<(), Fail> {
-    let program = nothing(rt.alloc());
+    let program = nothing(rt.alloc(), Names::new(rt.alloc()));
     let call = Event {
         line: 2,
         col: 30,

@@ -1,6 +1,6 @@
 // The lines that say why there is no text.
 
-ghost use Rattle.std.specs.Prelude.{◌≡◌, ◌++◌, OnOk, IfOk, codes};
+ghost use Rattle.std.specs.Prelude.{◌≡◌, ◌++◌, ◌∷◌, [], map, take, OnOk, IfOk, codes};
 ghost use Rattle.top_answers.specs.Lines as spec;
 
 use itoa::{Buffer, Integer};
@@ -18,6 +18,24 @@ fn put_number<I: Integer>(out: &mut Vec<u8>, n: I) -> Result<(), OutOfMemory>
 {
     let mut buffer = Buffer::new();
     put(out, buffer.format(n).as_bytes())
+}
+
+// A byte of a name as a line has it.
+fn shown_byte(byte: u8) -> u8
+    ensures { result ≡ spec.shown_byte byte }
+{
+    if byte < 32 || byte == 127 { b'?' } else { byte }
+}
+
+// Puts a name behind the bytes, without control characters.
+#[tactic(auto, unfolding(crate::specs::Lines::shown_name))]
+fn put_name(out: &mut Vec<u8>, name: &[u8]) -> Result<(), OutOfMemory>
+    ensures { OnOk result (out.new.items ≡ out.old.items ++ spec.shown_name name.now) }
+{
+    for byte in name {
+        out.push(shown_byte(*byte))?;
+    }
+    Ok(())
 }
 
 fn limit_word(kind: LimitKind) -> &'static [u8]
@@ -53,18 +71,18 @@ pub fn word_line(alloc: Global, program: &[u8], word: &[u8]) -> Result<Vec<u8>, 
     Ok(line)
 }
 
-/// The line of this program with these words and a name behind them.
+/// The line of this program with these words and a name behind them, in which a control character is a question mark.
 pub fn name_line(
     alloc: Global,
     program: &[u8],
     word: &[u8],
     name: &[u8],
 ) -> Result<Vec<u8>, OutOfMemory>
-    ensures { IfOk result (λ line. line.items ≡ spec.line_of program.now (word.now ++ name.now)) }
+    ensures { IfOk result (λ line. line.items ≡ spec.line_of program.now (word.now ++ spec.shown_name name.now)) }
 {
     let mut line = begun(alloc, program)?;
     put(&mut line, word)?;
-    put(&mut line, name)?;
+    put_name(&mut line, name)?;
     put(&mut line, b"\n")?;
     Ok(line)
 }
@@ -80,7 +98,7 @@ pub fn place_line(
     ensures { IfOk result (λ line. line.items ≡ spec.line_of program.now (spec.at_place name.now pos word.now)) }
 {
     let mut line = begun(alloc, program)?;
-    put(&mut line, name)?;
+    put_name(&mut line, name)?;
     put(&mut line, b":")?;
     put_number(&mut line, pos.line)?;
     put(&mut line, b":")?;

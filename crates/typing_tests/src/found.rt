@@ -2,7 +2,8 @@
 //! step beside a large value that is owned is dear to prove.
 
 use fsm_spec::MachineSpec;
-use sc_base::{List, Names, Pos, Skip};
+use name_interner::Interner;
+use sc_base::{List, Pos, Skip};
 use sc_check::{CheckAnswer, check};
 use sc_lexer::{LexAnswer, tokens};
 use sc_parse_unit::unit;
@@ -40,7 +41,7 @@ pub fn column(col: u32) -> Pos {
 }
 
 // The segments of a file of this number.
-fn read(alloc: Global, names: &mut Names, file: u32, text: &str) -> Result<Unit, LexAnswer> {
+fn read(alloc: Global, names: &mut Interner, file: u32, text: &str) -> Result<Unit, LexAnswer> {
     if names.len() > MANY || text.len() > MANY {
         return Err(LexAnswer::OutOfMemory);
     }
@@ -49,7 +50,7 @@ fn read(alloc: Global, names: &mut Names, file: u32, text: &str) -> Result<Unit,
 }
 
 // The segments of these files.
-fn read_all(alloc: Global, names: &mut Names, texts: &[&str]) -> Result<List<Unit>, LexAnswer> {
+fn read_all(alloc: Global, names: &mut Interner, texts: &[&str]) -> Result<List<Unit>, LexAnswer> {
     let mut units = List::new(alloc);
     let mut file: u32 = 0;
     for text in texts {
@@ -66,9 +67,10 @@ pub fn typed(
     texts: &[&str],
     machine: Option<MachineSpec>,
 ) -> Option<Result<Program, CheckAnswer>> {
-    let mut names = Names::new(alloc);
+    let mut names = Interner::new(alloc);
     let units = read_all(alloc, &mut names, texts).ok()?;
     let files = List::new(alloc);
+    let names = names.into_names().ok()?;
     Some(check(alloc, names, files, units.as_slice(), widths, machine))
 }
 

@@ -1,6 +1,6 @@
 -- One key more.
 use Rattle.std.proofs.Common.{◌≡◌, ◌+◌, map, drop}
-use Rattle.indexmap.specs.IndexMap.{get}
+use Rattle.std.specs.HashMap.{get}
 use Rattle.layout_lookup.specs.Firsts.{or_else, first_of}
 use Rattle.layout_lookup.specs.Keys.{same_key}
 use Rattle.layout_lookup.specs.Tables.{has_key, HasFewElements}

@@ -1,5 +1,5 @@
 use Rattle.std.proofs.Common.{◌≡◌, map, drop}
-use Rattle.indexmap.specs.IndexMap.{get}
+use Rattle.std.specs.HashMap.{get}
 use Rattle.layout_base.specs.Seen.{location_of}
 use Rattle.layout_lookup.specs.declared.key.Key.{Key}
 use Rattle.layout_lookup.specs.Firsts.{or_else, first_of}

@@ -1,5 +1,5 @@
 use Rattle.std.proofs.Common.{◌≡◌, map, drop}
-use Rattle.indexmap.specs.IndexMap.{get}
+use Rattle.std.specs.HashMap.{get}
 use Rattle.sc_gather.specs.Seen.{call}
 use Rattle.layout_lookup.specs.declared.key.Place.{Place}
 use Rattle.layout_lookup.specs.Firsts.{or_else, first_of}

@@ -10,7 +10,7 @@ loop-place-init g c = record {
   vars = refl;
   clauses = refl;
   below = c.requires.below;
-  narrowed = narrowed_start _ _ _ _ c.new-values.ensures.items c.requires.goal (c.requires.last.model, c.requires.last.holds);
+  narrowed = narrowed_start _ _ _ _ c.new-values.ensures.items c.requires.goals (c.requires.last.model, c.requires.last.holds);
   last = c.requires.last;
 }
 

@@ -10,6 +10,6 @@ invariant-loop-place g l = record {
   vars : g.S.Solver.vars l.s ≡ g.S.Solver.vars l.fn.s;
   clauses : g.S.Solver.clauses l.s ≡ g.S.Solver.clauses l.fn.s;
   below : LitsBelow (g.S.Solver.vars l.fn.s) l.fixed.items;
-  narrowed : Narrowed (g.S.Solver.clauses l.fn.s) (take l.place l.bits) l.fn.goal l.values.items l.fixed.items;
+  narrowed : Narrowed (g.S.Solver.clauses l.fn.s) (take l.place l.bits) l.fn.goals l.values.items l.fixed.items;
   last : IsSeen (g.S.Solver.clauses l.s) l.fixed.items l.bits l.last.items;
 }

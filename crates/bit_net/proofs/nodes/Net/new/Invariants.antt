@@ -4,4 +4,4 @@ use Rattle.bit_net.proofs.nodes.Net.new.Given as goal
 
 -- the nodes so far are those of a net with the inputs so far
 abbrev pub invariant-loop-k : goal.invariant-loop-k
-invariant-loop-k l = l.nodes.keys ≡ first_nodes l.k
+invariant-loop-k l = l.nodes.items ≡ first_nodes l.k

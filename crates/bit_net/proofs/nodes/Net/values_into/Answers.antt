@@ -8,10 +8,10 @@ pub loop-g-init : goal.loop-g-init
 loop-g-init c = values-none (bit_at c.args.choice.now)
 
 nodes_are : (c : goal.In-loop-g) → c.as_slice-nodes.result.now ≡ c.args.self.now
-nodes_are c = c.as_slice-nodes.ensures.keys ∙ c.self.view_is
+nodes_are c = c.as_slice-nodes.ensures.value ∙ c.self.view_is
 
 circuit : (c : goal.In-loop-g) → IsCircuit c.as_slice-nodes.result.now
-circuit c = subst IsCircuit (sym c.as_slice-nodes.ensures.keys) c.self.invariant
+circuit c = subst IsCircuit (sym c.as_slice-nodes.ensures.value) c.self.invariant
 
 inputs : (c : goal.In-loop-g) → length c.args.choice.now ≡ input_count c.as_slice-nodes.result.now
 inputs c = c.requires.inputs ∙ ap input_count (sym (nodes_are c))
@@ -24,5 +24,5 @@ value_of-requires c = reads_written _ c.args.choice.now c.loop-g.room c.loop-g.g
 
 pub loop-g-preserved : goal.loop-g-preserved
 loop-g-preserved c =
-    let nodes = c.as_slice-nodes.ensures.keys ∙ c.self.view_is in
+    let nodes = c.as_slice-nodes.ensures.value ∙ c.self.view_is in
     rw c.value_of.ensures (values-more (bit_at c.args.choice.now) c.as_slice-nodes.result.now c.loop-g.room c.loop-g.g _ c.loop-g-test.true (omega (arith, ap length nodes)) c.loop-g.invariant)

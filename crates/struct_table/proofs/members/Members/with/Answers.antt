@@ -1,5 +1,5 @@
 use Rattle.std.proofs.Common.{◌≡◌, nat_eq}
-use Rattle.indexmap.specs.IndexMap.{get}
+use Rattle.std.specs.HashMap.{get}
 use Rattle.struct_table.proofs.MemberLemmas.{indexed_behind}
 use Rattle.struct_table.proofs.members.Members.with.Goals as goal
 

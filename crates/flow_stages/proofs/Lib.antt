@@ -1,0 +1,3 @@
+pub mod OneMore
+pub mod ByKind
+pub mod OfNodes

@@ -1,0 +1,5 @@
+mod Entries
+mod Stepping
+mod Valuing
+mod Operating
+mod Taking

@@ -1,0 +1,4 @@
+pub mod Numbers
+pub mod Cuts
+pub mod Spelling
+pub mod Gathered

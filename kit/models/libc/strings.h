@@ -1,0 +1,7 @@
+#include_next <strings.h>
+#ifndef NALVEGOP_STRINGS_H
+#define NALVEGOP_STRINGS_H
+#include "../nalvegop.h"
+#define strcasecmp(...) ((void)(__VA_ARGS__), nalvegop_int())
+#define strncasecmp(...) ((void)(__VA_ARGS__), nalvegop_int())
+#endif

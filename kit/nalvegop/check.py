@@ -1,0 +1,193 @@
+"""The check of one file: preprocessed, filtered, checked, and told in the source's places."""
+
+from __future__ import annotations
+
+import os
+import time
+from dataclasses import dataclass, field
+
+from .checker import Checker, NotChecked, OutOfTime
+from .compilations import Compilation
+from .filter import Filter, Filtered
+from .findings import Finding, Step, Teller
+from .lines import LineMap, Place, SourceFiles
+from .noise import Comments
+from .preprocess import Models, NotPreprocessed, fitting_models, preprocessed, width_model
+from .verdicts import Function, NotVerdicts, Verdicts
+
+# Calls that change a lock or an object: who calls a function with one of them, of which nothing is known, may miss rows.
+_EFFECTS = {
+    *"spin_lock spin_unlock spin_trylock mutex_lock mutex_unlock mutex_trylock malloc calloc kmalloc kzalloc free kfree".split(),
+    *"pthread_mutex_lock pthread_mutex_unlock pthread_mutex_trylock".split(),
+}
+# Functions of the models that give an object without saying which: where one is called a finding may be false.
+_UNSURE = {"nalvegop_object": "container_of", "nalvegop_entry": "a list"}
+
+
+@dataclass(frozen=True)
+class Options:
+    """How files are checked."""
+
+    checker: Checker
+    seconds: float = 60
+    models: str | None = None
+    more_models: tuple[str, ...] = ()
+    headers: bool = False
+
+
+@dataclass
+class FileResult:
+    """What is known of a file. `failure` says why nothing is."""
+
+    file: str
+    failure: str | None = None
+    models: str = "none"
+    findings: list[Finding] = field(default_factory=list)
+    hidden: int = 0
+    functions: list[Function] = field(default_factory=list)
+    places: dict[str, Place] = field(default_factory=dict)
+    passed_over: dict[str, str] = field(default_factory=dict)
+    late: list[str] = field(default_factory=list)
+    warnings: list[str] = field(default_factory=list)
+    text: str = ""
+
+    @property
+    def analysed(self) -> list[Function]:
+        return [it for it in self.functions if not it.skip]
+
+
+class FileCheck:
+    """One check of a file."""
+
+    def __init__(self, it: Compilation, options: Options) -> None:
+        self.it, self.options = it, options
+        self.files = SourceFiles(it.folder)
+        self.result = FileResult(shown(it.folder, it.file))
+        self.end = time.monotonic() + options.seconds
+
+    def run(self) -> FileResult:
+        try:
+            self._run()
+        except (NotPreprocessed, NotChecked, NotVerdicts) as why:
+            self.result.failure = str(why)
+        except Exception as fault:
+            # (a fault of the kit on one file does not keep the others from being checked)
+            self.result.failure = f"a fault of nalvegop itself: {fault!r}"
+        return self.result
+
+    def _left(self) -> float:
+        return max(self.end - time.monotonic(), 0.1)
+
+    def _run(self) -> None:
+        name = self.options.models or fitting_models(self.it)
+        self.result.models = name
+        text = preprocessed(self.it, Models(name, self.options.more_models), self._left())
+        line_map = LineMap(text, self.it.file, self.files)
+        model = width_model(self.it)
+        self.filter = Filter(text, line_map.is_own)
+        filtered = self.filter.run()
+        self.result.text = filtered.text
+        self.result.passed_over = dict(filtered.passed_over)
+        verdicts = self._verdicts(filtered, model)
+        self._tell(verdicts, Teller(text, line_map, self.files, self.options.checker.machine, verdicts.functions), line_map)
+
+    # ---- in limited time
+
+    def _verdicts(self, filtered: Filtered, model: str) -> Verdicts:
+        """Checks the whole file in a third of the time. Where that does not end, each function is checked for itself,
+        with those that it calls; one that has no answer in time is unknown to the others from there on."""
+        try:
+            return self.options.checker.check(filtered.text, model, max(self._left() / 3, 1))
+        except OutOfTime:
+            pass
+        found, late = Verdicts(), list[str]()
+        for name in self._callees_first(filtered.functions):
+            try:
+                if time.monotonic() >= self.end:
+                    raise OutOfTime("the file's time is over")
+                alone = self.filter.run(only=[name], without=late)
+                self.result.passed_over |= alone.passed_over
+                if name in alone.passed_over:
+                    continue
+                verdicts = self.options.checker.check(alone.text, model, min(max(self.options.seconds / 10, 1), self._left()))
+                found.functions += [it for it in verdicts.functions if it.name == name]
+            except OutOfTime:
+                late.append(name)
+        order = {name: number for number, name in enumerate(filtered.functions)}
+        found.functions.sort(key=lambda it: order.get(it.name, 0))
+        self.result.late = sorted(late, key=lambda it: order.get(it, 0))
+        return found
+
+    def _callees_first(self, names: list[str]) -> list[str]:
+        """Returns the functions so that one that is called comes before its callers, where no cycle forbids it."""
+        own = {it.function: it for it in self.filter.own_functions() if it.function}
+        done: dict[str, None] = {}
+
+        def visit(name: str, above: frozenset[str]) -> None:
+            if name in done or name in above:
+                return
+            for other in names:
+                if other in own[name].names and other != name:
+                    visit(other, above | {name})
+            done[name] = None
+
+        for name in names:
+            if name in own:
+                visit(name, frozenset())
+        return [*done]
+
+    # ---- in the source's places
+
+    def _tell(self, verdicts: Verdicts, teller: Teller, line_map: LineMap) -> None:
+        comments = Comments(self.files)
+        segments = {it.function: it for it in self.filter.unit.segments if it.is_function}
+        for function in verdicts.functions:
+            if function.name in self.result.passed_over:
+                continue
+            if not line_map.is_own(function.at.line) and not self.options.headers:
+                continue
+            self.result.functions.append(function)
+            place = teller.place(function.at)
+            self.result.places[function.name] = self._shown(place)
+            if function.skip:
+                self.result.passed_over[function.name] = str(function.skip)
+            names = segments[function.name].names if function.name in segments else frozenset[str]()
+            for report in function.reports:
+                finding = teller.finding(function, report)
+                finding.marks = sorted(why for name, why in _UNSURE.items() if name in names)
+                if comments.hides(finding, place.line):
+                    self.result.hidden += 1
+                    continue
+                self.result.findings.append(self._with_shown_places(finding))
+        self._warn(verdicts)
+        self.result.findings.sort(key=lambda it: it.place)
+
+    def _warn(self, verdicts: Verdicts) -> None:
+        """Notes who calls a function that was passed over, or had no answer, and that has an effect by its text."""
+        segments = {it.function: it for it in self.filter.unit.segments if it.function}
+        unknown = {it.name for it in verdicts.functions if it.skip} | {*self.result.passed_over} | {*self.result.late}
+        effects = {name for name in unknown if name in segments and segments[name].names & _EFFECTS}
+        for function in self.result.analysed:
+            names = segments[function.name].names if function.name in segments else frozenset[str]()
+            for name in sorted(names & effects - {function.name}):
+                self.result.warnings.append(f"'{function.name}' calls '{name}', of which nothing is known: what it does to locks and memory is not in the answer")
+
+    def _shown(self, place: Place) -> Place:
+        return Place(shown(self.it.folder, place.file), place.line, place.column)
+
+    def _with_shown_places(self, finding: Finding) -> Finding:
+        finding.place = self._shown(finding.place)
+        for path in finding.paths:
+            path.steps = [Step(self._shown(step.place), step.text) for step in path.steps]
+        return finding
+
+
+def shown(folder: str, name: str) -> str:
+    """Returns a file's name as it is shown: from the current folder where it lies below that, else whole."""
+    path = os.path.normpath(os.path.join(folder, name))
+    inside = os.path.relpath(path)
+    return path if inside.startswith("..") else inside
+
+
+def check_file(it: Compilation, options: Options) -> FileResult:
+    return FileCheck(it, options).run()

@@ -1,0 +1,92 @@
+"""Runs `saturn_check` on a filtered text, for a limited time."""
+
+from __future__ import annotations
+
+import os
+import subprocess
+import tempfile
+from collections.abc import Sequence
+from dataclasses import dataclass
+from functools import lru_cache
+
+from .processes import ran
+from .verdicts import Verdicts, read_json, read_text
+
+TOP = os.path.dirname(os.path.dirname(os.path.dirname(os.path.abspath(__file__))))
+# A program to run in place of the one that bin/saturn_check finds.
+PROGRAM = "NALVEGOP_CHECKER"
+
+
+class NotChecked(Exception):
+    """There is no program, or it gave no verdicts: the text says why."""
+
+
+class OutOfTime(NotChecked):
+    """The program was ended, since its time was over."""
+
+
+def find_program(is_unproved: bool) -> str:
+    """Returns the path of `saturn_check`; where it is not built, bin/saturn_check builds it first, and says so."""
+    if os.environ.get(PROGRAM):
+        return os.environ[PROGRAM]
+    words = [os.path.join(TOP, "bin", "saturn_check"), *["--unproved"] * is_unproved, "--where"]
+    try:
+        said = subprocess.run(words, stdin=subprocess.DEVNULL, stdout=subprocess.PIPE, text=True, check=False)
+    except OSError as error:
+        raise NotChecked(f"{words[0]}: {error.strerror}") from error
+    if said.returncode:
+        raise NotChecked("there is no program saturn_check: the lines above say why")
+    return said.stdout.strip()
+
+
+@lru_cache(maxsize=None)
+def writes_json(program: str) -> bool:
+    """Returns whether the program knows `--format json`."""
+    try:
+        said = subprocess.run([program, "--help"], stdin=subprocess.DEVNULL, capture_output=True, text=True, timeout=30, check=False)
+    except (OSError, subprocess.TimeoutExpired):
+        return False
+    return "--format" in said.stdout
+
+
+@dataclass(frozen=True)
+class Checker:
+    """The program and the options with which it runs."""
+
+    program: str
+    depth: int = 2
+    reach: int = 2
+    machine: str | None = None
+
+    def check(self, text: str, model: str, seconds: float) -> Verdicts:
+        """Returns the verdicts of a text. It is written to a file of a plain name, so that no name has a meaning."""
+        with tempfile.TemporaryDirectory(prefix="nalvegop-") as room:
+            with open(os.path.join(room, "unit.c"), "w", encoding="latin-1", newline="\n") as it:
+                it.write(text)
+            words = [self.program, "--depth", str(self.depth), "--reach", str(self.reach), "--model", model]
+            words += ["--machine", os.path.abspath(self.machine)] if self.machine else []
+            is_json = writes_json(self.program)
+            words += ["--format", "json"] if is_json else []
+            said = _ran([*words, "unit.c"], room, seconds)
+        if said.returncode not in (0, 1):
+            raise NotChecked(_why(said))
+        return (read_json if is_json else read_text)(said.stdout.decode("latin-1"))
+
+
+def _ran(words: Sequence[str], folder: str, seconds: float) -> subprocess.CompletedProcess[bytes]:
+    try:
+        return ran(words, folder, seconds)
+    except subprocess.TimeoutExpired as error:
+        raise OutOfTime(f"no answer within {seconds:.0f} seconds") from error
+    except OSError as error:
+        raise NotChecked(f"{words[0]}: {error.strerror}") from error
+
+
+def _why(said: subprocess.CompletedProcess[bytes]) -> str:
+    lines = [it for it in said.stderr.decode(errors="replace").splitlines() if it.startswith("saturn_check: ")]
+    text = lines[-1].removeprefix("saturn_check: ") if lines else ""
+    if said.returncode == 6:
+        return "memory was refused"
+    if said.returncode < 0:
+        return f"saturn_check was ended by signal {-said.returncode}"
+    return text or f"saturn_check ended with status {said.returncode}"

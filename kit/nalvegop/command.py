@@ -1,0 +1,325 @@
+"""The command `nalvegop`."""
+
+from __future__ import annotations
+
+import argparse
+import io
+import json
+import os
+import sys
+from collections.abc import Iterable, Iterator
+from concurrent.futures import ThreadPoolExecutor
+from typing import NoReturn, TextIO
+
+from . import VERSION
+from .check import FileResult, Options, check_file
+from .checker import Checker, NotChecked, find_program
+from .compilations import BadDatabase, Compilation, chosen, of_flags, read_database
+from .findings import KINDS
+from .lines import SourceFiles
+from .noise import BadBaseline, Baseline
+from .rows import rows_text, story
+from .show_gcc import lines_of
+from .show_html import page
+from .show_json import as_json
+from .show_sarif import sarif
+from .totals import summary
+
+CLEAN, FOUND, NOT_ALL, WORDS = 0, 1, 2, 3
+_STATUSES = "status: 0 nothing found; 1 findings; 2 some file, or some function in time, was not analysed, with findings or without; 3 the words are not of this form"
+
+
+class _Parser(argparse.ArgumentParser):
+    """As argparse has it, but with the status of bad words."""
+
+    def error(self, message: str) -> NoReturn:
+        self.print_usage(sys.stderr)
+        print(f"{self.prog}: {message}", file=sys.stderr)
+        raise SystemExit(WORDS)
+
+
+def parser() -> argparse.ArgumentParser:
+    top = _Parser(prog="nalvegop", description="Finds lost memory, and locks that are taken twice or left in an unknown state, in C.", epilog=_STATUSES)
+    top.add_argument("--version", action="version", version=f"nalvegop {VERSION}")
+    verbs = top.add_subparsers(dest="verb", required=True, metavar="VERB")
+    verbs.add_parser("sparse", help="check the file among the words that the kernel's make hands to CHECK; status 0")
+    check = verbs.add_parser("check", help="check files, or a whole project", epilog=f"{_STATUSES}. Behind -- stand the compiler, if it is not cc, and its flags.")
+    check.add_argument("files", nargs="*", metavar="FILE", help="files to check; all of the database where none is named")
+    _common(check)
+    check.add_argument("--format", choices=("gcc", "sarif", "json", "html"), default="gcc", help="the form of what is shown (gcc)")
+    check.add_argument("--output", metavar="FILE", help="write there, and not to standard output")
+    check.add_argument("--only", action="append", choices=[*KINDS], default=[], help="show findings of this kind alone; may be given again")
+    check.add_argument("--baseline", metavar="FILE", help="do not show the findings in this file")
+    check.add_argument("--update-baseline", action="store_true", help="write the findings to the file of --baseline, and end with status 0")
+    check.add_argument("--strict", action="store_true", help="status 2 also where a function was passed over")
+    check.add_argument("--verbose", action="store_true", help="name each function that was passed over, and what is unknown to its callers")
+    check.add_argument("--keep-texts", metavar="FOLDER", help="write the texts that were checked into this folder")
+    explain = verbs.add_parser("explain", help="tell the whole story of the findings at a line, or of one by its number")
+    explain.add_argument("place", metavar="FILE:LINE|NUMBER", help="a number counts the findings of --from, from 1, as the page of --format html does")
+    explain.add_argument("--from", dest="source", metavar="FILE", help="what check --format json wrote")
+    _common(explain)
+    rows = verbs.add_parser("rows", help="show what functions do, as a table")
+    rows.add_argument("file", metavar="FILE")
+    rows.add_argument("function", nargs="?", metavar="FUNCTION")
+    _common(rows)
+    return top
+
+
+def _common(it: argparse.ArgumentParser) -> None:
+    it.add_argument("-p", dest="database", metavar="DATABASE", help="compile_commands.json, or the folder where it stands")
+    it.add_argument("-j", dest="jobs", type=_number(1, 256), default=1, metavar="N", help="files at a time (1)")
+    it.add_argument("--seconds", type=_number(1, 86_400), default=60, help="the time that a file may take (60)")
+    it.add_argument("--models", choices=("linux", "libc", "none"), help="macros that stand for a library's; by default what fits the file's includes")
+    it.add_argument("--model", action="append", default=[], metavar="FILE", help="a header of your own to put in front; may be given again")
+    it.add_argument("--machine", metavar="FILE", help="states and operations in place of locks")
+    it.add_argument("--depth", type=_number(1, 8), default=2, help="turns of a loop (2)")
+    it.add_argument("--reach", type=_number(1, 4), default=2, help="pointers that lead to objects at entry (2)")
+    it.add_argument("--headers", action="store_true", help="show functions of headers too")
+    it.add_argument("--unproved", action="store_true", help="compile saturn_check from its sources, once, and prove nothing")
+
+
+def _number(low: int, high: int) -> "type[int]":
+    class Number(int):
+        def __new__(cls, word: str) -> "Number":
+            value = int(word)
+            if not low <= value <= high:
+                raise argparse.ArgumentTypeError(f"it is a number from {low} to {high}")
+            return super().__new__(cls, value)
+
+    Number.__name__ = "number"
+    return Number
+
+
+class Trouble(Exception):
+    """Nothing can be checked: the text says why, and the number is the status."""
+
+    def __init__(self, text: str, status: int) -> None:
+        super().__init__(text)
+        self.status = status
+
+
+def _as_check(words: list[str]) -> list[str]:
+    """Returns the words of `check` for those that the kernel's make hands to sparse: flags, and a file among them."""
+    files = [it for it in words if it.endswith(".c") and not it.startswith("-")]
+    if not files:
+        raise Trouble("sparse: no file is among the words", WORDS)
+    return ["check", "--models", "linux", files[-1], "--", *(it for it in words if it != files[-1])]
+
+
+def main(words: list[str]) -> int:
+    if words[:1] == ["sparse"]:
+        # (make ends where its checker has another status than 0)
+        try:
+            return 0 if main(_as_check(words[1:])) in (CLEAN, FOUND, NOT_ALL) else WORDS
+        except Trouble as trouble:
+            print(f"nalvegop: {trouble}", file=sys.stderr)
+            return trouble.status
+    cut = words.index("--") if "--" in words else len(words)
+    flags = words[cut + 1 :]
+    it = parser().parse_args(words[:cut])
+    try:
+        if it.verb == "check":
+            return _check(it, flags)
+        return _explain(it, flags) if it.verb == "explain" else _rows(it, flags)
+    except Trouble as trouble:
+        print(f"nalvegop: {trouble}", file=sys.stderr)
+        return trouble.status
+    except KeyboardInterrupt:
+        return 130
+
+
+# ---- check
+
+
+def _check(it: argparse.Namespace, flags: list[str]) -> int:
+    if it.update_baseline and not it.baseline:
+        raise Trouble("--update-baseline needs --baseline FILE", WORDS)
+    options = _options(it)
+    compilations, unknown = _compilations(it, it.files, flags)
+    results = [*_results(compilations, options, it.jobs), *(FileResult(name, "the database has no entry for it") for name in unknown)]
+    if it.keep_texts:
+        _keep_texts(results, it.keep_texts)
+    known = _without_noise(results, it)
+    _name_failures(results, it.verbose)
+    status = _status(results, it.strict)
+    if it.update_baseline:
+        status = NOT_ALL if status == NOT_ALL else CLEAN
+    _show(results, it, status)
+    print(f"nalvegop: {summary(results, known)}", file=sys.stderr)
+    return status
+
+
+def _options(it: argparse.Namespace) -> Options:
+    try:
+        checker = Checker(find_program(it.unproved), it.depth, it.reach, it.machine)
+    except NotChecked as why:
+        raise Trouble(str(why), NOT_ALL) from why
+    for name in [*it.model, *([it.machine] if it.machine else [])]:
+        if not os.path.isfile(name):
+            raise Trouble(f"{name}: there is no such file", NOT_ALL)
+    return Options(checker, it.seconds, it.models, tuple(it.model), it.headers)
+
+
+def _compilations(it: argparse.Namespace, files: list[str], flags: list[str]) -> tuple[list[Compilation], list[str]]:
+    if not it.database:
+        if not files:
+            raise Trouble("name a file, or a database with -p", WORDS)
+        return of_flags(files, flags), []
+    path = os.path.join(it.database, "compile_commands.json") if os.path.isdir(it.database) else it.database
+    try:
+        listed = read_database(path)
+    except BadDatabase as why:
+        raise Trouble(str(why), NOT_ALL) from why
+    found, unknown = chosen(listed, files) if files else (listed, [])
+    if not found and not unknown:
+        raise Trouble(f"{path} lists no C file", NOT_ALL)
+    more = tuple(flags)
+    return [Compilation(one.file, one.folder, one.compiler, (*one.flags, *more)) for one in found], unknown
+
+
+def _results(compilations: list[Compilation], options: Options, jobs: int) -> list[FileResult]:
+    """Checks the files, some at a time, and keeps their order. A line on the terminal says how many are done."""
+    is_shown = sys.stderr.isatty() and len(compilations) > 1
+    found = list[FileResult]()
+    with ThreadPoolExecutor(jobs) as pool:
+        for result in pool.map(lambda it: check_file(it, options), compilations):
+            found.append(result)
+            if is_shown:
+                print(f"\rnalvegop: {len(found)} of {len(compilations)} files", end="", file=sys.stderr, flush=True)
+    if is_shown:
+        print("\r\033[K", end="", file=sys.stderr)
+    return found
+
+
+def _without_noise(results: list[FileResult], it: argparse.Namespace) -> int:
+    """Takes out what is not to be shown, and returns how many findings the baseline knew."""
+    for result in results:
+        result.findings = [one for one in result.findings if not it.only or one.kind in it.only]
+    if not it.baseline:
+        return 0
+    if it.update_baseline:
+        try:
+            Baseline(it.baseline).write((one.place.file, one) for result in results for one in result.findings)
+        except OSError as error:
+            raise Trouble(f"{it.baseline}: {error.strerror}", NOT_ALL) from error
+    try:
+        baseline = Baseline.read(it.baseline)
+    except BadBaseline as why:
+        raise Trouble(str(why), NOT_ALL) from why
+    known = 0
+    for result in results:
+        new = [one for one in result.findings if not baseline.takes(one.place.file, one)]
+        known += len(result.findings) - len(new)
+        result.findings = new
+    return known
+
+
+def _name_failures(results: list[FileResult], is_verbose: bool) -> None:
+    for it in results:
+        if it.failure:
+            print(f"nalvegop: {it.file}: not analysed: {it.failure}", file=sys.stderr)
+        if it.late:
+            print(f"nalvegop: {it.file}: no answer in time: {', '.join(it.late)}", file=sys.stderr)
+        if is_verbose:
+            for name, why in it.passed_over.items():
+                print(f"nalvegop: {it.places.get(name, it.file)}: '{name}' is passed over: {why}", file=sys.stderr)
+            for text in it.warnings:
+                print(f"nalvegop: {it.file}: {text}", file=sys.stderr)
+
+
+def _status(results: list[FileResult], is_strict: bool) -> int:
+    lacks = any(it.failure or it.late or (is_strict and it.passed_over) for it in results)
+    return NOT_ALL if lacks else FOUND if any(it.findings for it in results) else CLEAN
+
+
+def _show(results: list[FileResult], it: argparse.Namespace, status: int) -> None:
+    files = SourceFiles()
+    made = io.StringIO()
+    if it.format == "gcc":
+        for result in results:
+            for line in lines_of(result.findings, files):
+                print(line, file=made)
+    elif it.format == "html":
+        made.write(page(results, files, status))
+    else:
+        json.dump(sarif(results, status) if it.format == "sarif" else as_json(results, status), made, indent=1, ensure_ascii=True)
+        made.write("\n")
+    try:
+        if it.output:
+            with open(it.output, "w", encoding="utf-8", errors="surrogateescape") as out:
+                out.write(made.getvalue())
+        else:
+            sys.stdout.write(made.getvalue())
+            sys.stdout.flush()
+    except BrokenPipeError:
+        # (whoever read the output has enough of it)
+        os.dup2(os.open(os.devnull, os.O_WRONLY), 1)
+    except OSError as error:
+        raise Trouble(f"{it.output or 'standard output'}: {error.strerror}", NOT_ALL) from error
+
+
+def _keep_texts(results: Iterable[FileResult], folder: str) -> None:
+    try:
+        os.makedirs(folder, exist_ok=True)
+        for it in results:
+            with open(os.path.join(folder, it.file.replace(os.sep, "__") + ".i"), "w", encoding="latin-1", newline="\n") as out:
+                out.write(it.text)
+    except OSError as error:
+        raise Trouble(f"{error.filename}: {error.strerror}", NOT_ALL) from error
+
+
+# ---- explain and rows
+
+
+def _one_file(it: argparse.Namespace, name: str, flags: list[str]) -> FileResult:
+    compilations, unknown = _compilations(it, [name], flags)
+    if unknown:
+        raise Trouble(f"{name}: the database has no entry for it", NOT_ALL)
+    result = check_file(compilations[0], _options(it))
+    if result.failure:
+        raise Trouble(f"{result.file}: not analysed: {result.failure}", NOT_ALL)
+    return result
+
+
+def _explain(it: argparse.Namespace, flags: list[str]) -> int:
+    if it.place.isdigit():
+        return _explain_number(int(it.place), it.source)
+    name, _, line = it.place.rpartition(":")
+    if not name or not line.isdigit():
+        raise Trouble("the place is FILE:LINE", WORDS)
+    result = _one_file(it, name, flags)
+    found = [one for one in result.findings if one.place.line == int(line) and os.path.realpath(one.place.file) == os.path.realpath(name)]
+    if not found:
+        print(f"nalvegop: there is no finding at {it.place}", file=sys.stderr)
+        return CLEAN
+    _print(text for one in found for text in story(one, result))
+    return FOUND
+
+
+def _explain_number(number: int, source: str | None) -> int:
+    if not source:
+        raise Trouble("a number needs --from FILE, which check --format json wrote", WORDS)
+    try:
+        with open(source, encoding="utf-8") as file:
+            found = [finding for one in json.load(file)["files"] for finding in one["findings"]]
+        stories = [[str(line) for line in finding["story"]] for finding in found]
+    except (OSError, ValueError, KeyError, TypeError) as error:
+        raise Trouble(f"{source}: {getattr(error, 'strerror', None) or error!r}", NOT_ALL) from error
+    if not 0 < number <= len(stories):
+        raise Trouble(f"{source} has {len(stories)} findings", WORDS)
+    _print(iter(stories[number - 1]))
+    return FOUND
+
+
+def _rows(it: argparse.Namespace, flags: list[str]) -> int:
+    result = _one_file(it, it.file, flags)
+    functions = [one for one in result.functions if it.function in (None, one.name)]
+    if not functions:
+        raise Trouble(f"{it.file} has no function {it.function} of which something is known", NOT_ALL)
+    _print(text for one in functions for text in rows_text(one))
+    return CLEAN
+
+
+def _print(lines: Iterator[str], out: TextIO | None = None) -> None:
+    for line in lines:
+        print(line, file=out or sys.stdout)

@@ -1,0 +1,411 @@
+"""Makes a preprocessed file fit for the checker, by spaces in place of what its own functions do not need.
+
+No byte moves, so every line and column stays. Each step keeps the meaning of the functions that are left, or says here
+what it loses; docs/MODELS.md has them as a table. A function whose meaning would be lost, since it has something that
+runs at the end of a scope, is *passed over*: its body becomes a `;`, and its name is given with the reason.
+"""
+
+from __future__ import annotations
+
+from bisect import bisect_right
+from collections.abc import Callable, Iterable
+from dataclasses import dataclass, field
+from itertools import accumulate
+
+from .segments import KEYWORDS, Segment, Unit
+from .tokens import Sheet, Token, tokens_of
+
+_ASM = {"asm", "__asm", "__asm__"}
+_TYPEOF = {"typeof", "__typeof", "__typeof__"}
+_TYPE_WORDS = {*"void char short int long signed unsigned _Bool float double const volatile __const __const__ __signed__ __signed".split()}
+_LOOPS = {"for", "while", "do"}
+# What these do is fixed, whatever a body says: the body of a header's goes.
+BUILT_IN = {
+    *"spin_lock spin_unlock spin_trylock mutex_lock mutex_unlock mutex_trylock pthread_mutex_lock pthread_mutex_unlock".split(),
+    *"pthread_mutex_trylock malloc calloc kmalloc kzalloc free kfree exit _exit abort panic __assert_fail".split(),
+}
+# A call of it stands for pthread_cleanup_push: models/libc/pthread.h makes it of that macro.
+CLEANUP_CALL = "nalvegop_cleanup_push"
+
+
+@dataclass
+class Filtered:
+    """The text for the checker, the file's own functions in their order, and those that were passed over, with why."""
+
+    text: str
+    functions: list[str] = field(default_factory=list)
+    passed_over: dict[str, str] = field(default_factory=dict)
+    counts: dict[str, int] = field(default_factory=dict)
+
+
+IsOwn = Callable[[int], bool]
+
+
+class Filter:
+    """One run of the filter over a text. `is_own` says of a line whether it stands in the file itself."""
+
+    def __init__(self, text: str, is_own: IsOwn) -> None:
+        self._text = text
+        self.sheet = Sheet(text)
+        self.tokens = [*tokens_of(text)]
+        self.unit = Unit(self.tokens)
+        self.partner = self.unit.partner
+        self._lines = _LineIndex(text)
+        self._is_own = is_own
+        self.counts: dict[str, int] = {}
+        self.passed_over: dict[str, str] = {}
+
+    # ---- what is left
+
+    def own_functions(self) -> list[Segment]:
+        return [it for it in self.unit.segments if it.is_function and self._is_own(self._line(it.name_at))]
+
+    def _line(self, at: int) -> int:
+        return self._lines.line(self.tokens[at].start)
+
+    def run(self, only: Iterable[str] | None = None, without: Iterable[str] = ()) -> Filtered:
+        """Filters. With `only`, the own functions of these names keep their bodies, and so do those that they call; the
+        bodies of the functions in `without` become prototypes."""
+        self.sheet, self.counts, self.passed_over = Sheet(self._text), {}, {}
+        own = self.own_functions()
+        roots = [it for it in own if only is None or it.function in set(only)]
+        kept = self._needed(roots, own if only is None else [], {*without})
+        for segment in self.unit.segments:
+            if id(segment) not in kept:
+                self._blank(segment.first, segment.end)
+                self._count("functions" if segment.is_function else "segments")
+        for segment in self.unit.segments:
+            if id(segment) in kept:
+                self._mend(segment, segment.function in without)
+        names = [it.function or "" for it in own if id(it) in kept]
+        return Filtered(self.sheet.text(), names, self.passed_over, self.counts)
+
+    def _needed(self, roots: list[Segment], own: list[Segment], without: set[str]) -> set[int]:
+        """Returns the segments that the roots need, by names and transitively, with what the file itself declares."""
+        twice = {it.function for it in self.own_functions()}
+        by_name: dict[str, list[Segment]] = {}
+        for segment in self.unit.segments:
+            if segment.is_function and segment.function in twice and not self._is_own(self._line(segment.name_at)):
+                # the file defines this function of a header again
+                continue
+            for name in segment.declares:
+                by_name.setdefault(name, []).append(segment)
+        for segment in self.unit.segments:
+            for name in segment.mentions:
+                by_name.setdefault(name, [segment])
+        kept, work, keeps_whole = set[int](), [*roots, *own], {id(it) for it in [*roots, *own] if it.function not in without}
+        while work:
+            segment = work.pop()
+            if id(segment) in kept:
+                continue
+            kept.add(id(segment))
+            is_cut = segment.function in without or segment.function in BUILT_IN
+            names = self._head_names(segment) if is_cut and id(segment) not in keeps_whole else segment.names
+            for name in names:
+                work += [it for it in by_name.get(name, []) if id(it) not in kept]
+        return kept
+
+    def _head_names(self, segment: Segment) -> frozenset[str]:
+        """Returns the names outside of a function's body."""
+        inside = self.tokens[segment.first : segment.body[0]]
+        return frozenset(it.text for it in inside if it.is_word and it.text not in KEYWORDS)
+
+    # ---- steps
+
+    def _mend(self, segment: Segment, is_without: bool) -> None:
+        if not segment.is_function:
+            self._asm_label(segment.first, segment.end)
+            self._file_asserts(segment)
+            self._initialisers(segment)
+            self._words(segment.first, segment.end)
+            self._empty_members(segment.first, segment.end)
+            return
+        self._old_parameters(segment)
+        why = self._cleanup(segment)
+        if why and segment.function:
+            self.passed_over[segment.function] = why
+        is_fixed = segment.function in BUILT_IN and not self._is_own(self._line(segment.name_at))
+        if why or is_without or is_fixed:
+            self._to_prototype(segment)
+            return
+        self._words(segment.first, segment.end)
+        self._asserts(segment.body[0], segment.end)
+        self._asm_statements(segment.body[0], segment.end)
+        self._once_loops(segment.body[0], segment.end)
+        self._statement_expressions(segment.body[0], segment.end)
+
+    def _to_prototype(self, segment: Segment) -> None:
+        """Leaves `int f(int a);` of a function: its callers know its type, and nothing of what it does."""
+        opening, closing = segment.body
+        self._blank(opening, closing + 1)
+        self.sheet.put(self.tokens[opening].start, ";")
+
+    def _cleanup(self, segment: Segment) -> str | None:
+        """Returns why the function is passed over: something of it runs at the end of a scope, which no text shows."""
+        for at in range(segment.body[0], segment.end):
+            text = self.tokens[at].text
+            if text in ("__attribute__", "__attribute") and self.tokens[at + 1].text == "(":
+                inside = self.tokens[at + 2 : self.partner[at + 1]]
+                if any(it.text in ("cleanup", "__cleanup__") for it in inside):
+                    return "cleanup"
+            if text == CLEANUP_CALL:
+                return "pthread_cleanup_push"
+        return None
+
+    def _words(self, first: int, end: int) -> None:
+        """Brings words of gcc to what C11 has: each keeps the meaning for the checker."""
+        at = first
+        while at < end:
+            token = self.tokens[at]
+            behind = self.tokens[at + 1].text if at + 1 < end else ""
+            if token.text in _TYPEOF and behind == "(" and self._is_plain_type(at + 2, self.partner[at + 1]):
+                self._blank(at, at + 2)
+                self._blank(self.partner[at + 1], self.partner[at + 1] + 1)
+                self._count("typeof")
+            elif token.text in ("__alignof__", "__alignof", "_Alignof") and behind == "(" and self._is_scalar(at + 2, self.partner[at + 1]):
+                self._put(token, "sizeof")
+                self._count("alignof")
+            elif token.text in ("__func__", "__FUNCTION__", "__PRETTY_FUNCTION__"):
+                self._put(token, '""')
+                self._count("func")
+            elif token.text == "_Atomic":
+                self._blank(at, at + 1)
+                if behind == "(":
+                    self._blank(at + 1, at + 2)
+                    self._blank(self.partner[at + 1], self.partner[at + 1] + 1)
+                self._count("atomic")
+            elif token.text == "__builtin_unreachable":
+                self._put(token, "abort")
+                self._count("unreachable")
+            at += 1
+
+    def _is_plain_type(self, first: int, end: int) -> bool:
+        """Returns whether these tokens are a type without names other than a tag: words of types, a tag, then `*`."""
+        texts = [it.text for it in self.tokens[first:end]]
+        while texts and texts[-1] in ("*", "const", "volatile"):
+            texts.pop()
+        if len(texts) == 2 and texts[0] in ("struct", "union", "enum"):
+            return True
+        return bool(texts) and all(it in _TYPE_WORDS for it in texts)
+
+    def _is_scalar(self, first: int, end: int) -> bool:
+        """Returns whether these tokens are a type whose alignment is its size in both models: at most four bytes, or a pointer."""
+        texts = [it.text for it in self.tokens[first:end]]
+        return bool(texts) and (texts[-1] == "*" or all(it in _TYPE_WORDS and it not in ("long", "double", "void") for it in texts))
+
+    def _asm_label(self, first: int, end: int) -> None:
+        """Blanks the name that the assembler is to use (`int f(void) __asm__("g");`), and asm at file scope."""
+        for at in range(first, end - 1):
+            if self.tokens[at].text in _ASM:
+                opening = next((i for i in range(at + 1, end) if self.tokens[i].text == "("), None)
+                if opening is not None and self.partner[opening] > opening:
+                    is_alone = at == first
+                    self._blank(at, self.partner[opening] + 1)
+                    if is_alone:
+                        self._blank(first, end)
+                    self._count("labels")
+
+    def _file_asserts(self, segment: Segment) -> None:
+        if self.tokens[segment.first].text == "_Static_assert":
+            self._blank(segment.first, segment.end)
+            self._count("asserts")
+        else:
+            self._asserts(segment.first, segment.end)
+
+    def _asserts(self, first: int, end: int) -> None:
+        """Blanks `_Static_assert(..);` among members and statements: it says nothing of a run."""
+        for at in range(first, end - 1):
+            if self.tokens[at].text == "_Static_assert" and self.tokens[at + 1].text == "(":
+                behind = self.partner[at + 1] + 1
+                is_whole = behind < end and self.tokens[behind].text == ";"
+                self._blank(at, behind + is_whole)
+                self._count("asserts")
+
+    def _empty_members(self, first: int, end: int) -> None:
+        """Blanks a `;` that follows `{` or `;` in a struct: a member that declares nothing."""
+        before, depth = "", 0
+        for at in range(first, end):
+            text = self.tokens[at].text
+            depth += (text == "{") - (text == "}")
+            if text == ";" and depth and before in ("{", ";"):
+                self._blank(at, at + 1)
+                self._count("members")
+                continue
+            before = text
+
+    def _initialisers(self, segment: Segment) -> None:
+        """Blanks initialisers at file scope: a run begins with any value there. One that gives an array its length stays."""
+        first, end = segment.first, segment.end
+        if self.tokens[first].text == "typedef" or self.tokens[end - 1].text != ";":
+            return
+        at = first
+        while at < end - 1:
+            if self.tokens[at].text == "=":
+                behind = at
+                while behind < end - 1 and self.tokens[behind].text != ",":
+                    behind = self.partner[behind] + 1 if self.partner[behind] > behind else behind + 1
+                if not self._has_no_length(at):
+                    self._blank(at, behind)
+                    self._count("initials")
+                at = behind
+            else:
+                at = self.partner[at] + 1 if self.partner[at] > at else at + 1
+
+    def _has_no_length(self, equals: int) -> bool:
+        """Returns whether the declarator before this `=` has empty square brackets."""
+        at = equals - 1
+        while at > 0 and self.tokens[at].text in ("]", ")"):
+            if self.tokens[at].text == "]" and self.partner[at] == at - 1:
+                return True
+            at = self.partner[at] - 1
+        return False
+
+    def _old_parameters(self, segment: Segment) -> None:
+        """`int f(a, b) int a; char *b; {` becomes `int f(      int a, char *b) {`, where the order is the same."""
+        opening, closing = segment.parameters
+        brace = segment.body[0]
+        if self.tokens[brace - 1].text != ";" or closing < 0:
+            return
+        names = [it.text for it in self.tokens[opening + 1 : closing] if it.is_word]
+        ends = [i for i in range(closing + 1, brace) if self.tokens[i].text == ";" and self._is_outside(i, closing + 1)]
+        declared = [self.tokens[i - 1].text if self.tokens[i - 1].text != "]" else self._named_array(i - 1) for i in ends]
+        if declared != names:
+            return
+        self._blank(opening + 1, closing + 1)
+        for i in ends:
+            self._put(self.tokens[i], ")" if i == ends[-1] else ",")
+        self._count("knr")
+
+    def _is_outside(self, at: int, first: int) -> bool:
+        return not any(self.partner[i] > at for i in range(first, at) if self.tokens[i].text in ("(", "[", "{"))
+
+    def _named_array(self, at: int) -> str:
+        while self.tokens[at].text == "]":
+            at = self.partner[at] - 1
+        return self.tokens[at].text
+
+    def _asm_statements(self, first: int, end: int) -> None:
+        """Blanks `asm(..);` without outputs: no value of the run comes from it. What it does to memory is lost."""
+        at = first
+        while at < end:
+            if self.tokens[at].text in _ASM:
+                opening = at + 1
+                while self.tokens[opening].text in ("volatile", "__volatile__", "__volatile", "inline", "__inline", "__inline__"):
+                    opening += 1
+                if self.tokens[opening].text == "(" and not self._has_outputs(opening):
+                    behind = self.partner[opening] + 1
+                    self._blank(at, behind)
+                    self._count("labels")
+                    at = behind
+                    continue
+            at += 1
+
+    def _has_outputs(self, opening: int) -> bool:
+        """Returns whether something stands between the first and the second colon."""
+        inside = self.tokens[opening + 1 : self.partner[opening]]
+        colons = [i for i, it in enumerate(inside) if it.text == ":"]
+        if not colons:
+            return False
+        second = colons[1] if len(colons) > 1 else len(inside)
+        return second > colons[0] + 1
+
+    def _once_loops(self, first: int, end: int) -> None:
+        """`do { S } while (0);` becomes `{ S }`, where no break and no continue of S belongs to it."""
+        for at in range(first, end - 1):
+            if self.tokens[at].text != "do" or self.tokens[at + 1].text != "{":
+                continue
+            closing = self.partner[at + 1]
+            behind = [it.text for it in self.tokens[closing + 1 : closing + 6]]
+            if behind[:4] != ["while", "(", "0", ")"] or behind[4:] != [";"] or self._is_left_early(at + 1, closing):
+                continue
+            self._blank(at, at + 1)
+            self._blank(closing + 1, closing + 6)
+            self._count("dozero")
+
+    def _is_left_early(self, opening: int, closing: int) -> bool:
+        """Returns whether a break or continue between these braces belongs to the loop whose body they are."""
+        return any(
+            self.tokens[at].text in ("break", "continue") and not self._has_own_loop(at, opening, self.tokens[at].text == "break")
+            for at in range(opening + 1, closing)
+        )
+
+    def _has_own_loop(self, at: int, opening: int, is_break: bool) -> bool:
+        """Returns whether a loop, or for a break a switch, inside of the braces has this statement in its own braces."""
+        for i in range(opening + 1, at):
+            if self.tokens[i].text == "{" and self.partner[i] > at:
+                before = i - 1
+                if self.tokens[before].text == "do":
+                    return True
+                if self.tokens[before].text == ")":
+                    word = self.tokens[self.partner[before] - 1].text
+                    if word in ("for", "while") or is_break and word == "switch":
+                        return True
+        return False
+
+    def _statement_expressions(self, first: int, end: int) -> None:
+        """`({ S });` as a whole statement becomes `{ S }`; `({ E1; E2; })` of expressions alone becomes `( E1, E2 )`."""
+        for at in range(first, end - 2):
+            if self.tokens[at].text != "(" or self.tokens[at + 1].text != "{" or self.partner[at] != self.partner[at + 1] + 1:
+                continue
+            closing = self.partner[at + 1]
+            behind = closing + 2
+            if self.tokens[at - 1].text in (";", "{", "}") and self.tokens[behind].text == ";":
+                self._blank(at, at + 1)
+                self._blank(closing + 1, behind + 1)
+                self._count("stmtexpr")
+            else:
+                self._join_expressions(at + 1, closing)
+
+    def _join_expressions(self, opening: int, closing: int) -> None:
+        ends, starts = list[int](), [opening + 1]
+        at = opening + 1
+        while at < closing:
+            if self.tokens[at].text == ";":
+                ends.append(at)
+                starts.append(at + 1)
+            at = self.partner[at] + 1 if self.partner[at] > at else at + 1
+        starts = [it for it in starts if it < closing]
+        if not ends or ends[-1] != closing - 1 or len(starts) != len(ends):
+            return
+        if not all(self._is_expression(start, end) for start, end in zip(starts, ends)):
+            return
+        self._blank(opening, opening + 1)
+        self._blank(closing, closing + 1)
+        for i in ends:
+            self._put(self.tokens[i], " " if i == ends[-1] else ",")
+        self._count("exprs")
+
+    def _is_expression(self, first: int, end: int) -> bool:
+        """Returns whether these tokens are surely an expression: no word of a statement or type, no two names in a row."""
+        inside = self.tokens[first:end]
+        if not inside or any(it.text in KEYWORDS and it.text != "sizeof" or it.text in ("{", "}") for it in inside):
+            return False
+        pairs = zip(inside, inside[1:])
+        if any(one.is_word and other.is_word and one.text != "sizeof" for one, other in pairs):
+            return False
+        # (`a * b;` and `a(b);` may be declarations: only calls, assignments, counts and single names are taken)
+        is_product = len(inside) >= 3 and inside[0].is_word and inside[1].text == "*"
+        return not is_product
+
+    # ---- small things
+
+    def _blank(self, first: int, end: int) -> None:
+        if first < end:
+            self.sheet.blank(self.tokens[first].start, self.tokens[end - 1].end)
+
+    def _put(self, token: Token, text: str) -> None:
+        self.sheet.put(token.start, text.ljust(len(token.text)))
+
+    def _count(self, step: str) -> None:
+        self.counts[step] = self.counts.get(step, 0) + 1
+
+
+class _LineIndex:
+    """The line of a place in a text."""
+
+    def __init__(self, text: str) -> None:
+        lengths = [len(it) + 1 for it in text.split("\n")]
+        self._starts = [0, *accumulate(lengths)]
+
+    def line(self, at: int) -> int:
+        return bisect_right(self._starts, at)

@@ -1,0 +1,37 @@
+"""Findings, and what was analysed and what not, as JSON of the kit's own form (docs/USE.md)."""
+
+from __future__ import annotations
+
+from typing import Any
+
+from .check import FileResult
+from .findings import Finding
+from .lines import Place
+from .rows import story
+
+
+def as_json(results: list[FileResult], status: int) -> dict[str, Any]:
+    return {"format": "nalvegop findings", "version": 1, "status": status, "files": [_file(it) for it in results]}
+
+
+def _file(it: FileResult) -> dict[str, Any]:
+    return {
+        "file": it.file,
+        "failure": it.failure,
+        "models": it.models,
+        "analysed": [function.name for function in it.analysed],
+        "passed_over": [{"function": name, "reason": why} for name, why in it.passed_over.items()],
+        "late": it.late,
+        "warnings": it.warnings,
+        "hidden": it.hidden,
+        "findings": [_finding(finding, it) for finding in it.findings],
+    }
+
+
+def _finding(it: Finding, result: FileResult) -> dict[str, Any]:
+    paths = [{"head": path.head, "choice": path.choice, "steps": [{**_place(step.place), "text": step.text} for step in path.steps]} for path in it.paths]
+    return {"kind": it.kind, "function": it.function, **_place(it.place), "message": it.message, "unsure": it.marks, "known_by": it.known_by, "paths": paths, "story": [*story(it, result)]}
+
+
+def _place(it: Place) -> dict[str, Any]:
+    return {"file": it.file, "line": it.line, "column": it.column}

@@ -1,0 +1,108 @@
+"""C text as tokens that know their place (C11 6.4), and text that is changed without moving anything in it."""
+
+from __future__ import annotations
+
+import re
+from collections.abc import Iterator, Sequence
+from dataclasses import dataclass
+
+_TOKEN = re.compile(
+    r"""
+      (?P<space>(?:[ \t\v\f\r\n]|\\\r?\n)+)
+    | (?P<comment>/\*.*?\*/|//[^\n]*)
+    | (?P<string>(?:u8|[LuU])?"(?:\\.|[^"\\\n])*")
+    | (?P<char>[LuU]?'(?:\\.|[^'\\\n])*')
+    | (?P<word>[A-Za-z_$][A-Za-z0-9_$]*)
+    | (?P<number>\.?[0-9](?:[eEpP][+-]|[A-Za-z0-9_.])*)
+    | (?P<punct>\.\.\.|<<=|>>=|->|\+\+|--|<<|>>|<=|>=|==|!=|&&|\|\||[-+*/%&|^]=|\#\#|.)
+    """,
+    re.VERBOSE | re.DOTALL,
+)
+_DIRECTIVE = re.compile(r"[ \t]*#[^\n]*")
+OPENING, CLOSING = {"(": ")", "[": "]", "{": "}"}, {")", "]", "}"}
+
+
+@dataclass(frozen=True, slots=True)
+class Token:
+    """A token: its text, where it begins in the whole text, and its kind (word, number, string, char or punct)."""
+
+    text: str
+    start: int
+    kind: str
+
+    @property
+    def end(self) -> int:
+        return self.start + len(self.text)
+
+    @property
+    def is_word(self) -> bool:
+        return self.kind == "word"
+
+
+def tokens_of(text: str, start: int = 0, end: int | None = None) -> Iterator[Token]:
+    """Gives the tokens of a text. Comments, white space and lines that begin with # are left out."""
+    at, end, begins_line = start, len(text) if end is None else end, True
+    while at < end:
+        if begins_line and (line := _DIRECTIVE.match(text, at, end)):
+            at = line.end()
+            continue
+        found = _TOKEN.match(text, at, end)
+        assert found and found.lastgroup
+        at = found.end()
+        if found.lastgroup == "space":
+            begins_line = begins_line or "\n" in found[0]
+        elif found.lastgroup != "comment":
+            begins_line = False
+            yield Token(found[0], found.start(), found.lastgroup)
+
+
+def comments_of(text: str) -> Iterator[tuple[int, str]]:
+    """Gives the comments of a text, each with the place where it begins."""
+    at = 0
+    while at < len(text):
+        found = _TOKEN.match(text, at)
+        assert found
+        if found.lastgroup == "comment":
+            yield found.start(), found[0]
+        at = found.end()
+
+
+def partners(tokens: Sequence[Token]) -> list[int]:
+    """Returns for each bracket the index of its other half, and -1 for all else and for a bracket without one."""
+    found, open_ones = [-1] * len(tokens), list[int]()
+    for at, token in enumerate(tokens):
+        if token.kind != "punct":
+            continue
+        if token.text in OPENING:
+            open_ones.append(at)
+        elif token.text in CLOSING and open_ones and OPENING[tokens[open_ones[-1]].text] == token.text:
+            found[at] = open_ones.pop()
+            found[found[at]] = at
+    return found
+
+
+class Sheet:
+    """A text in which parts are written over with spaces or with text of the same length: no byte of it moves."""
+
+    def __init__(self, text: str) -> None:
+        self.was = text
+        self._pieces: list[tuple[int, int, str]] = []
+
+    def blank(self, start: int, end: int) -> None:
+        """Writes spaces from start to end; line feeds and line markers stay."""
+        lines = self.was[start:end].split("\n")
+        self.put(start, "\n".join(it if number and _DIRECTIVE.fullmatch(it) else " " * len(it) for number, it in enumerate(lines)))
+
+    def put(self, start: int, text: str) -> None:
+        """Writes a text over what stands there. What stood there has its line feeds at the same places."""
+        self._pieces.append((start, start + len(text), text))
+
+    def text(self) -> str:
+        """Returns the text with all that was written over it; of two writings over one place the later one counts."""
+        made = list(self.was)
+        for start, end, text in self._pieces:
+            made[start:end] = text
+        done = "".join(made)
+        assert len(done) == len(self.was)
+        assert [i for i, it in enumerate(done) if it == "\n"] == [i for i, it in enumerate(self.was) if it == "\n"]
+        return done

@@ -1,0 +1,1 @@
+#define FORCED extern int forced;

@@ -1,0 +1,1 @@
+struct answer { void *given; };

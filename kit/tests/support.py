@@ -1,0 +1,59 @@
+"""What the tests share: places of their files, and a program `saturn_check` where one is built."""
+
+from __future__ import annotations
+
+import os
+import subprocess
+import sys
+import tempfile
+import unittest
+from collections.abc import Iterator
+from contextlib import contextmanager
+from functools import lru_cache
+
+KIT = os.path.dirname(os.path.dirname(os.path.abspath(__file__)))
+TOP = os.path.dirname(KIT)
+PROJECTS = os.path.join(KIT, "tests", "projects")
+COMMAND = os.path.join(TOP, "bin", "nalvegop")
+
+
+@lru_cache(maxsize=None)
+def built_checker() -> str | None:
+    """Returns the program that the environment names, or one that is built of this text, proved or not."""
+    if os.environ.get("NALVEGOP_CHECKER"):
+        return os.environ["NALVEGOP_CHECKER"]
+    sys.path.insert(0, os.path.join(TOP, "bin"))
+    try:
+        import programs
+    finally:
+        sys.path.pop(0)
+    return programs.is_kept("saturn_check")
+
+
+needs_checker = unittest.skipUnless(built_checker(), "no saturn_check is built: bin/saturn_check [--unproved] --where builds it")
+
+
+@contextmanager
+def folder(**files: str) -> Iterator[str]:
+    """Gives a new folder with these files; `__` in a name stands for a dot."""
+    with tempfile.TemporaryDirectory(prefix="nalvegop-test-") as room:
+        for name, text in files.items():
+            with open(os.path.join(room, name.replace("__", ".")), "w", encoding="utf-8") as it:
+                it.write(text)
+        yield room
+
+
+def program(room: str, text: str) -> str:
+    """Writes a script that stands for saturn_check, and returns its path."""
+    path = os.path.join(room, "checker")
+    with open(path, "w", encoding="utf-8") as it:
+        it.write(f"#!/bin/sh\n{text}\n")
+    os.chmod(path, 0o755)
+    return path
+
+
+def nalvegop(*words: str, at: str, checker: str | None = None) -> "subprocess.CompletedProcess[str]":
+    """Runs the command in a folder."""
+    env = {**os.environ, "NALVEGOP_CHECKER": checker or built_checker() or "/nonexistent"}
+    env.pop("CC", None)
+    return subprocess.run([sys.executable, "-B", COMMAND, *words], cwd=at, env=env, stdin=subprocess.DEVNULL, capture_output=True, text=True, errors="replace", check=False)

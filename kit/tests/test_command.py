@@ -1,0 +1,152 @@
+"""The command: statuses, forms of output, limits of time."""
+
+from __future__ import annotations
+
+import json
+import os
+import re
+import unittest
+
+from nalvegop.check import FileResult
+from nalvegop.findings import Finding, Path, Step
+from nalvegop.lines import Place
+from nalvegop.show_sarif import sarif
+from tests.support import KIT, folder, nalvegop, needs_checker, program
+
+_EMPTY = "total functions 0 skipped 0 rows 0 reports 0"
+_NOTHING = f'case "$1" in --help) ;; *) echo "{_EMPTY}" ;; esac'
+_LOST = "#include <stdlib.h>\nvoid lost(void)\n{\n\tvoid *p = malloc(1);\n}\n"
+
+
+class Statuses(unittest.TestCase):
+    def test_words(self) -> None:
+        for words in ([], ["check"], ["check", "--depth", "9", "a.c"], ["check", "--format", "xml", "a.c"], ["check", "--update-baseline", "a.c"], ["explain", "a.c"], ["what"]):
+            with folder(a__c="int x;\n") as room:
+                said = nalvegop(*words, at=room, checker=program(room, _NOTHING))
+                self.assertEqual((said.returncode, said.stdout), (3, ""), words)
+                self.assertTrue(said.stderr)
+
+    def test_nothing_found(self) -> None:
+        with folder(a__c="int x;\n") as room:
+            self.assertEqual(nalvegop("check", "a.c", at=room, checker=program(room, _NOTHING)).returncode, 0)
+
+    def test_a_file_that_is_not_there(self) -> None:
+        with folder(a__c="int x;\n") as room:
+            said = nalvegop("check", "a.c", "b.c", at=room, checker=program(room, _NOTHING))
+            self.assertEqual(said.returncode, 2)
+            self.assertIn("b.c: not analysed", said.stderr)
+
+    def test_a_compiler_that_is_not_there(self) -> None:
+        with folder(a__c="int x;\n") as room:
+            said = nalvegop("check", "a.c", "--", "no-such-cc", "-DX", at=room, checker=program(room, _NOTHING))
+            self.assertEqual(said.returncode, 2)
+            self.assertIn("there is no compiler no-such-cc", said.stderr)
+
+    def test_a_program_that_is_refused_memory_or_refuses(self) -> None:
+        for text, why in (("exit 6", "memory was refused"), ('echo "saturn_check: unit.c:1:2: lexical" >&2; exit 2', "unit.c:1:2: lexical"), ("kill -SEGV $$", "signal 11"), ("echo what", "not understood")):
+            with folder(a__c="int x;\n") as room:
+                said = nalvegop("check", "a.c", at=room, checker=program(room, text))
+                self.assertEqual(said.returncode, 2, text)
+                self.assertIn(why, said.stderr)
+
+    def test_a_file_that_takes_too_long_is_named_and_the_others_go_on(self) -> None:
+        slow = f'case "$1" in --help) exit 0 ;; esac; grep -q slow unit.c && sleep 30; echo "{_EMPTY}"'
+        with folder(a__c="int slow(void) { return 1; }\n", b__c="int quick(void) { return 1; }\n") as room:
+            said = nalvegop("check", "--seconds", "3", "a.c", "b.c", at=room, checker=program(room, slow))
+            self.assertEqual(said.returncode, 2)
+            self.assertIn("a.c: no answer in time: slow", said.stderr)
+            self.assertNotIn("b.c:", said.stderr)
+
+    def test_a_database_that_lacks_a_file(self) -> None:
+        with folder(a__c="int x;\n", b__c="int x;\n", compile_commands__json=json.dumps([{"directory": ".", "file": "a.c", "arguments": ["gcc", "a.c"]}])) as room:
+            checker = program(room, _NOTHING)
+            self.assertEqual(nalvegop("check", "-p", ".", at=room, checker=checker).returncode, 0)
+            said = nalvegop("check", "-p", "compile_commands.json", "b.c", at=room, checker=checker)
+            self.assertEqual(said.returncode, 2)
+            self.assertIn("b.c", said.stderr)
+            self.assertEqual(nalvegop("check", "-p", "missing.json", at=room, checker=checker).returncode, 2)
+
+    def test_as_the_checker_of_the_kernels_make(self) -> None:
+        echo = 'case "$1" in --help) exit 0 ;; esac; grep -q "int given" unit.c || exit 6; echo "' + _EMPTY + '"'
+        with folder(a__c="NAME int f(void) { return given; }\n") as room:
+            said = nalvegop("sparse", "-D__linux__", "-Wbitwise", "-DNAME=extern int given;", "-I.", "a.c", at=room, checker=program(room, echo))
+            self.assertEqual((said.returncode, said.stdout), (0, ""))
+            self.assertNotIn("not analysed", said.stderr)
+            self.assertEqual(nalvegop("sparse", "-DX", at=room, checker=program(room, echo)).returncode, 3)
+
+    @needs_checker
+    def test_findings_and_strictness(self) -> None:
+        with folder(a__c=_LOST, b__c="float f(float x) { return x; }\n") as room:
+            self.assertEqual(nalvegop("check", "a.c", at=room).returncode, 1)
+            self.assertEqual(nalvegop("check", "--only", "double", "a.c", at=room).returncode, 0)
+            self.assertEqual(nalvegop("check", "b.c", at=room).returncode, 0)
+            self.assertEqual(nalvegop("check", "--strict", "b.c", at=room).returncode, 2)
+
+    @needs_checker
+    def test_baseline(self) -> None:
+        with folder(a__c=_LOST) as room:
+            self.assertEqual(nalvegop("check", "--baseline", "base.json", "--update-baseline", "a.c", at=room).returncode, 0)
+            said = nalvegop("check", "--baseline", "base.json", "a.c", at=room)
+            self.assertEqual((said.returncode, said.stdout), (0, ""))
+            self.assertIn("1 finding known by the baseline", said.stderr)
+            with open(os.path.join(room, "a.c"), "w", encoding="utf-8") as it:
+                it.write("\n\n" + _LOST + _LOST.replace("lost", "also"))
+            said = nalvegop("check", "--baseline", "base.json", "a.c", at=room)
+            self.assertEqual(said.returncode, 1)
+            self.assertEqual(re.findall(r"warning.*'(\w+)' ends \[leak\]", said.stdout), ["also"])
+
+
+class Forms(unittest.TestCase):
+    def result(self) -> FileResult:
+        place = Place("a b/it's.c", 3, 7)
+        steps = [Step(place, "'malloc' is called"), Step(Place("/usr/include/x.h", 4, 1), "'f' ends")]
+        return FileResult("a b/it's.c", findings=[Finding("leak", "f", place, "memory <is> lost", [Path("a run", steps, "d4")], "sum")], late=["g"])
+
+    def test_sarif(self) -> None:
+        log = json.loads(json.dumps(sarif([self.result(), FileResult("b.c", failure="why")], 2)))
+        run = log["runs"][0]
+        self.assertEqual(log["version"], "2.1.0")
+        self.assertEqual(run["results"][0]["locations"][0]["physicalLocation"]["artifactLocation"], {"uri": "a%20b/it%27s.c", "uriBaseId": "SRCROOT"})
+        self.assertEqual(run["results"][0]["codeFlows"][0]["threadFlows"][0]["locations"][1]["location"]["physicalLocation"]["artifactLocation"]["uri"], "file:///usr/include/x.h")
+        self.assertEqual(run["tool"]["driver"]["rules"][run["results"][0]["ruleIndex"]]["id"], "leak")
+        self.assertEqual(len(run["invocations"][0]["toolExecutionNotifications"]), 2)
+
+    def test_sarif_is_valid(self) -> None:
+        try:
+            import jsonschema
+        except ImportError:
+            self.skipTest("there is no jsonschema")
+        with open(os.path.join(KIT, "tests", "sarif-part.schema.json"), encoding="utf-8") as it:
+            schema = json.load(it)
+        for results in ([], [self.result()], [FileResult("b.c", failure="why"), self.result()]):
+            jsonschema.validate(json.loads(json.dumps(sarif(results, 1))), schema)
+
+    @needs_checker
+    def test_json_and_html(self) -> None:
+        with folder(a__c=_LOST) as room:
+            value = json.loads(nalvegop("check", "--format", "json", "a.c", at=room).stdout)
+            self.assertEqual(value["files"][0]["findings"][0]["line"], 4)
+            said = nalvegop("check", "--format", "html", "--output", "out.html", "a.c", at=room)
+            self.assertEqual((said.returncode, said.stdout), (1, ""))
+            with open(os.path.join(room, "out.html"), encoding="utf-8") as it:
+                page = it.read()
+            self.assertIn("void *p = malloc(1);", page)
+            self.assertNotRegex(page, r"(src|href)=\"(?!#)")
+
+    @needs_checker
+    def test_explain_and_rows(self) -> None:
+        with folder(a__c=_LOST) as room:
+            said = nalvegop("explain", "a.c:4", at=room)
+            self.assertEqual(said.returncode, 1)
+            self.assertIn("it can end", said.stdout)
+            self.assertEqual(nalvegop("explain", "a.c:1", at=room).returncode, 0)
+            nalvegop("check", "--format", "json", "--output", "found.json", "a.c", at=room)
+            self.assertEqual(nalvegop("explain", "1", "--from", "found.json", at=room).stdout, said.stdout)
+            self.assertEqual(nalvegop("explain", "2", "--from", "found.json", at=room).returncode, 3)
+            said = nalvegop("rows", "a.c", "lost", at=room)
+            self.assertEqual(said.stdout, "lost:\n  how it ends\n    gives\n    nothing\n")
+            self.assertEqual(nalvegop("rows", "a.c", "other", at=room).returncode, 2)
+
+
+if __name__ == "__main__":
+    unittest.main()

@@ -1,0 +1,148 @@
+"""The filter: what it blanks, what it keeps, and that nothing moves."""
+
+from __future__ import annotations
+
+import re
+import subprocess
+import unittest
+
+from nalvegop.filter import Filter, Filtered
+from nalvegop.lines import LineMap, SourceFiles
+from tests.support import folder
+
+
+def filtered(text: str, is_all_own: bool = True) -> Filtered:
+    line_map = LineMap(text, "unit.c", SourceFiles())
+    return Filter(text, (lambda line: True) if is_all_own else line_map.is_own).run()
+
+
+def squeezed(text: str) -> str:
+    """Returns the text with one space for each row of white space."""
+    return re.sub(r"\s+", " ", text).strip()
+
+
+class Steps(unittest.TestCase):
+    def becomes(self, before: str, after: str) -> None:
+        made = filtered(before).text
+        self.assertEqual(squeezed(made), after)
+        self.assertEqual([len(it) for it in made.split("\n")], [len(it) for it in before.split("\n")])
+
+    def test_old_parameters(self) -> None:
+        self.becomes("int f(a, b)\n int a;\n char *b;\n{ return a; }", "int f( int a, char *b) { return a; }")
+
+    def test_old_parameters_in_another_order_stay(self) -> None:
+        self.becomes("int f(a, b) char *b; int a; { return a; }", "int f(a, b) char *b; int a; { return a; }")
+
+    def test_loops_that_run_once(self) -> None:
+        self.becomes("void f(int a) { do { a++; } while (0); }", "void f(int a) { { a++; } }")
+        self.becomes("void f(int a) { if (a) do { a++; } while (0); else a--; }", "void f(int a) { if (a) { a++; } else a--; }")
+
+    def test_loops_that_are_left_stay(self) -> None:
+        for inside in ("if (a) break; a++;", "if (a) continue; a++;", "switch (a) { default: continue; }"):
+            text = f"void f(int a) {{ do {{ {inside} }} while (0); }}"
+            self.becomes(text, text)
+
+    def test_a_break_of_an_inner_loop_does_not_count(self) -> None:
+        self.becomes("void f(int a) { do { while (a) { break; } } while (0); }", "void f(int a) { { while (a) { break; } } }")
+        self.becomes("void f(int a) { do { switch (a) { case 1: break; } } while (0); }", "void f(int a) { { switch (a) { case 1: break; } } }")
+
+    def test_statement_expressions(self) -> None:
+        self.becomes("void f(int a) { ({ int b = a; g(b); }); }", "void f(int a) { { int b = a; g(b); } }")
+        self.becomes("int f(int a) { return ({ g(a); a; }); }", "int f(int a) { return ( g(a), a ); }")
+        self.becomes("int f(int a) { return ({ int b = a; b; }); }", "int f(int a) { return ({ int b = a; b; }); }")
+
+    def test_asm(self) -> None:
+        self.becomes('int f(void) __asm__("g"); int h(void) { return f(); }', "int f(void) ; int h(void) { return f(); }")
+        self.becomes('void f(void) { __asm__ volatile ("nop" ::: "memory"); }', "void f(void) { ; }")
+        text = 'int f(int a) { asm("nop" : "=r"(a)); return a; }'
+        self.becomes(text, text)
+
+    def test_asserts_and_empty_members(self) -> None:
+        self.becomes('struct s { int a; ; int b; _Static_assert(1, "x"); }; int f(struct s *p) { _Static_assert(1, "y"); return p->a; }', "struct s { int a; int b; }; int f(struct s *p) { return p->a; }")
+
+    def test_initialisers_at_file_scope(self) -> None:
+        self.becomes("static int a = 1, b[2] = { 1, 2 }; int f(void) { return a + b[0]; }", "static int a , b[2] ; int f(void) { return a + b[0]; }")
+
+    def test_initialisers_that_give_a_length_stay(self) -> None:
+        text = "static int a[] = { 1, 2 }; int f(void) { return sizeof a; }"
+        self.becomes(text, text)
+
+    def test_words_of_gcc(self) -> None:
+        self.becomes("typeof(int) a; int f(void) { return a; }", "int a; int f(void) { return a; }")
+        self.becomes("int f(int a) { typeof(a) b = a; return b; }", "int f(int a) { typeof(a) b = a; return b; }")
+        self.becomes("unsigned long f(void) { return __alignof__(int); }", "unsigned long f(void) { return sizeof (int); }")
+        self.becomes("void f(void) { g(__func__); }", 'void f(void) { g("" ); }')
+        self.becomes("_Atomic int a; int f(void) { return a; }", "int a; int f(void) { return a; }")
+        self.becomes("_Atomic(int) a; int f(void) { return a; }", "int a; int f(void) { return a; }")
+
+    def test_line_markers_stay(self) -> None:
+        text = '# 1 "a.h" 1\nstruct unused {\n# 3 "a.h"\n int a;\n};\n# 1 "a.c" 2\nint f(void) { return 1; }\n'
+        made = filtered(text).text
+        self.assertNotIn("unused", made)
+        self.assertEqual(re.findall(r"# .*", made), re.findall(r"# .*", text))
+
+
+class WhatStays(unittest.TestCase):
+    HEADER = '# 1 "a.c"\n# 1 "a.h" 1\n'
+    BACK = '# 2 "a.c" 2\n'
+
+    def kept(self, header: str, own: str) -> str:
+        return squeezed(re.sub(r"#.*", "", filtered(self.HEADER + header + "\n" + self.BACK + own, is_all_own=False).text))
+
+    def test_functions_of_headers_that_are_reached_stay(self) -> None:
+        header = "static inline int one(void) { return 1; } static inline int two(void) { return one(); } static inline int three(void) { return 3; }"
+        self.assertEqual(self.kept(header, "int f(void) { return two(); }"), "static inline int one(void) { return 1; } static inline int two(void) { return one(); } int f(void) { return two(); }")
+
+    def test_a_used_static_function_below_stays(self) -> None:
+        own = "static int later(void); int f(void) { return later(); } static int later(void) { return 2; }"
+        self.assertEqual(self.kept("", own), own)
+
+    def test_types_that_are_used_stay(self) -> None:
+        header = "typedef int word; typedef void (fn_t)(word); typedef word (*pf)(fn_t *); struct s { pf p; }; enum { ONE, TWO }; enum e { THREE }; union u { int a; }; typedef int never;"
+        self.assertEqual(
+            self.kept(header, "int f(struct s *s, union u *u) { return TWO + u->a; }"),
+            "typedef int word; typedef void (fn_t)(word); typedef word (*pf)(fn_t *); struct s { pf p; }; enum { ONE, TWO }; union u { int a; }; int f(struct s *s, union u *u) { return TWO + u->a; }",
+        )
+
+    def test_tags_behind_attributes_stay(self) -> None:
+        header = "struct __attribute__((packed)) s { int a; } __attribute__((aligned(4))); struct t { struct s s; } t;"
+        self.assertEqual(self.kept(header, "int f(struct s *s) { return s->a; }"), "struct __attribute__((packed)) s { int a; } __attribute__((aligned(4))); int f(struct s *s) { return s->a; }")
+
+    def test_a_function_that_the_file_defines_again(self) -> None:
+        self.assertEqual(self.kept("extern inline int f(void) { return 1; }", "int f(void) { return 2; }"), "int f(void) { return 2; }")
+
+    def test_bodies_of_built_in_names_go(self) -> None:
+        self.assertEqual(self.kept("static inline void spin_lock(int *l) { deep(l); } static inline void deep(int *l) { *l = 1; }", "void f(int *l) { spin_lock(l); }"), "static inline void spin_lock(int *l) ; void f(int *l) { spin_lock(l); }")
+
+    def test_what_is_left_compiles_as_before(self) -> None:
+        source = "#include <stdio.h>\n#include <stdlib.h>\n#include <string.h>\n#include <pthread.h>\n#include <errno.h>\nstatic pthread_mutex_t m;\nint f(const char *s, FILE *o) { pthread_mutex_lock(&m); errno = 0; fprintf(o, s); return strtol(s, NULL, 0) + strlen(s); }\n"
+        with folder(unit__c=source) as room:
+            text = subprocess.run(["gcc", "-E", "unit.c"], cwd=room, capture_output=True, text=True, check=True).stdout
+            line_map = LineMap(text, "unit.c", SourceFiles(room))
+            made = Filter(text, line_map.is_own).run().text
+            said = subprocess.run(["gcc", "-fpreprocessed", "-fsyntax-only", "-Werror=implicit-function-declaration", "-x", "cpp-output", "-"], input=made, cwd=room, capture_output=True, text=True, check=False)
+            self.assertEqual((said.returncode, said.stderr.count("error")), (0, 0), said.stderr)
+            self.assertLess(len(squeezed(made)), len(squeezed(text)) / 4)
+
+
+class PassedOver(unittest.TestCase):
+    def test_cleanup(self) -> None:
+        made = filtered("void f(void) { int *p __attribute__((cleanup(g))) = 0; }\nvoid h(void) { f(); }")
+        self.assertEqual(made.passed_over, {"f": "cleanup"})
+        self.assertEqual(squeezed(made.text), "void f(void) ; void h(void) { f(); }")
+
+    def test_a_call_of_the_model_of_cleanup_push(self) -> None:
+        made = filtered("void f(void) { nalvegop_cleanup_push((g), (p)); }")
+        self.assertEqual(made.passed_over, {"f": "pthread_cleanup_push"})
+
+    def test_other_attributes_do_not_count(self) -> None:
+        self.assertEqual(filtered("void f(void) { int cleanup __attribute__((unused)) = 0; }").passed_over, {})
+
+    def test_some_functions_alone(self) -> None:
+        text = "static int a(void) { return 1; } int b(void) { return a(); } int c(void) { return b(); }"
+        made = Filter(text, lambda line: True).run(only=["c"], without=["b"])
+        self.assertEqual(squeezed(made.text), "int b(void) ; int c(void) { return b(); }")
+
+
+if __name__ == "__main__":
+    unittest.main()
