@@ -29,17 +29,22 @@ fn what_pointers_point_to_at_entry(rt: HostRuntime) -> Result<(), Fail> {
     Ok(())
 }
 
+// `{ while (1) f(); }`, where `f` gives a pointer.
+fn caller(alloc: Global, f: NameId) -> Result<Function, OutOfMemory> {
+    let given = pointer(alloc, CType::Void)?;
+    let called = call(alloc, f, None, List::new(alloc), given, 9)?;
+    let body = Boxed::new(alloc, TStmt::Expr(Some(called), pos(9)))?;
+    let turns = TStmt::While(one(5), body, pos(3));
+    Ok(function(List::new(alloc), List::new(alloc), turns))
+}
+
 #[test]
 fn a_call_in_each_turn(rt: HostRuntime) -> Result<(), Fail> {
     // `{ while (1) malloc(); }` in two turns: two calls, each with an object and one bit.
     let alloc = rt.alloc();
     let mut names = Interner::new(alloc);
     let malloc = names.intern("malloc")?;
-    let given = pointer(alloc, CType::Void)?;
-    let called = call(alloc, malloc, None, List::new(alloc), given, 9)?;
-    let body = Boxed::new(alloc, TStmt::Expr(Some(called), pos(9)))?;
-    let turns = TStmt::While(one(5), body, pos(3));
-    let f = function(List::new(alloc), List::new(alloc), turns);
+    let f = caller(alloc, malloc)?;
     let program = program_of(alloc, names.into_names()?, f)?;
     match places(alloc, &program, 0, &[], &[], 2, 2) {
         Ok(laid) => {
