@@ -8,7 +8,7 @@ use places::places;
 use sc_base::{Boxed, List, NameId, Names, OutOfMemory};
 use sc_tree::ctype::{CType, IntKind};
 use sc_tree::op::UnaryOp;
-use sc_typed::{Function, StructDef, TExpr, TStmt, What};
+use sc_typed::{Function, Program, StructDef, TExpr, TStmt, What};
 use std::alloc::Global;
 use std::test::Fail;
 use sum_rows::{Item, ItemRows, Path, Root, Step, Summary, Verdict, Write};
@@ -38,14 +38,20 @@ fn caller(alloc: Global, f: NameId) -> Result<Function, OutOfMemory> {
     Ok(function(List::new(alloc), List::new(alloc), turns))
 }
 
-#[test]
-fn a_call_in_each_turn(rt: HostRuntime) -> Result<(), Fail> {
-    // `{ while (1) malloc(); }` in two turns: two calls, each with an object and one bit.
-    let alloc = rt.alloc();
+// `{ while (1) malloc(); }`
+fn allocator(alloc: Global) -> Result<Program, OutOfMemory> {
     let mut names = Interner::new(alloc);
     let malloc = names.intern("malloc")?;
+    let names = names.into_names()?;
     let f = caller(alloc, malloc)?;
-    let program = program_of(alloc, names.into_names()?, f)?;
+    program_of(alloc, names, f)
+}
+
+#[test]
+fn a_call_in_each_turn(rt: HostRuntime) -> Result<(), Fail> {
+    // In two turns: two calls, each with an object and one bit.
+    let alloc = rt.alloc();
+    let program = allocator(alloc)?;
     match places(alloc, &program, 0, &[], &[], 2, 2) {
         Ok(laid) => {
             assert_eq!(rt; (laid.sites.len(), laid.occurrences.len()), (1, 2));
