@@ -1,0 +1,5 @@
+pub mod Steps
+pub mod Known
+pub mod Calls
+pub mod Expressions
+pub mod Statements
