@@ -1,0 +1,4 @@
+//! The tests of `gate_questions`; nothing else.
+#![tactic(auto)]
+
+mod asked;
