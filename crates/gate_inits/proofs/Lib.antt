@@ -1,0 +1,4 @@
+mod ValuesSet
+mod CellsGiven
+mod CellsSet
+mod PartsSame
