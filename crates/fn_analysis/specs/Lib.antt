@@ -1,3 +1,1 @@
 pub mod Analysis
-pub mod Runs
-pub mod Trying

@@ -1,0 +1,57 @@
+-- What was shown of runs stays while the net grows.
+use Rattle.std.proofs.Common.{ℕ, List, arith}
+use Rattle.bit_net.specs.declared.nodes.Gate.{Gate}
+use Rattle.bit_net.specs.declared.nodes.Node.{Node}
+use Rattle.bit_net.specs.Runs.{Grown}
+use Rattle.sc_world.specs.Shows.{Over}
+use Rattle.sc_world.specs.World.{bit_at}
+use Rattle.fn_facts.specs.declared.around.Around.{Around}
+use Rattle.fn_facts.specs.Showing.{Fact, IsReady, Shows, ShowsAtExit, ShowsNumber, ShowsNumberAtExit}
+
+pub ready_grows : (a : Around) (old new : List Node) → Grown old new → IsReady a old → IsReady a new
+ready_grows a old new g r =
+    record {
+      inputs = omega (arith, r.inputs, g.inputs);
+      few = r.few;
+      fates = record {
+        over = omega (arith, r.fates.over, g.longer);
+        bads = omega (arith, r.fates.bads, g.longer);
+        touched = omega (arith, r.fates.touched, g.longer);
+        each_bad = r.fates.each_bad;
+        each_touched = r.fates.each_touched;
+      };
+      store = omega (arith, r.store, g.longer);
+      result = omega (arith, r.result, g.longer);
+    }
+
+pub shows_grows : (a : Around) (old new : List Node) (of : Fact) (x : ℕ) → Grown old new → Shows a old of x → Shows a new of x
+shows_grows a old new of x g s =
+    record {
+      below = omega (arith, s.below, g.longer);
+      value = λ bits v r w runs told. s.value bits v r w (g.runs (bit_at bits) v runs) told;
+    }
+
+pub exit_grows : (a : Around) (old new : List Node) (of : Fact) (x : ℕ) → Grown old new → ShowsAtExit a old of x → ShowsAtExit a new of x
+exit_grows a old new of x g s =
+    record {
+      below = omega (arith, s.below, g.longer);
+      value = λ bits v c w runs told. s.value bits v c w (g.runs (bit_at bits) v runs) told;
+    }
+
+pub number_grows : (a : Around) (old new : List Node) (of : Over → ℕ) (word : List Gate) → Grown old new → ShowsNumber a old of word
+    → ShowsNumber a new of word
+number_grows a old new of word g s =
+    record {
+      below = omega (arith, s.below, g.longer);
+      value = λ bits v r w runs told. s.value bits v r w (g.runs (bit_at bits) v runs) told;
+    }
+
+pub number_exit_grows : (a : Around) (old new : List Node) (of : Over → ℕ) (word : List Gate) → Grown old new → ShowsNumberAtExit a old of word
+    → ShowsNumberAtExit a new of word
+number_exit_grows a old new of word g s =
+    record {
+      below = omega (arith, s.below, g.longer);
+      value = λ bits v c w runs told. s.value bits v c w (g.runs (bit_at bits) v runs) told;
+    }
+
+pub ruleset grows = (ready_grows, shows_grows, exit_grows, number_grows, number_exit_grows)
