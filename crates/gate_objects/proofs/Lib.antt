@@ -1,0 +1,4 @@
+mod Marking
+mod Escaping
+mod Releasing
+mod Giving

@@ -1,0 +1,3 @@
+mod Giving
+mod Acting
+mod Making
