@@ -1,0 +1,5 @@
+pub mod Arrays
+pub mod Bits
+pub mod Depths
+pub mod Entry
+pub mod Summaries

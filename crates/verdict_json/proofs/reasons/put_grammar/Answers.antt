@@ -1,0 +1,15 @@
+use Rattle.std.proofs.Common.{refl, append_assoc}
+use Rattle.verdict_json.specs.Reasons.{grammar_value}
+use Rattle.verdict_json.proofs.reasons.put_grammar.Goals as goal
+
+pub returns : goal.returns
+unfolding grammar_value
+returns c =
+    simp (
+      append_assoc,
+      c.in_ok-end_object.ensures,
+      c.in_ok-put_place.ensures,
+      c.in_ok-key.ensures,
+      c.in_ok-word_member.ensures,
+      c.in_ok-begin_object.ensures,
+    ) refl

@@ -1,0 +1,19 @@
+use Rattle.std.proofs.Common.{refl, append_assoc}
+use Rattle.verdict_json.specs.Runs.{run_value}
+use Rattle.verdict_json.proofs.runs.put_run.Goals as goal
+
+pub returns : goal.returns
+unfolding run_value
+returns c =
+    simp (
+      append_assoc,
+      c.in_ok-end_object.ensures,
+      c.in_ok-put_events.ensures,
+      c.in_ok-key.ensures,
+      c.in_ok-bytes_member.ensures,
+      c.in_ok-put_choice_member.ensures,
+      c.in_ok-begin_object.ensures,
+      c.as_slice.ensures,
+      c.as_slice-2.ensures,
+      c.as_slice-3.ensures,
+    ) refl

@@ -1,0 +1,9 @@
+pub mod Arrays
+pub mod Places
+pub mod Reasons
+pub mod Paths
+pub mod Rows
+pub mod Runs
+pub mod Reports
+pub mod Functions
+pub mod Checks
