@@ -1,3 +1,5 @@
 pub mod Below
 pub mod Same
 pub mod Walking
+pub mod Temps
+pub mod Over

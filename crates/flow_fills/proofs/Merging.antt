@@ -1,5 +1,5 @@
 -- One reading of two, by a gate.
-use Rattle.std.proofs.Common.{◌≡◌, ℕ, zero, suc, ◌+◌, ◌<◌, ◌≤◌, max, Bool, true, false, not, ◌&&◌, Option, Some, None, List, [], ◌∷◌, ◌++◌, length, slice_get, get_or, take, if◌then◌else◌, inl, inr, refl, sym, ◌∙◌, ap, subst, arith, add-one}
+use Rattle.std.proofs.Common.{◌≡◌, ℕ, zero, suc, ◌+◌, ◌<◌, ◌≤◌, max, Bool, true, false, not, ◌&&◌, Option, Some, None, List, [], ◌∷◌, ◌++◌, length, slice_get, get_or, take, if◌then◌else◌, ◌⊎◌, inl, inr, refl, sym, ◌∙◌, ap, subst, arith, add-one}
 use Rattle.bit_net.specs.declared.nodes.Node.{Node}
 use Rattle.bit_net.specs.Runs.{Runs, Grown}
 use Rattle.gl_store.specs.Meets.{Meets, val_top}

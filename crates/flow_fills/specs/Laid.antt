@@ -1,5 +1,5 @@
 -- What nodes read, as what the definitions are made of.
-use Rattle.std.specs.Prelude.{◌≡◌, ◌^◌, ◌<◌, length}
+use Rattle.std.specs.Prelude.{◌≡◌, ℕ, ◌^◌, ◌<◌, length}
 use Rattle.sc_world.specs.Source.{Source}
 use Rattle.sc_world.specs.Layout.{Layout}
 use Rattle.layout_base.specs.Seen as laid

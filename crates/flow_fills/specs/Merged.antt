@@ -1,12 +1,12 @@
 -- What was read of cells, where a gate holds, and else what was read of others.
-use Rattle.std.specs.Prelude.{◌≡◌, ℕ, ◌<◌, ◌≤◌, Bool, ◌&&◌, Option, Some, List, [], ◌∷◌, length, slice_get, if◌then◌else◌}
+use Rattle.std.specs.Prelude.{◌≡◌, ℕ, zero, suc, ◌<◌, ◌≤◌, Bool, ◌&&◌, Option, Some, List, [], ◌∷◌, length, slice_get, if◌then◌else◌}
 use Rattle.bit_net.specs.declared.nodes.Node.{Node}
 use Rattle.bit_net.specs.Runs.{Runs}
 use Rattle.gl_store.specs.Meets.{Meets, val_top}
 use Rattle.run_store.specs.Concrete.{Cell}
 use Rattle.gate_copies.specs.declared.readings.Guarded.{Guarded}
 use Rattle.gate_copies.specs.declared.readings.Reading.{Reading}
-use Rattle.gate_copies.specs.Readings.{MeetsOne, guarded_top, readings_top}
+use Rattle.gate_copies.specs.Readings.{MeetsOne, Reads, guarded_top, readings_top}
 use Rattle.gate_inits.specs.Inits.{HaveCells}
 
 -- each of the values counts where it did and a gate holds besides

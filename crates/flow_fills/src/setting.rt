@@ -7,7 +7,7 @@ ghost use Rattle.gate_places.specs.Places.{IsLaid};
 ghost use Rattle.flow_turns.specs.Before.{AreGates, IsHere};
 ghost use Rattle.flow_turns.specs.Steps.{IsMade};
 ghost use Rattle.flow_fills.specs.Laid.{IsLooked, layout_of, source_of};
-ghost use Rattle.flow_fills.specs.Sets.{SetsLocal};
+ghost use Rattle.flow_fills.specs.Fills.{SetsLocal};
 
 use crate::laid::Laid;
 use bit_net::{Net, OutOfMemory};

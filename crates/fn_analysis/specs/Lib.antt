@@ -1,1 +1,3 @@
 pub mod Analysis
+pub mod Runs
+pub mod Trying

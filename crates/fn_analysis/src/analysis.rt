@@ -12,7 +12,7 @@ ghost use Rattle.layout_base.specs.Seen as laid;
 ghost use Rattle.program_verdicts.specs.Verdicts.{texts, verdict_given};
 ghost use Rattle.fn_analysis.specs.Analysis.{HasWholeMachine};
 
-use fn_trying::Trying;
+use crate::trying::Trying;
 use fn_verdict::verdict;
 use fsm_spec::{locks, whole_machines};
 use layout_base::{Ground, Places};

@@ -8,7 +8,7 @@ use places::places;
 use sc_base::{Boxed, List, NameId, Names, OutOfMemory};
 use sc_tree::ctype::{CType, IntKind};
 use sc_tree::op::UnaryOp;
-use sc_typed::{Function, Program, StructDef, TExpr, TStmt, What};
+use sc_typed::{Function, StructDef, TExpr, TStmt, What};
 use std::alloc::Global;
 use std::test::Fail;
 use sum_rows::{Item, ItemRows, Path, Root, Step, Summary, Verdict, Write};
@@ -29,29 +29,18 @@ fn what_pointers_point_to_at_entry(rt: HostRuntime) -> Result<(), Fail> {
     Ok(())
 }
 
-// `{ while (1) f(); }`, where `f` gives a pointer.
-fn caller(alloc: Global, f: NameId) -> Result<Function, OutOfMemory> {
-    let given = pointer(alloc, CType::Void)?;
-    let called = call(alloc, f, None, List::new(alloc), given, 9)?;
-    let body = Boxed::new(alloc, TStmt::Expr(Some(called), pos(9)))?;
-    let turns = TStmt::While(one(5), body, pos(3));
-    Ok(function(List::new(alloc), List::new(alloc), turns))
-}
-
-// `{ while (1) malloc(); }`
-fn allocator(alloc: Global) -> Result<Program, OutOfMemory> {
-    let mut names = Interner::new(alloc);
-    let malloc = names.intern("malloc")?;
-    let names = names.into_names()?;
-    let f = caller(alloc, malloc)?;
-    program_of(alloc, names, f)
-}
-
 #[test]
 fn a_call_in_each_turn(rt: HostRuntime) -> Result<(), Fail> {
-    // In two turns: two calls, each with an object and one bit.
+    // `{ while (1) malloc(); }` in two turns: two calls, each with an object and one bit.
     let alloc = rt.alloc();
-    let program = allocator(alloc)?;
+    let mut names = Interner::new(alloc);
+    let malloc = names.intern("malloc")?;
+    let given = pointer(alloc, CType::Void)?;
+    let called = call(alloc, malloc, None, List::new(alloc), given, 9)?;
+    let body = Boxed::new(alloc, TStmt::Expr(Some(called), pos(9)))?;
+    let turns = TStmt::While(one(5), body, pos(3));
+    let f = function(List::new(alloc), List::new(alloc), turns);
+    let program = program_of(alloc, names.into_names()?, f)?;
     match places(alloc, &program, 0, &[], &[], 2, 2) {
         Ok(laid) => {
             assert_eq!(rt; (laid.sites.len(), laid.occurrences.len()), (1, 2));

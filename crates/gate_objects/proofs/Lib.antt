@@ -1,4 +1,0 @@
-mod Marking
-mod Escaping
-mod Releasing
-mod Giving

@@ -1,3 +1,0 @@
-mod Giving
-mod Acting
-mod Making
