@@ -11,8 +11,3 @@ mod types;
 
 pub use around::{Around, member_name, type_of};
 pub use fits::can_walk;
-pub use places::{field_fits, indexed_fits, is_stub_there, is_typed_there};
-pub use types::{
-    assign_fits, binary_fits, conversion_fits, count_fits, is_read, number_fits, object_wanted,
-    operand_wanted, right_wanted, unary_fits, unless_array,
-};

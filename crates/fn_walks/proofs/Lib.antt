@@ -1,0 +1,6 @@
+pub mod Fating
+pub mod Holding
+pub mod Making
+pub mod Reaching
+pub mod Rooting
+pub mod Stepping
