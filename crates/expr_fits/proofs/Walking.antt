@@ -263,4 +263,4 @@ pub can_walk : (a : Around) (want : Want) (e : Exp)
 can_walk a want e h =
     let x = and_parts (is_plain e) (constants_fit (source_of a) e && here.fits_here (layout_of a) want e) h in
     let y = and_parts (constants_fit (source_of a) e) (here.fits_here (layout_of a) want e) x.1 in
-    record { kept = kept; have = tt; fits = fits (layout_of a) want e y.1; plain = x.0; constants = y.0 }
+    record { kept = kept; have = λ n named k is. absurd (cc); fits = fits (layout_of a) want e y.1; plain = x.0; constants = y.0 }

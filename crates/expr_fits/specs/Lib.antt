@@ -2,3 +2,4 @@ pub mod Around
 pub mod Temps
 pub mod Fits
 pub mod Here
+pub mod Operands

@@ -13,6 +13,8 @@ mod body;
 #[cfg(test)]
 mod costs;
 #[cfg(test)]
+mod fitting;
+#[cfg(test)]
 mod generate;
 #[cfg(test)]
 mod generated;

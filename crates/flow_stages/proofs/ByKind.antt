@@ -6,7 +6,6 @@ use Rattle.run_store.specs.declared.Flag.TheVariants as flag
 use Rattle.sc_world.specs.declared.run.Reason.{Reason}
 use Rattle.sc_world.specs.World.{World, Ended, Aside, Run, goes_on, aside}
 use Rattle.flow_graph.specs.Nodes.{Node, Kept, act}
-use Rattle.flow_graph.specs.Conditions.{Held}
 use Rattle.flow_stages.specs.Stage.{Choice, View, NoneEnded, Waits, Stage, At, Out, Over, going, whole, unread}
 use Rattle.flow_stages.specs.Laws.{Stays, StaysOver, HasStore, IsHere, SameEnds, Same, GoesTo, GoesToOne, IsLater, Lands, IsStep, ends_now, MarksOnly, Tests, Exits, SetsAside, IsDead}
 use Rattle.flow_stages.proofs.OneMore.{one_more}
@@ -174,7 +173,7 @@ pub exit : (c : Choice) (nodes : List Node) (count i : ℕ) (n : Node) (here : B
     → drop i nodes ≡ n ∷ drop (i + 1) nodes → IsHere i here base old → ((q : ℕ) → new.held q ≡ base q) → SameEnds count old new
     → ((go : ℕ → Kept → Run Cell) (k : Kept) (w : World) → act c.source c.layout c.bits n go k w ≡ (Ok (gives k), w))
     → ((ps : List Place) → old.Stored ps → new.Stored ps)
-    → ((k : Kept) (free : Held → Bool) → old.Temps k free → new.Temps k free)
+    → ((k : Kept) (free : ℕ → Bool) → old.Temps k free → new.Temps k free)
     → (here ≡ false → (r : Cell) → old.Gives r → new.Gives r)
     → ((k : Kept) → old.Temps k (unread nodes i i) → here ≡ true → new.Gives (gives k))
     → Stage c nodes count i old → Stage c nodes count (i + 1) new
@@ -198,7 +197,7 @@ pub set_aside : (c : Choice) (nodes : List Node) (count i : ℕ) (n : Node) (her
     → ((l : ℕ) → l < count → new.bad l ≡ old.bad l) → ((l : ℕ) → l < count → new.touched l ≡ old.touched l)
     → ((go : ℕ → Kept → Run Cell) (k : Kept) (w : World) → act c.source c.layout c.bits n go k w ≡ aside r w)
     → ((ps : List Place) → old.Stored ps → new.Stored ps)
-    → ((k : Kept) (free : Held → Bool) → old.Temps k free → new.Temps k free)
+    → ((k : Kept) (free : ℕ → Bool) → old.Temps k free → new.Temps k free)
     → ((r : Cell) → old.Gives r → new.Gives r)
     → Stage c nodes count i old → Stage c nodes count (i + 1) new
 set_aside c nodes count i n here base old new r cut h to over bad touched acts store temps gives =

@@ -3,7 +3,7 @@ use Rattle.std.proofs.Common.{◌≡◌, ℕ, zero, suc, ◌+◌, Bool, true, fa
 use Rattle.std.proofs.lemmas.Bool.{eq-eqb}
 use Rattle.sc_world.specs.Exec.{switch_event}
 use Rattle.flow_graph.specs.Nodes.{Node, Keep, KeepCells, CallOf, Update, Set, Fill, Branch, Choose, Mark, MarkSwitch, Exit, SetAside, temp, in_tree}
-use Rattle.flow_graph.specs.Conditions.{among, read_by, kept_by, onward, IsFine}
+use Rattle.flow_graph.specs.Conditions.{InTemp, among, read_by, kept_by, onward, IsFine}
 use Rattle.flow_graph.specs.Laws.{GoesOn, AllGoOn}
 use Rattle.flow_stages.specs.Stage.{unread}
 use Rattle.flow_stages.specs.NodeKinds.{NodesAreAt, NodesGoOnAt, NodesAreFineAt, ReadsAreAsked, AskedBefore, MarkActs, MarksAct, BranchesAct}
@@ -48,11 +48,11 @@ nodes_are_fine_at temps slots (x ∷ xs) (suc k) n e h = nodes_are_fine_at temps
 
 pub reads_are_asked : ReadsAreAsked
 reads_are_asked nodes at n m is read =
-    unread_here nodes at n m is ∙ ap (λ b. not b && (among m (kept_by n) || onward n (λ q. unread nodes (at + 1) q m))) read
+    unread_here nodes at n m is ∙ ap (λ b. not b && (among (InTemp m) (kept_by n) || onward n (λ q. unread nodes (at + 1) q m))) read
 
 pub asked_before : AskedBefore
 asked_before nodes at n m is kept on =
-    unread_here nodes at n m is ∙ table (among m (read_by n)) (among m (kept_by n)) (onward n (λ q. unread nodes (at + 1) q m)) kept on
+    unread_here nodes at n m is ∙ table (among (InTemp m) (read_by n)) (among (InTemp m) (kept_by n)) (onward n (λ q. unread nodes (at + 1) q m)) kept on
   where
     table : (r k o : Bool) → k ≡ false → o ≡ false → (not r && (k || o)) ≡ false
     table true k o e f = refl

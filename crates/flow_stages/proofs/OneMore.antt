@@ -4,7 +4,7 @@ use Rattle.std.proofs.lemmas.Bool.{eqb-true, eqb-false, eq-eqb}
 use Rattle.run_store.specs.Concrete.{Cell, Place}
 use Rattle.sc_world.specs.World.{World, Ended}
 use Rattle.flow_graph.specs.Nodes.{Node, Kept, act, walk_from}
-use Rattle.flow_graph.specs.Conditions.{Held, kept_first, kept_at}
+use Rattle.flow_graph.specs.Conditions.{InTemp, kept_first, kept_at}
 use Rattle.flow_stages.specs.Stage.{Choice, View, NoneEnded, Waits, IsOut, IsOver, Stage, At, Out, Over, going, whole, unread}
 use Rattle.flow_stages.specs.Laws.{Stays, StaysOver}
 
@@ -12,12 +12,12 @@ none_stays : (count i : ℕ) (old new : View) → Stays count i old new → None
 none_stays count i old new s h = record { over = s.over ∙ h.over; bad = λ l low. s.bad l low ∙ h.bad l low; touched = λ l low. s.touched l low ∙ h.touched l low }
 
 -- what is read at the node, or later
-pub unread_here : (nodes : List Node) (i : ℕ) (n : Node) (m : Held) → drop i nodes ≡ n ∷ drop (i + 1) nodes
-    → unread nodes i i m ≡ kept_at m n (λ q. unread nodes (i + 1) q m)
+pub unread_here : (nodes : List Node) (i : ℕ) (n : Node) (m : ℕ) → drop i nodes ≡ n ∷ drop (i + 1) nodes
+    → unread nodes i i m ≡ kept_at (InTemp m) n (λ q. unread nodes (i + 1) q m)
 unread_here nodes i n m cut =
-    ap (λ ns. kept_first m i ns i) cut
-    ∙ (ap (λ (b : Bool). if b then kept_at m n (kept_first m (suc i) (drop (i + 1) nodes)) else kept_first m (suc i) (drop (i + 1) nodes) i) (eq-eqb i i refl)
-    ∙ ap (λ j. kept_at m n (kept_first m j (drop (i + 1) nodes))) (sym (add-one i)))
+    ap (λ ns. kept_first (InTemp m) i ns i) cut
+    ∙ (ap (λ (b : Bool). if b then kept_at (InTemp m) n (kept_first (InTemp m) (suc i) (drop (i + 1) nodes)) else kept_first (InTemp m) (suc i) (drop (i + 1) nodes) i) (eq-eqb i i refl)
+    ∙ ap (λ j. kept_at (InTemp m) n (kept_first (InTemp m) j (drop (i + 1) nodes))) (sym (add-one i)))
 
 module _ (c : Choice) (nodes : List Node) (i : ℕ) (n : Node) (cut : drop i nodes ≡ n ∷ drop (i + 1) nodes) where
   -- the walk over the nodes from number i on, by its first node
@@ -36,10 +36,10 @@ module _ (c : Choice) (nodes : List Node) (i : ℕ) (n : Node) (cut : drop i nod
   -- what is read later, behind the node
   unread_past : (x : View) (k : Kept) (at : ℕ) → nat_eq at i ≡ false → x.Temps k (unread nodes i at) → x.Temps k (unread nodes (i + 1) at)
   unread_past x k at away h =
-      let cut_off : x.Temps k (λ m. kept_first m i (n ∷ drop (i + 1) nodes) at) = subst (λ (ns : List Node). x.Temps k (λ m. kept_first m i ns at)) cut h in
-      let away_from : x.Temps k (λ m. kept_first m (suc i) (drop (i + 1) nodes) at) =
-      subst (λ (b : Bool). x.Temps k (λ m. if b then kept_at m n (kept_first m (suc i) (drop (i + 1) nodes)) else kept_first m (suc i) (drop (i + 1) nodes) at)) away cut_off in
-      subst (λ (j : ℕ). x.Temps k (λ m. kept_first m j (drop (i + 1) nodes) at)) (sym (add-one i)) away_from
+      let cut_off : x.Temps k (λ m. kept_first (InTemp m) i (n ∷ drop (i + 1) nodes) at) = subst (λ (ns : List Node). x.Temps k (λ m. kept_first (InTemp m) i ns at)) cut h in
+      let away_from : x.Temps k (λ m. kept_first (InTemp m) (suc i) (drop (i + 1) nodes) at) =
+      subst (λ (b : Bool). x.Temps k (λ m. if b then kept_at (InTemp m) n (kept_first (InTemp m) (suc i) (drop (i + 1) nodes)) else kept_first (InTemp m) (suc i) (drop (i + 1) nodes) at)) away cut_off in
+      subst (λ (j : ℕ). x.Temps k (λ m. kept_first (InTemp m) j (drop (i + 1) nodes) at)) (sym (add-one i)) away_from
 
   module _ (count : ℕ) (old new : View) where
     behind : (at : ℕ) → i ≤ at → nat_eq at i ≡ false → i + 1 ≤ at

@@ -6,7 +6,6 @@ use Rattle.run_store.specs.declared.Flag.TheVariants as flag
 use Rattle.sc_world.specs.World.{World, Ended, Run, ◌>>=◌, aside}
 use Rattle.sc_world.specs.declared.run.Reason.{Reason}
 use Rattle.flow_graph.specs.Nodes.{Node, Kept, act}
-use Rattle.flow_graph.specs.Conditions.{Held}
 use Rattle.flow_stages.specs.Stage.{Choice, View, Stage, is_at, unread}
 
 -- some store is that of the gates
@@ -21,7 +20,7 @@ pub record Stays (count i : ℕ) (old new : View) : Type 0 where
   pub touched : (l : ℕ) → l < count → new.touched l ≡ old.touched l
   pub held : (q : ℕ) → i < q → new.held q ≡ old.held q
   pub store : (ps : List Place) → old.Stored ps → new.Stored ps
-  pub temps : HasStore old → (k : Kept) (free : Held → Bool) → old.Temps k free → new.Temps k free
+  pub temps : HasStore old → (k : Kept) (free : ℕ → Bool) → old.Temps k free → new.Temps k free
   pub gives : (r : Cell) → old.Gives r → new.Gives r
 
 -- what was told of a run that is over still is
@@ -46,7 +45,7 @@ pub record SameEnds (count : ℕ) (old new : View) : Type 0 where
 pub record Same (count : ℕ) (old new : View) : Type 0 where
   pub ends : SameEnds count old new
   pub store : (ps : List Place) → old.Stored ps → new.Stored ps
-  pub temps : (k : Kept) (free : Held → Bool) → old.Temps k free → new.Temps k free
+  pub temps : (k : Kept) (free : ℕ → Bool) → old.Temps k free → new.Temps k free
   pub gives : (r : Cell) → old.Gives r → new.Gives r
 
 -- the walk goes on at `next`
@@ -122,7 +121,7 @@ pub record Exits (c : Choice) (nodes : List Node) (count i : ℕ) (n : Node) (he
   pub goes : (q : ℕ) → new.held q ≡ base q
   pub same : SameEnds count old new
   pub store : (ps : List Place) → old.Stored ps → new.Stored ps
-  pub temps : (k : Kept) (free : Held → Bool) → old.Temps k free → new.Temps k free
+  pub temps : (k : Kept) (free : ℕ → Bool) → old.Temps k free → new.Temps k free
   pub rests : here ≡ false → (r : Cell) → old.Gives r → new.Gives r
   pub given : (k : Kept) → old.Temps k (unread nodes i i) → here ≡ true → new.Gives (gives k)
 
@@ -136,7 +135,7 @@ pub record SetsAside (c : Choice) (nodes : List Node) (count i : ℕ) (n : Node)
   pub bad : (l : ℕ) → l < count → new.bad l ≡ old.bad l
   pub touched : (l : ℕ) → l < count → new.touched l ≡ old.touched l
   pub store : (ps : List Place) → old.Stored ps → new.Stored ps
-  pub temps : (k : Kept) (free : Held → Bool) → old.Temps k free → new.Temps k free
+  pub temps : (k : Kept) (free : ℕ → Bool) → old.Temps k free → new.Temps k free
   pub gives : (r : Cell) → old.Gives r → new.Gives r
 
 -- No walk comes there.
@@ -158,7 +157,7 @@ pub record IsStep {A : Type 0} (c : Choice) (nodes : List Node) (count i : ℕ) 
   pub does_other : DoesStep count (m other) on live failed old new Good
   pub tells : TellsEnd count on live failed old new
   pub kept : (k : Kept) (a : A) → old.Temps k (unread nodes i i) → here ≡ true → live ≡ true → Good a → new.Temps (keeps a k) (unread nodes (i + 1) next)
-  pub temps : here ≡ false → HasStore old → (k : Kept) (free : Held → Bool) → old.Temps k free → new.Temps k free
+  pub temps : here ≡ false → HasStore old → (k : Kept) (free : ℕ → Bool) → old.Temps k free → new.Temps k free
   pub gives : (r : Cell) → old.Gives r → new.Gives r
 
 -- Laws, of views whose predicates are tests.
@@ -169,7 +168,7 @@ pub record TestView : Type 0 where
   pub bad : (location : ℕ) → Bool
   pub touched : (location : ℕ) → Bool
   pub stored : List Place → Bool
-  pub temps : Kept → (unread : Held → Bool) → Bool
+  pub temps : Kept → (unread : ℕ → Bool) → Bool
   pub gives : Cell → Bool
 
 abbrev pub seen : TestView → View

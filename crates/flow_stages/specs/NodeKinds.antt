@@ -21,10 +21,10 @@ NodesAreFineAt = (temps slots : ℕ) (ns : List Node) (k : ℕ) (n : Node) → s
 
 -- What a node reads is asked for at it; what is asked for where it goes on, and not kept by it, is asked for at it too.
 abbrev pub ReadsAreAsked : Type 0
-ReadsAreAsked = (nodes : List Node) (at : ℕ) (n : Node) (m : Held) → drop at nodes ≡ n ∷ drop (at + 1) nodes → among m (read_by n) ≡ true → unread nodes at at m ≡ false
+ReadsAreAsked = (nodes : List Node) (at : ℕ) (n : Node) (m : ℕ) → drop at nodes ≡ n ∷ drop (at + 1) nodes → among (InTemp m) (read_by n) ≡ true → unread nodes at at m ≡ false
 
 abbrev pub AskedBefore : Type 0
-AskedBefore = (nodes : List Node) (at : ℕ) (n : Node) (m : Held) → drop at nodes ≡ n ∷ drop (at + 1) nodes → among m (kept_by n) ≡ false
+AskedBefore = (nodes : List Node) (at : ℕ) (n : Node) (m : ℕ) → drop at nodes ≡ n ∷ drop (at + 1) nodes → among (InTemp m) (kept_by n) ≡ false
     → onward n (λ q. unread nodes (at + 1) q m) ≡ false → unread nodes at at m ≡ false
 
 -- A node that only adds to the trace goes on at `next`.

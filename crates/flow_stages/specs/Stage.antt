@@ -6,7 +6,7 @@ use Rattle.sc_world.specs.Source.{Source}
 use Rattle.sc_world.specs.Layout.{Layout}
 use Rattle.sc_world.specs.World.{World, Ended, Error, Inner, Aside, Run, entry_world}
 use Rattle.flow_graph.specs.Nodes.{Node, Kept, walk, walk_from}
-use Rattle.flow_graph.specs.Conditions.{Held, kept_first}
+use Rattle.flow_graph.specs.Conditions.{InTemp, kept_first}
 
 -- what a run reads
 pub record Choice : Type 0 where
@@ -26,8 +26,8 @@ pub record View : Type 1 where
   pub touched : (location : ℕ) → Bool
   -- the gates of the store are those of this store
   pub Stored : List Place → Type 0
-  -- the gates of the temps and slots are those of what was kept, but for those that nobody reads any more
-  pub Temps : Kept → (unread : Held → Bool) → Type 0
+  -- the gates of the temps are those of what was kept, but for temps that nobody reads any more
+  pub Temps : Kept → (unread : ℕ → Bool) → Type 0
   -- the gates of the result are those of this cell
   pub Gives : Cell → Type 0
 
@@ -62,9 +62,9 @@ going c nodes j = walk_from c.source c.layout c.bits j (drop j nodes)
 abbrev pub whole : Choice → List Node → Result Cell Ended × World
 whole c nodes = walk c.source c.layout c.bits nodes (entry_world c.source c.layout c.bits)
 
--- whether no node reads the temp or the slot, on the ways from a node, before it is kept again
-abbrev pub unread : List Node → (j at : ℕ) → Held → Bool
-unread nodes j at m = kept_first m j (drop j nodes) at
+-- whether no node reads the temp, on the ways from a node, before it is kept again
+abbrev pub unread : List Node → (j at temp : ℕ) → Bool
+unread nodes j at n = kept_first (InTemp n) j (drop j nodes) at
 
 -- the walk waits at node `at`
 pub record Waits (c : Choice) (nodes : List Node) (count j : ℕ) (x : View) (at : ℕ) (k : Kept) (w : World) : Type 0 where

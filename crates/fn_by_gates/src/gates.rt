@@ -1,12 +1,10 @@
 // The gates of a function.
 
 use bit_net::Net;
-use sat_base::Solver;
 
-/// The gates of a function: the net, who makes the gates of questions in it, and a solver that has no clauses yet.
+/// The gates of a function: the net, and who makes the gates of questions in it.
 #[derive(Drop)]
-pub struct Gates<G: Drop, S: Solver + Drop> {
+pub struct Gates<G: Drop> {
     pub net: Net,
     pub questions: G,
-    pub solver: S,
 }

@@ -2,17 +2,18 @@
 use Rattle.std.proofs.Common.{◌≡◌, ℕ, zero, suc, ◌+◌, ◌<◌, ◌≤◌, Bool, List, [], ◌∷◌, ◌++◌, length, map, take, get_or, Result, Ok, Err, refl, sym, ◌∙◌, ap, subst, arith}
 use Rattle.std.proofs.lemmas.List.{take_more, take_all}
 use Rattle.bit_net.specs.declared.nodes.Node.{Node}
-use Rattle.bit_net.specs.Runs.{Grown}
+use Rattle.bit_net.specs.Runs.{Runs, Grown}
 use Rattle.gl_sets.specs.declared.pairs.Pair.{Pair}
-use Rattle.gl_sets.specs.Guards.{targets_of}
+use Rattle.gl_sets.specs.Guards.{Points, targets_of}
 use Rattle.gl_sets.specs.Sets.{IsMoved}
 use Rattle.gl_store.specs.declared.values.Val.{Val}
 use Rattle.gl_store.specs.declared.stores.Location.{Location}
 use Rattle.gl_store.specs.Meets.{Meets, locations_top}
 use Rattle.run_store.specs.declared.Flag.TheVariants as flag
 use Rattle.run_store.specs.Concrete.{Cell, Nothing}
+use Rattle.sc_world.specs.Source.{Source}
 use Rattle.sc_world.specs.Layout.{Layout, location}
-use Rattle.sc_world.specs.World.{World, Ended, ◌>>=◌, goes_on, done, Env, target_of}
+use Rattle.sc_world.specs.World.{World, Ended, Run, ◌>>=◌, goes_on, done, Env, target_of}
 use Rattle.sc_world.specs.Known.{escape, escape_at}
 use Rattle.sc_world.specs.Eval.{escape_all}
 use Rattle.gate_runs.specs.declared.ends.Ends.{Ends}
@@ -104,9 +105,9 @@ pub first_none : (p : Layout) (ns : List Node) (gates : Ends) (vals : List Val) 
 first_none p ns gates vals l top =
     record { top = top; same = refl; does = λ choice v runs s bits temps turn cs met. does_done v l gates tt (Any {A = Unit {0}}) tt }
 
-pub first_step : (p : Layout) (n1 n2 : List Node) (gates : Ends) (i : ℕ) (vals : List Val) (x : Val) (l0 l1 l2 : List Location) → i < length vals → x ≡ get_or vals i x
-    → Grown n1 n2 → EscapesFirst p n1 gates i vals l0 l1 → DoesEscape p n2 gates x l1 l2 → EscapesFirst p n2 gates (i + 1) vals l0 l2
-first_step p n1 n2 gates i vals x l0 l1 l2 low is grown so_far one =
+pub first_step : (p : Layout) (n1 n2 : List Node) (gates : Ends) (i : ℕ) (vals : List Val) (d : Val) (l0 l1 l2 : List Location) → i < length vals → Grown n1 n2
+    → EscapesFirst p n1 gates i vals l0 l1 → DoesEscape p n2 gates (get_or vals i d) l1 l2 → EscapesFirst p n2 gates (i + 1) vals l0 l2
+first_step p n1 n2 gates i vals d l0 l1 l2 low grown so_far one =
     record {
       top = one.top;
       same = one.same ∙ so_far.same;
@@ -120,7 +121,7 @@ first_step p n1 n2 gates i vals x l0 l1 l2 low is grown so_far one =
           (escape_push env c (take i cs))
           (bind v l0 l1 l2 gates gates gates (escape_all env (take i cs)) (λ u. escape env c) (Any {A = Unit {0}}) (Any {A = Unit {0}})
           (so_far.does choice v r1 s bits temps turn cs met)
-          (λ u good. one.does choice v runs s bits temps turn c (subst (λ y. Meets v y c) (sym is) (each_at v vals cs i x Nothing low met)))));
+          (λ u good. one.does choice v runs s bits temps turn c (each_at v vals cs i d Nothing low met))));
     }
 
 pub first_all : (p : Layout) (ns : List Node) (gates : Ends) (i : ℕ) (vals : List Val) (l0 l1 : List Location) → length vals ≤ i → EscapesFirst p ns gates i vals l0 l1

@@ -1,7 +1,7 @@
 -- What calls give by the choice.
 use Rattle.std.proofs.Common.{◌≡◌, ℕ, ◌+◌, ◌≤◌, suc, Bool, true, false, Option, Some, None, List, length, if◌then◌else◌, inl, refl, sym, ◌∙◌, ap, subst, arith}
 use Rattle.bit_net.specs.declared.nodes.Node.{Node}
-use Rattle.bit_net.specs.Runs.{Grown, Always}
+use Rattle.bit_net.specs.Runs.{Runs, Grown, Always}
 use Rattle.bit_words.specs.declared.Word.{Word as Words}
 use Rattle.gl_sets.specs.declared.pairs.Pair.{Pair}
 use Rattle.gl_sets.specs.declared.sets.Set.{Set as Sets}
@@ -12,20 +12,20 @@ use Rattle.gl_store.specs.declared.values.Val.TheVariants.{Word, Set, Unit as Em
 use Rattle.gl_store.specs.declared.stores.Location.{Location}
 use Rattle.gl_store.specs.Meets.{Meets, locations_top}
 use Rattle.run_store.specs.declared.Flag.TheVariants as flag
-use Rattle.run_store.specs.Concrete.{Cell, Number, Pointer, Nothing, Numbers, Pointers, NoCell}
+use Rattle.run_store.specs.Concrete.{Cell, Number, Pointer, Nothing, Kind, Numbers, Pointers, NoCell}
 use Rattle.sc_world.specs.Tree.{Ty, Ptr, is_integer, is_pointer, int_bits}
 use Rattle.sc_world.specs.Source.{Source}
 use Rattle.sc_world.specs.Layout.{Layout, Occurrence}
-use Rattle.sc_world.specs.World.{World, ◌>>=◌, goes_on, done, Env, bit_at, number_at, null, target_of, target_or_null, pointer_to, chosen_cell}
+use Rattle.sc_world.specs.World.{World, ◌>>=◌, goes_on, done, Env, bit_at, number_at, null, target_of, target_or_null, pointer_to, mark, kind_of_type, chosen_cell}
 use Rattle.sc_world.specs.Known.{escape_at}
-use Rattle.sc_world.specs.Eval.{allocate, escape_all, escaped_object, mark_object}
+use Rattle.sc_world.specs.Eval.{allocate, escape_all, escaped_object, mark_object, unknown}
 use Rattle.gate_runs.specs.declared.ends.Ends.{Ends}
-use Rattle.gate_runs.specs.Stands.{Any}
+use Rattle.gate_runs.specs.Stands.{Does, Any}
 use Rattle.gate_runs.proofs.Bind.{bind, does_done}
 use Rattle.gate_steps.proofs.Known.{does_same}
 use Rattle.gate_places.specs.Places.{env_of}
 use Rattle.gate_entry.specs.Entry.{IsBit, IsNumber, IsPointer}
-use Rattle.gate_objects.specs.Escapes.{mark_target, MarksTarget, EscapesTarget, DoesEscapeAll}
+use Rattle.gate_objects.specs.Escapes.{mark_target, MarksTarget, EscapesTarget, DoesEscapeAll, MeetsEach}
 use Rattle.gate_objects.specs.Given.{DoesAllocate, given, DoesGive, DoesUnknown}
 
 -- The pointer that a bit gives.

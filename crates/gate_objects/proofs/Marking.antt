@@ -1,7 +1,9 @@
 -- A mark on what a pointer points to.
-use Rattle.std.proofs.Common.{◌≡◌, ℕ, zero, suc, Bool, false, List, [], ◌∷◌, refl, ◌∙◌, ap, subst}
+use Rattle.std.proofs.Common.{◌≡◌, ℕ, zero, suc, Bool, true, false, List, [], ◌∷◌, refl, ◌∙◌, ap, subst}
 use Rattle.bit_net.specs.declared.nodes.Node.{Node}
+use Rattle.bit_net.specs.Runs.{Runs}
 use Rattle.gl_sets.specs.declared.pairs.Pair.{Pair}
+use Rattle.gl_sets.specs.Guards.{Points}
 use Rattle.gl_sets.proofs.BoolLemmas.{or_false}
 use Rattle.gl_store.specs.declared.stores.Location.{Location}
 use Rattle.gl_store.specs.Meets.{MeetsAll}

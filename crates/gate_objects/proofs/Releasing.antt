@@ -2,7 +2,7 @@
 use Rattle.std.proofs.Common.{◌≡◌, ℕ, zero, suc, ◌+◌, Bool, true, false, not, ◌&&◌, List, refl, sym, ◌∙◌, ap, subst, arith}
 use Rattle.bit_net.specs.declared.nodes.Gate.{Gate}
 use Rattle.bit_net.specs.declared.nodes.Node.{Node}
-use Rattle.bit_net.specs.Runs.{Grown, Gives}
+use Rattle.bit_net.specs.Runs.{Runs, Grown, Gives}
 use Rattle.gl_sets.specs.declared.pairs.Pair.{Pair}
 use Rattle.gl_sets.specs.Sets.{IsWhere}
 use Rattle.gl_store.specs.declared.values.Val.{Val}
@@ -17,7 +17,7 @@ use Rattle.sc_world.specs.Layout.{Layout, location}
 use Rattle.sc_world.specs.World.{World, ◌>>=◌, goes_on, done, unless, mark, Env, target_of}
 use Rattle.sc_world.specs.Known.{free, free_at, may_free}
 use Rattle.gate_runs.specs.declared.ends.Ends.{Ends}
-use Rattle.gate_runs.specs.Stands.{Any, IsEndedWhere, aside_where}
+use Rattle.gate_runs.specs.Stands.{Does, Any, IsEndedWhere, aside_where}
 use Rattle.gate_runs.proofs.Bind.{bind, does_done}
 use Rattle.gate_steps.proofs.Known.{does_same}
 use Rattle.gate_places.specs.Checks.{IsTest, HaveTests}

@@ -1,31 +1,33 @@
 -- What a call does, by its effect.
-use Rattle.std.proofs.Common.{◌≡◌, ℕ, ◌≤◌, Bool, true, false, not, ◌&&◌, Option, Some, None, List, length, refl, sym, ◌∙◌, subst, arith}
+use Rattle.std.proofs.Common.{◌≡◌, ℕ, ◌+◌, ◌≤◌, ◌<◌, Bool, true, false, not, ◌&&◌, ◌||◌, Option, Some, None, List, length, refl, sym, ◌∙◌, ap, subst, arith}
 use Rattle.bit_net.specs.declared.nodes.Node.{Node}
 use Rattle.bit_net.specs.Runs.{Runs, Grown}
+use Rattle.gl_sets.proofs.BoolLemmas.{both}
 use Rattle.gl_store.specs.declared.values.Val.{Val}
 use Rattle.gl_store.specs.declared.stores.Location.{Location as Guarded}
-use Rattle.gl_store.specs.Meets.{Meets, locations_top}
+use Rattle.gl_store.specs.Meets.{Meets, MeetsAll, locations_top}
 use Rattle.sum_rows.specs.declared.row.Summary.{Summary}
 use Rattle.run_store.specs.Concrete.{Cell}
 use Rattle.sc_base.specs.declared.pos.Pos.{Pos}
 use Rattle.sc_gather.specs.declared.effect.Effect.{Effect as Code}
 use Rattle.sc_gather.specs.Seen.{meaning}
 use Rattle.sc_world.specs.declared.run.Reason.TheVariants as reason
-use Rattle.sc_world.specs.Tree.{Ty}
-use Rattle.sc_world.specs.Source.{Source, Operation, Try, Allocate, Release, Ends, Expect, Known, Unknown, sum_at}
+use Rattle.sc_world.specs.Tree.{Ty, is_integer, is_pointer, is_void}
+use Rattle.sc_world.specs.Source.{Source, Effect, Operation, Try, Allocate, Release, Ends, Expect, Known, Unknown, sum_at}
 use Rattle.sc_world.specs.Layout.{Layout, Occurrence, is_there}
 use Rattle.sc_world.specs.World.{World, ◌>>=◌, done, aside, Env, bit_at}
-use Rattle.sc_world.specs.Eval.{first_arg, known_by, unknown}
+use Rattle.sc_world.specs.Eval.{act, first_arg, known_by, unknown}
 use Rattle.run_laws.specs.Fits.{may_give}
 use Rattle.gate_runs.specs.declared.ends.Ends.{Ends as Gates}
-use Rattle.gate_runs.specs.Stands.{AreEnds, Any, IsEndedWhere, aside_where}
+use Rattle.gate_runs.specs.Stands.{AreEnds, Does, Any, IsEndedWhere, aside_where}
 use Rattle.gate_runs.proofs.Bind.{bind, does_done}
 use Rattle.gate_steps.proofs.Known.{does_same}
 use Rattle.gate_places.specs.Places.{env_of}
 use Rattle.gate_acts.specs.Acts.{DoesOperation, DoesTry}
+use Rattle.gate_objects.specs.Escapes.{MeetsEach}
 use Rattle.gate_objects.specs.Releases.{DoesRelease}
 use Rattle.gate_objects.specs.Given.{DoesAllocate, DoesUnknown}
-use Rattle.tr_call.specs.Calls.{DoesAct, DoesEnd, FirstFits, IsFirst, IsSome, has_gates, some_cell}
+use Rattle.tr_call.specs.Calls.{DoesAct, DoesEnd, FirstFits, IsFirst, IsSome, has_gates, has_summary, some_cell}
 use Rattle.tr_call.proofs.Giving.{given_wanted, integer_wanted, pointer_wanted, try_integer, zero_wanted}
 
 -- gates of a run are gates of a net that has grown

@@ -1,5 +1,5 @@
 -- The call of a node: the event of it, of which no gate tells, and then what it does.
-use Rattle.std.proofs.Common.{◌≡◌, ℕ, Bool, [], List, refl, subst}
+use Rattle.std.proofs.Common.{◌≡◌, ℕ, Bool, [], List, refl, sym, subst}
 use Rattle.sc_base.specs.declared.pos.Pos.{Pos}
 use Rattle.bit_net.specs.declared.nodes.Node.{Node}
 use Rattle.gl_store.specs.declared.values.Val.{Val}

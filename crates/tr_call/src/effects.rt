@@ -1,6 +1,6 @@
 //! What a call does, by its effect.
 
-ghost use Rattle.std.specs.Prelude.{◌≡◌, true, length, IfOk};
+ghost use Rattle.std.specs.Prelude.{◌≡◌, ◌≤◌, true, length, IfOk};
 ghost use Rattle.bit_net.specs.Runs.{Grown};
 ghost use Rattle.gate_runs.specs.Stands.{AreEnds};
 ghost use Rattle.sc_gather.specs.Seen.{meaning};

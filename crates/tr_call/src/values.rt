@@ -1,6 +1,6 @@
 //! The first argument of a call, and some value of a type.
 
-ghost use Rattle.std.specs.Prelude.{IfOk};
+ghost use Rattle.std.specs.Prelude.{◌≤◌, length, IfOk};
 ghost use Rattle.sc_world.specs.View.{type};
 ghost use Rattle.run_world.specs.Seen as seen;
 ghost use Rattle.gate_objects.specs.Escapes.{AreBelow};

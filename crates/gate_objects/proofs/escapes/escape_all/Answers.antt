@@ -1,4 +1,7 @@
+use Rattle.std.proofs.Common.{arith}
+use Rattle.std.proofs.lemmas.List.Elements.{All-get_or}
 use Rattle.bit_net.proofs.Growth.{Grown-refl, Grown-trans}
+use Rattle.gl_store.specs.declared.values.Val.TheVariants.{Unit as Empty}
 use Rattle.gate_objects.proofs.Escaping.{first_none, first_step, first_all}
 use Rattle.gate_objects.proofs.escapes.escape_all.Goals as goal
 
@@ -10,7 +13,7 @@ loop-val-preserved c =
     let step = c.in_ok-escape.ensures in
     record {
       grown = Grown-trans _ _ _ c.loop-val.invariant.grown step.grown;
-      so_far = first_step _ _ _ c.args.ends.now c.loop-val.val-index c.args.vals.now c.val-item.result _ _ _ c.loop-val-test.true c.val-item.is step.grown c.loop-val.invariant.so_far step.ok;
+      so_far = first_step _ _ _ c.args.ends.now c.loop-val.val-index c.args.vals.now _ _ _ _ c.loop-val-test.true step.grown c.loop-val.invariant.so_far step.ok;
     }
 
 pub returns-clause-ok : goal.returns-clause-ok

@@ -1,3 +1,4 @@
+use Rattle.std.proofs.Common.{◌≡◌}
 use Rattle.bit_net.specs.Runs.{Grown}
 use Rattle.run_world.specs.Seen as seen
 use Rattle.gate_objects.specs.Escapes.{EscapesFirst}

@@ -1,4 +1,4 @@
-use Rattle.std.proofs.Common.{subst}
+use Rattle.std.proofs.Common.{subst, ◌∙◌}
 use Rattle.gl_sets.specs.Sets.{IsWhere}
 use Rattle.run_world.specs.Seen as seen
 use Rattle.gate_places.specs.Checks.{HaveTests}

@@ -1,4 +1,5 @@
-use Rattle.std.proofs.Common.{arith}
+use Rattle.std.proofs.Common.{refl}
+use Rattle.bit_net.proofs.Growth.{Grown-refl}
 use Rattle.sc_gather.specs.declared.effect.Effect.TheVariants as code
 use Rattle.layout_base.specs.Seen as laid
 use Rattle.run_world.specs.Seen.{env}
@@ -46,8 +47,8 @@ returns-in_ok-r-in-Allocate-clause-ok c =
     let t = type c.args.acting.t.now in
     let o = laid.occurrence_of c.args.acting.occurrence in
     let step = c.in_ok-r-in-Allocate.ensures in
-    of_effect s p _ t o c.args.args.now _ _ _ _ _ c.args.acting.effect (code.Allocate c.in-Allocate.field-0) c.in-Allocate.is
-    (λ can first. act_allocate s p c.args.net.now _ t o c.args.args.now _ _ c.args.ends.now c.args.ends.now _ c.in-Allocate.field-0 can
+    of_effect s p _ t o c.args.args.now _ _ _ _ _ c.args.acting.effect (code.Allocate c.in-Allocate.0) c.in-Allocate.is
+    (λ can first. act_allocate s p c.args.net.now _ t o c.args.args.now _ _ c.args.ends.now c.args.ends.now _ c.in-Allocate.0 can
     (grown_ends _ _ _ step.grown c.requires.ready.ends) step.ok) c.requires.can c.requires.first
 
 pub returns-in_ok-r-in-Ends-clause-ok : goal.returns-in_ok-r-in-Ends-clause-ok
@@ -58,7 +59,7 @@ returns-in_ok-r-in-Ends-clause-ok c =
     let o = laid.occurrence_of c.args.acting.occurrence in
     let step = c.in_ok-r-in-Ends.ensures in
     of_effect s p _ t o c.args.args.now _ _ _ _ _ c.args.acting.effect code.Ends c.in-Ends.is
-    (λ can first. act_ends s p c.args.net.now _ t o c.args.args.now c.args.stored.now.locations.items c.args.stored.now.locations.items _ _ _ step.ready step.locations (omega (arith, c.requires.ready.store, step.grown.longer)) step.ok)
+    (λ can first. act_ends s p c.args.net.now _ t o c.args.args.now _ _ _ _ _ step.ready step.locations (omega (arith, c.requires.ready.store, step.grown.longer)) step.ok)
     c.requires.can c.requires.first
 
 pub returns-in_ok-r-in-Expect-clause-ok : goal.returns-in_ok-r-in-Expect-clause-ok
@@ -68,7 +69,7 @@ returns-in_ok-r-in-Expect-clause-ok c =
     let t = type c.args.acting.t.now in
     let o = laid.occurrence_of c.args.acting.occurrence in
     of_effect s p _ t o c.args.args.now _ _ _ _ _ c.args.acting.effect code.Expect c.in-Expect.is
-    (λ can first. act_expect s p c.args.net.now _ t o c.args.args.now c.args.stored.now.locations.items c.args.stored.now.locations.items c.args.ends.now c.args.ends.now _ first c.requires.ready.ends c.requires.ready.store
+    (λ can first. act_expect s p c.args.net.now _ t o c.args.args.now _ _ c.args.ends.now c.args.ends.now _ first c.requires.ready.ends c.requires.ready.store
     c.in_ok-r-in-Expect.ensures) c.requires.can c.requires.first
 
 pub returns-in_ok-r-in-Known-clause-ok : goal.returns-in_ok-r-in-Known-clause-ok
@@ -78,8 +79,8 @@ returns-in_ok-r-in-Known-clause-ok c =
     let t = type c.args.acting.t.now in
     let o = laid.occurrence_of c.args.acting.occurrence in
     let step = c.in_ok-r-in-Known.ensures in
-    of_effect s p _ t o c.args.args.now _ _ _ _ _ c.args.acting.effect (code.Known c.in-Known.field-0) c.in-Known.is
-    (λ can first. act_known s p c.args.net.now _ t o c.args.args.now _ _ c.args.ends.now c.args.ends.now _ c.in-Known.field-0 can (grown_ends _ _ _ step.grown c.requires.ready.ends) step.ok)
+    of_effect s p _ t o c.args.args.now _ _ _ _ _ c.args.acting.effect (code.Known c.in-Known.0) c.in-Known.is
+    (λ can first. act_known s p c.args.net.now _ t o c.args.args.now _ _ c.args.ends.now c.args.ends.now _ c.in-Known.0 can (grown_ends _ _ _ step.grown c.requires.ready.ends) step.ok)
     c.requires.can c.requires.first
 
 pub returns-in_ok-r-in-Unknown-clause-ok : goal.returns-in_ok-r-in-Unknown-clause-ok

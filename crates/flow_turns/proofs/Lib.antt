@@ -1,9 +1,0 @@
-pub mod Past
-pub mod Turning
-pub mod Lists
-pub mod Keeping
-pub mod Settling
-pub mod Settled
-pub mod Acted
-pub mod Beginning
-pub mod Finishing

@@ -1,9 +1,0 @@
-use Rattle.std.proofs.Common.{sym, ◌∙◌}
-use Rattle.fn_facts.proofs.Ending.{inner_shown, no_inner_shown}
-use Rattle.fn_facts.proofs.ends.ends_at.Goals as goal
-
-pub returns-then-is_outer : goal.returns-then-is_outer
-returns-then-is_outer c = no_inner_shown _ _ c.args.at _ (sym c.is_outer.ensures ∙ c.if-is_outer.true) c.constant.ensures
-
-pub returns-else-is_outer : goal.returns-else-is_outer
-returns-else-is_outer c = inner_shown _ _ c.args.at _ (sym c.is_outer.ensures ∙ c.if-is_outer.false) c.fails_at.ensures

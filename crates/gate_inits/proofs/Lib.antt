@@ -1,4 +1,0 @@
-mod ValuesSet
-mod CellsGiven
-mod CellsSet
-mod PartsSame

@@ -1,4 +1,0 @@
-//! The tests of `gate_questions`; nothing else.
-#![tactic(auto)]
-
-mod asked;

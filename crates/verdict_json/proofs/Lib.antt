@@ -1,5 +1,0 @@
-pub mod Arrays
-pub mod Bits
-pub mod Depths
-pub mod Entry
-pub mod Summaries

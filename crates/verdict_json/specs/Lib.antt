@@ -1,9 +1,0 @@
-pub mod Arrays
-pub mod Places
-pub mod Reasons
-pub mod Paths
-pub mod Rows
-pub mod Runs
-pub mod Reports
-pub mod Functions
-pub mod Checks
