@@ -1,6 +1,6 @@
 -- An expression that passes the test fits the layout.
-use Rattle.std.proofs.Common.{◌≡◌, inl, inr, ℕ, zero, suc, ◌+◌, ◌<◌, nat_eq, nat_lt, Bool, true, false, not, ◌&&◌, ◌||◌, List, [], ◌∷◌, length, if◌then◌else◌, refl, sym, subst, arith}
-use Rattle.std.specs.Prelude.{Option, Some, None, slice_index_or}
+use Rattle.std.proofs.Common.{◌≡◌, inl, inr, ℕ, zero, suc, ◌+◌, ◌<◌, nat_eq, nat_lt, Bool, true, false, not, ◌&&◌, ◌||◌, List, [], ◌∷◌, length, if◌then◌else◌, refl, sym, ◌∙◌, ap, subst, arith}
+use Rattle.std.specs.Prelude.{Option, Some, None, slice_get, slice_index_or}
 use Rattle.std.proofs.lemmas.Bool.{and_parts, or_left, or_right, ltb-true, lt-ltb, eqb-true, true≢false}
 use Rattle.sc_base.specs.declared.pos.NameId.{NameId}
 use Rattle.sc_tree.specs.declared.op.BinaryOp.{BinaryOp}
@@ -16,14 +16,10 @@ use Rattle.flow_types.specs.Kinds as flow
 use Rattle.run_laws.specs.Fits.{TypesMeet, operands_fit, in_one_type, gives_truth, converts_to, is_scalar, may_be_stub, unless_array, if_scalar, IsRead, IsThere, IsTypedThere, IsStubThere, StandsAt, ElementsFit, Indexed, MemberFits}
 use Rattle.expr_fits.specs.declared.around.Around.{Around}
 use Rattle.expr_fits.specs.Around.{layout_of, source_of}
-use Rattle.expr_fits.specs.Fits.{CanWalk, constants_fit}
+use Rattle.expr_fits.specs.Fits.{Walkable, constants_fit}
 use Rattle.expr_fits.specs.Here as here
 use Rattle.expr_fits.proofs.Below.{below}
 use Rattle.expr_fits.proofs.Same.{types_one}
-
--- no temp keeps anything
-abbrev kept : flow.Kinds
-kept = record { temps = []; slots = [] }
 
 -- Types.
 
@@ -161,106 +157,134 @@ module _ (p : Layout) where
       let types = same_and u t (is_integer t) parts.1 in
       (parts.0, types.0, types.1)
 
-  fits : (want : Want) (e : Exp) → here.fits_here p want e ≡ true → flow.FitsOver kept p want e
-  fits want (Comma a b t) h =
-      let x = and_parts (here.fits_here p Value a) (here.fits_here p want b && same_type (type_of b) t) h in
-      let y = and_parts (here.fits_here p want b) (same_type (type_of b) t) x.1 in
-      (fits Value a x.0, fits want b y.0, types_one (type_of b) t y.1)
-  fits want (Assign None w a b t) h =
-      let x = and_parts (here.fits_here p Place' a) (here.fits_here p (if_scalar t) b && here.assign_fits None w (type_of a) (type_of b) t) h in
-      let y = and_parts (here.fits_here p (if_scalar t) b) (here.assign_fits None w (type_of a) (type_of b) t) x.1 in
-      let z = same_and (type_of a) t (same_type (type_of b) t) y.1 in
-      (fits Place' a x.0, fits (if_scalar t) b y.0, z.0, types_one (type_of b) t z.1)
-  fits want (Assign (Some o) w a b t) h =
-      let u = type_of a in
-      let v = type_of b in
-      let x = and_parts (here.fits_here p Place' a) (here.fits_here p Value b && here.assign_fits (Some o) w u v t) h in
-      let y = and_parts (here.fits_here p Value b) (here.assign_fits (Some o) w u v t) x.1 in
-      let z = same_and u t (is_integer t && (is_integer w && (is_integer v && here.types_meet o w v w))) y.1 in
-      let i = and_parts (is_integer t) (is_integer w && (is_integer v && here.types_meet o w v w)) z.1 in
-      let j = and_parts (is_integer w) (is_integer v && here.types_meet o w v w) i.1 in
-      let k = and_parts (is_integer v) (here.types_meet o w v w) j.1 in
-      (fits Place' a x.0, fits Value b y.0, z.0, i.0, j.0, k.0, meets o w v w k.1)
-  fits want (Cond a b c t) h = absurd (true≢false (sym h))
-  fits want (Binary o a b t) h =
-      let u = type_of a in
-      let v = type_of b in
-      let x = and_parts (here.fits_here p Value a) (here.fits_here p Value b && (here.is_read want && here.binary_fits o u v t)) h in
-      let y = and_parts (here.fits_here p Value b) (here.is_read want && here.binary_fits o u v t) x.1 in
-      let z = reads_and want (here.binary_fits o u v t) y.1 in
-      let i = and_parts (is_integer t) (operands_fit o u v && here.types_meet o u v t) z.1 in
-      let j = and_parts (operands_fit o u v) (here.types_meet o u v t) i.1 in
-      (fits Value a x.0, fits Value b y.0, z.0, i.0, j.0, meets o u v t j.1)
-  fits want (Cast a t) h =
-      let x = and_parts (here.fits_here p (unless_array (type_of a)) a) (here.conversion_fits want (type_of a) t) h in
-      let y = reads_and want (converts_to (type_of a) t) x.1 in
-      (fits (unless_array (type_of a)) a x.0, y.0, y.1)
-  fits want (Unary sign.Address a t) h =
-      let x = and_parts (here.fits_here p Place' a) (here.unary_fits sign.Address want (type_of a) t) h in
-      let y = reads_and want (is_pointer t) x.1 in
-      (fits Place' a x.0, y.0, y.1)
-  fits want (Unary sign.Deref a t) h =
-      let x = and_parts (here.fits_here p Value a) (is_pointer (type_of a)) h in
-      (fits Value a x.0, x.1)
-  fits want (Unary sign.Not a t) h =
-      let x = and_parts (here.fits_here p Value a) (here.unary_fits sign.Not want (type_of a) t) h in
-      let y = reads_and want (is_scalar (type_of a) && is_integer t) x.1 in
-      let z = and_parts (is_scalar (type_of a)) (is_integer t) y.1 in
-      (fits Value a x.0, y.0, z.0, z.1)
-  fits want (Unary sign.Plus a t) h =
-      let x = and_parts (here.fits_here p Value a) (here.count_fits want (type_of a) t) h in
-      let y = counts want (type_of a) t x.1 in
-      (fits Value a x.0, y.0, y.1, y.2)
-  fits want (Unary sign.Minus a t) h =
-      let x = and_parts (here.fits_here p Value a) (here.count_fits want (type_of a) t) h in
-      let y = counts want (type_of a) t x.1 in
-      (fits Value a x.0, y.0, y.1, y.2)
-  fits want (Unary sign.Complement a t) h =
-      let x = and_parts (here.fits_here p Value a) (here.count_fits want (type_of a) t) h in
-      let y = counts want (type_of a) t x.1 in
-      (fits Value a x.0, y.0, y.1, y.2)
-  fits want (PreInc d a t) h =
-      let x = and_parts (here.fits_here p Place' a) (here.count_fits want (type_of a) t) h in
-      let y = counts want (type_of a) t x.1 in
-      (fits Place' a x.0, y.0, y.1, y.2)
-  fits want (PostInc d a t) h =
-      let x = and_parts (here.fits_here p Place' a) (here.count_fits want (type_of a) t) h in
-      let y = counts want (type_of a) t x.1 in
-      (fits Place' a x.0, y.0, y.1, y.2)
-  fits want (SizeofExpr a n t) h = reads_and want (is_integer t) h
-  fits want (SizeofType n t) h = reads_and want (is_integer t) h
-  fits want (Index a b t) h =
-      let u = type_of a in
-      let x = and_parts (here.fits_here p (unless_array u) a)
-      (here.fits_here p Value b && (is_integer (type_of b) && here.indexed_fits p (is_array u) u t)) h in
-      let y = and_parts (here.fits_here p Value b) (is_integer (type_of b) && here.indexed_fits p (is_array u) u t) x.1 in
-      let z = and_parts (is_integer (type_of b)) (here.indexed_fits p (is_array u) u t) y.1 in
-      (fits (unless_array u) a x.0, fits Value b y.0, z.0, indexed (is_array u) u t z.1)
-  fits want (Call x f es t) h = absurd (true≢false (sym h))
-  fits want (Field a n true t) h =
-      let u = type_of a in
-      let x = and_parts (here.fits_here p Value a) (here.members_behind_fit p u n t) h in
-      let y = and_parts (is_pointer u) (here.members_fit p (target_or_void u) n t) x.1 in
-      (fits Value a x.0, y.0, members (target_or_void u) n t y.1)
-  fits want (Field a n false t) h =
-      let x = and_parts (here.fits_here p Place' a) (here.members_fit p (type_of a) n t) h in
-      (fits Place' a x.0, members (type_of a) n t x.1)
-  fits want (Param n t) h = typed_there (origin.Param n) t h
-  fits want (Local n t) h = typed_there (origin.Local n) t h
-  fits want (Global n t) h = typed_there (origin.Global n) t h
-  fits want (Function n b t) h = stub_there (origin.Function n) t h
-  fits want (Number n t) h = reads_and want (is_integer t) h
-  fits want (Str x t) h = stub_there (origin.Literal x.token) t h
-  fits want (Convert a t) h =
-      let x = and_parts (here.fits_here p (unless_array (type_of a)) a) (here.conversion_fits want (type_of a) t) h in
-      let y = reads_and want (converts_to (type_of a) t) x.1 in
-      (fits (unless_array (type_of a)) a x.0, y.0, y.1)
-  fits want (Temp n t) h = absurd (true≢false (sym h))
-  fits want (TempPlace n t) h = absurd (true≢false (sym h))
+  -- what temps keep
+  value_kept : (x : Option flow.Kind) (t : Ty) → here.is_kept_as x Value t ≡ true → x ≡ Some (flow.ValueOf t)
+  value_kept None t h = absurd (true≢false (sym h))
+  value_kept (Some (flow.ValueOf u)) t h = ap (λ z. Some (flow.ValueOf z)) (types_one u t h)
+  value_kept (Some (flow.PlaceOf u)) t h = absurd (true≢false (sym h))
 
-pub can_walk : (a : Around) (want : Want) (e : Exp)
-    → is_plain e && (constants_fit (source_of a) e && here.fits_here (layout_of a) want e) ≡ true → CanWalk a want e
-can_walk a want e h =
-    let x = and_parts (is_plain e) (constants_fit (source_of a) e && here.fits_here (layout_of a) want e) h in
-    let y = and_parts (constants_fit (source_of a) e) (here.fits_here (layout_of a) want e) x.1 in
-    record { kept = kept; have = tt; fits = fits (layout_of a) want e y.1; plain = x.0; constants = y.0 }
+  place_kept : (x : Option flow.Kind) (t : Ty) → here.is_kept_as x Place' t ≡ true → x ≡ Some (flow.PlaceOf t)
+  place_kept None t h = absurd (true≢false (sym h))
+  place_kept (Some (flow.ValueOf u)) t h = absurd (true≢false (sym h))
+  place_kept (Some (flow.PlaceOf u)) t h = ap (λ z. Some (flow.PlaceOf z)) (types_one u t h)
+
+  module _ (k : flow.Kinds) where
+    pub fits : (want : Want) (e : Exp) → here.fits_over p k.temps want e ≡ true → flow.FitsOver k p want e
+    fits want (Comma a b t) h =
+        let x = and_parts (here.fits_over p k.temps Value a) (here.fits_over p k.temps want b && same_type (type_of b) t) h in
+        let y = and_parts (here.fits_over p k.temps want b) (same_type (type_of b) t) x.1 in
+        (fits Value a x.0, fits want b y.0, types_one (type_of b) t y.1)
+    fits want (Assign None w a b t) h =
+        let x = and_parts (here.fits_over p k.temps Place' a) (here.fits_over p k.temps (if_scalar t) b && here.assign_fits None w (type_of a) (type_of b) t) h in
+        let y = and_parts (here.fits_over p k.temps (if_scalar t) b) (here.assign_fits None w (type_of a) (type_of b) t) x.1 in
+        let z = same_and (type_of a) t (same_type (type_of b) t) y.1 in
+        (fits Place' a x.0, fits (if_scalar t) b y.0, z.0, types_one (type_of b) t z.1)
+    fits want (Assign (Some o) w a b t) h =
+        let u = type_of a in
+        let v = type_of b in
+        let x = and_parts (here.fits_over p k.temps Place' a) (here.fits_over p k.temps Value b && here.assign_fits (Some o) w u v t) h in
+        let y = and_parts (here.fits_over p k.temps Value b) (here.assign_fits (Some o) w u v t) x.1 in
+        let z = same_and u t (is_integer t && (is_integer w && (is_integer v && here.types_meet o w v w))) y.1 in
+        let i = and_parts (is_integer t) (is_integer w && (is_integer v && here.types_meet o w v w)) z.1 in
+        let j = and_parts (is_integer w) (is_integer v && here.types_meet o w v w) i.1 in
+        let l = and_parts (is_integer v) (here.types_meet o w v w) j.1 in
+        (fits Place' a x.0, fits Value b y.0, z.0, i.0, j.0, l.0, meets o w v w l.1)
+    fits want (Cond a b c t) h = absurd (true≢false (sym h))
+    fits want (Binary o a b t) h =
+        let u = type_of a in
+        let v = type_of b in
+        let x = and_parts (here.fits_over p k.temps Value a) (here.fits_over p k.temps Value b && (here.is_read want && here.binary_fits o u v t)) h in
+        let y = and_parts (here.fits_over p k.temps Value b) (here.is_read want && here.binary_fits o u v t) x.1 in
+        let z = reads_and want (here.binary_fits o u v t) y.1 in
+        let i = and_parts (is_integer t) (operands_fit o u v && here.types_meet o u v t) z.1 in
+        let j = and_parts (operands_fit o u v) (here.types_meet o u v t) i.1 in
+        (fits Value a x.0, fits Value b y.0, z.0, i.0, j.0, meets o u v t j.1)
+    fits want (Cast a t) h =
+        let x = and_parts (here.fits_over p k.temps (unless_array (type_of a)) a) (here.conversion_fits want (type_of a) t) h in
+        let y = reads_and want (converts_to (type_of a) t) x.1 in
+        (fits (unless_array (type_of a)) a x.0, y.0, y.1)
+    fits want (Unary sign.Address a t) h =
+        let x = and_parts (here.fits_over p k.temps Place' a) (here.unary_fits sign.Address want (type_of a) t) h in
+        let y = reads_and want (is_pointer t) x.1 in
+        (fits Place' a x.0, y.0, y.1)
+    fits want (Unary sign.Deref a t) h =
+        let x = and_parts (here.fits_over p k.temps Value a) (is_pointer (type_of a)) h in
+        (fits Value a x.0, x.1)
+    fits want (Unary sign.Not a t) h =
+        let x = and_parts (here.fits_over p k.temps Value a) (here.unary_fits sign.Not want (type_of a) t) h in
+        let y = reads_and want (is_scalar (type_of a) && is_integer t) x.1 in
+        let z = and_parts (is_scalar (type_of a)) (is_integer t) y.1 in
+        (fits Value a x.0, y.0, z.0, z.1)
+    fits want (Unary sign.Plus a t) h =
+        let x = and_parts (here.fits_over p k.temps Value a) (here.count_fits want (type_of a) t) h in
+        let y = counts want (type_of a) t x.1 in
+        (fits Value a x.0, y.0, y.1, y.2)
+    fits want (Unary sign.Minus a t) h =
+        let x = and_parts (here.fits_over p k.temps Value a) (here.count_fits want (type_of a) t) h in
+        let y = counts want (type_of a) t x.1 in
+        (fits Value a x.0, y.0, y.1, y.2)
+    fits want (Unary sign.Complement a t) h =
+        let x = and_parts (here.fits_over p k.temps Value a) (here.count_fits want (type_of a) t) h in
+        let y = counts want (type_of a) t x.1 in
+        (fits Value a x.0, y.0, y.1, y.2)
+    fits want (PreInc d a t) h =
+        let x = and_parts (here.fits_over p k.temps Place' a) (here.count_fits want (type_of a) t) h in
+        let y = counts want (type_of a) t x.1 in
+        (fits Place' a x.0, y.0, y.1, y.2)
+    fits want (PostInc d a t) h =
+        let x = and_parts (here.fits_over p k.temps Place' a) (here.count_fits want (type_of a) t) h in
+        let y = counts want (type_of a) t x.1 in
+        (fits Place' a x.0, y.0, y.1, y.2)
+    fits want (SizeofExpr a n t) h = reads_and want (is_integer t) h
+    fits want (SizeofType n t) h = reads_and want (is_integer t) h
+    fits want (Index a b t) h =
+        let u = type_of a in
+        let x = and_parts (here.fits_over p k.temps (unless_array u) a)
+        (here.fits_over p k.temps Value b && (is_integer (type_of b) && here.indexed_fits p (is_array u) u t)) h in
+        let y = and_parts (here.fits_over p k.temps Value b) (is_integer (type_of b) && here.indexed_fits p (is_array u) u t) x.1 in
+        let z = and_parts (is_integer (type_of b)) (here.indexed_fits p (is_array u) u t) y.1 in
+        (fits (unless_array u) a x.0, fits Value b y.0, z.0, indexed (is_array u) u t z.1)
+    fits want (Call x f es t) h = absurd (true≢false (sym h))
+    fits want (Field a n true t) h =
+        let u = type_of a in
+        let x = and_parts (here.fits_over p k.temps Value a) (here.members_behind_fit p u n t) h in
+        let y = and_parts (is_pointer u) (here.members_fit p (target_or_void u) n t) x.1 in
+        (fits Value a x.0, y.0, members (target_or_void u) n t y.1)
+    fits want (Field a n false t) h =
+        let x = and_parts (here.fits_over p k.temps Place' a) (here.members_fit p (type_of a) n t) h in
+        (fits Place' a x.0, members (type_of a) n t x.1)
+    fits want (Param n t) h = typed_there (origin.Param n) t h
+    fits want (Local n t) h = typed_there (origin.Local n) t h
+    fits want (Global n t) h = typed_there (origin.Global n) t h
+    fits want (Function n b t) h = stub_there (origin.Function n) t h
+    fits want (Number n t) h = reads_and want (is_integer t) h
+    fits want (Str x t) h = stub_there (origin.Literal x.token) t h
+    fits want (Convert a t) h =
+        let x = and_parts (here.fits_over p k.temps (unless_array (type_of a)) a) (here.conversion_fits want (type_of a) t) h in
+        let y = reads_and want (converts_to (type_of a) t) x.1 in
+        (fits (unless_array (type_of a)) a x.0, y.0, y.1)
+    fits want (Temp n t) h = let parts = reads_and want (here.keeps k.temps n Value t) h in (parts.0, value_kept (slice_get k.temps n) t parts.1)
+    fits want (TempPlace n t) h = place_kept (slice_get k.temps n) t h
+
+pub can_walk : (a : Around) (ks : List flow.Kind) (want : Want) (e : Exp)
+    → is_plain e && (constants_fit (source_of a) e && here.fits_over (layout_of a) ks want e) ≡ true → Walkable a ks want e
+can_walk a ks want e h =
+    let x = and_parts (is_plain e) (constants_fit (source_of a) e && here.fits_over (layout_of a) ks want e) h in
+    let y = and_parts (constants_fit (source_of a) e) (here.fits_over (layout_of a) ks want e) x.1 in
+    record {
+      fits = λ k same. fits (layout_of a) k want e (subst (λ z. here.fits_over (layout_of a) z want e ≡ true) (sym same) y.1);
+      plain = x.0;
+      constants = y.0;
+    }
+
+-- the same in the words of the code, which looks into p: x, y and z are what its three tests answer
+pub walks_by : (a : Around) (p : Layout) (ks : List flow.Kind) (want : Want) (e : Exp) (x y z : Bool) → p ≡ layout_of a → x ≡ is_plain e → x ≡ true
+    → y ≡ constants_fit (source_of a) e → y ≡ true → z ≡ here.fits_over p ks want e → z ≡ true → Walkable a ks want e
+walks_by a p ks want e x y z is plain plain_so constants constants_so fit fit_so =
+    record {
+      fits = λ k same.
+          fits (layout_of a) k want e
+          (subst (λ l. here.fits_over l k.temps want e ≡ true) is (subst (λ w. here.fits_over p w want e ≡ true) (sym same) (sym fit ∙ fit_so)));
+      plain = sym plain ∙ plain_so;
+      constants = sym constants ∙ constants_so;
+    }

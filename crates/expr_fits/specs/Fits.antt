@@ -1,9 +1,9 @@
 -- Which expressions of a graph have gates: they fit the layout over temps, without calls and branches.
-use Rattle.std.specs.Prelude.{◌≡◌, ℕ, ◌^◌, nat_lt, Bool, true, ◌&&◌}
+use Rattle.std.specs.Prelude.{◌≡◌, ℕ, ◌^◌, nat_lt, Bool, true, ◌&&◌, List}
 use Rattle.sc_world.specs.Tree.{Ty, int_bits, Exp, Comma, Assign, Cond, Binary, Cast, Unary, PreInc, PostInc, SizeofExpr, SizeofType, Index, Call, Field, Param, Local, Global, Function, Number, Str, Convert, Temp, TempPlace}
 use Rattle.sc_world.specs.Source.{Source}
 use Rattle.sc_world.specs.Eval.{Want}
-use Rattle.flow_graph.specs.Conditions.{is_plain}
+use Rattle.flow_graph.specs.Conditions as graph
 use Rattle.flow_types.specs.Kinds as flow
 use Rattle.expr_fits.specs.declared.around.Around.{Around}
 use Rattle.expr_fits.specs.Around.{layout_of, source_of, temps_of}
@@ -37,10 +37,17 @@ constants_fit s (Convert a t) = constants_fit s a
 constants_fit s (Temp n t) = true
 constants_fit s (TempPlace n t) = true
 
--- An expression of a node of a graph: it fits the layout over temps that have their kinds, and has no call and no branch.
+-- An expression of a node of a graph: it fits the layout, each temp that it names has the kind by which it fits, and it has
+-- no call and no branch.
 pub record CanWalk (a : Around) (want : Want) (e : Exp) : Type 0 where
   pub kept : flow.Kinds
-  pub have : HaveKinds (source_of a) kept.temps (temps_of a)
+  pub have : HaveKinds (source_of a) kept.temps (temps_of a) (graph.temps_of e)
   pub fits : flow.FitsOver kept (layout_of a) want e
-  pub plain : is_plain e ≡ true
+  pub plain : graph.is_plain e ≡ true
+  pub constants : constants_fit (source_of a) e ≡ true
+
+-- All of that but for what the temps have in the gates: it is so for temps that keep what a list says.
+pub record Walkable (a : Around) (kept : List flow.Kind) (want : Want) (e : Exp) : Type 0 where
+  pub fits : (k : flow.Kinds) → k.temps ≡ kept → flow.FitsOver k (layout_of a) want e
+  pub plain : graph.is_plain e ≡ true
   pub constants : constants_fit (source_of a) e ≡ true

@@ -1,5 +1,6 @@
--- Whether an expression that reads no temp fits a layout, as a test: construct by construct what `FitsOver` asks.
-use Rattle.std.specs.Prelude.{ℕ, zero, suc, nat_lt, Bool, true, false, not, ◌&&◌, ◌||◌, Option, Some, None, length}
+-- Whether an expression fits a layout, over temps that keep what a list says, as a test: construct by construct what
+-- `FitsOver` asks.
+use Rattle.std.specs.Prelude.{ℕ, zero, suc, nat_lt, Bool, true, false, not, ◌&&◌, ◌||◌, Option, Some, None, List, length, slice_get}
 use Rattle.sc_base.specs.declared.pos.NameId.{NameId}
 use Rattle.sc_tree.specs.declared.op.BinaryOp.{BinaryOp}
 use Rattle.sc_tree.specs.declared.op.UnaryOp.{UnaryOp}
@@ -10,6 +11,7 @@ use Rattle.sc_world.specs.declared.run.Origin.TheVariants as origin
 use Rattle.sc_world.specs.Tree.{Ty, is_integer, is_pointer, is_array, target_or_void, same_type, Exp, Comma, Assign, Cond, Binary, Cast, Unary, PreInc, PostInc, SizeofExpr, SizeofType, Index, Call, Field, Param, Local, Global, Function, Number, Str, Convert, Temp, TempPlace, type_of}
 use Rattle.sc_world.specs.Layout.{Layout, location, location_of, part, has_type, is_stub, same_origin}
 use Rattle.sc_world.specs.Eval.{Want, Value, Place'}
+use Rattle.flow_types.specs.Kinds as flow
 use Rattle.run_laws.specs.Fits.{operands_fit, in_one_type, gives_truth, converts_to, is_scalar, may_be_stub, unless_array, if_scalar}
 
 -- Types.
@@ -61,6 +63,19 @@ number_fits want t = is_read want && is_integer t
 abbrev pub object_wanted : (arrow : Bool) → Want
 object_wanted true = Value
 object_wanted false = Place'
+
+-- Temps.
+
+-- what is kept is what is wanted, of that type
+abbrev pub is_kept_as : Option flow.Kind → Want → Ty → Bool
+is_kept_as None want t = false
+is_kept_as (Some (flow.ValueOf u)) Value t = same_type u t
+is_kept_as (Some (flow.ValueOf u)) Place' t = false
+is_kept_as (Some (flow.PlaceOf u)) Value t = false
+is_kept_as (Some (flow.PlaceOf u)) Place' t = same_type u t
+
+abbrev pub keeps : List flow.Kind → ℕ → Want → Ty → Bool
+keeps ks n want t = is_kept_as (slice_get ks n) want t
 
 -- whether each number below that one passes
 abbrev pub each_below : (ℕ → Bool) → ℕ → Bool
@@ -124,30 +139,31 @@ module _ (p : Layout) where
 
   -- Expressions.
 
-  abbrev pub fits_here : Want → Exp → Bool
-  fits_here want (Comma a b t) = fits_here Value a && (fits_here want b && same_type (type_of b) t)
-  fits_here want (Assign o works a b t) =
-      fits_here Place' a && (fits_here (right_wanted o t) b && assign_fits o works (type_of a) (type_of b) t)
-  fits_here want (Cond a b c t) = false
-  fits_here want (Binary o a b t) =
-      fits_here Value a && (fits_here Value b && (is_read want && binary_fits o (type_of a) (type_of b) t))
-  fits_here want (Cast a t) = fits_here (unless_array (type_of a)) a && conversion_fits want (type_of a) t
-  fits_here want (Unary o a t) = fits_here (operand_wanted o) a && unary_fits o want (type_of a) t
-  fits_here want (PreInc d a t) = fits_here Place' a && count_fits want (type_of a) t
-  fits_here want (PostInc d a t) = fits_here Place' a && count_fits want (type_of a) t
-  fits_here want (SizeofExpr a n t) = number_fits want t
-  fits_here want (SizeofType n t) = number_fits want t
-  fits_here want (Index a b t) =
-      fits_here (unless_array (type_of a)) a
-      && (fits_here Value b && (is_integer (type_of b) && indexed_fits (is_array (type_of a)) (type_of a) t))
-  fits_here want (Call x f es t) = false
-  fits_here want (Field a n arrow t) = fits_here (object_wanted arrow) a && field_fits arrow (type_of a) n t
-  fits_here want (Param n t) = is_typed_there (origin.Param n) t
-  fits_here want (Local n t) = is_typed_there (origin.Local n) t
-  fits_here want (Global n t) = is_typed_there (origin.Global n) t
-  fits_here want (Function n b t) = is_stub_there (origin.Function n) t
-  fits_here want (Number n t) = number_fits want t
-  fits_here want (Str x t) = is_stub_there (origin.Literal x.token) t
-  fits_here want (Convert a t) = fits_here (unless_array (type_of a)) a && conversion_fits want (type_of a) t
-  fits_here want (Temp n t) = false
-  fits_here want (TempPlace n t) = false
+  module _ (ks : List flow.Kind) where
+    abbrev pub fits_over : Want → Exp → Bool
+    fits_over want (Comma a b t) = fits_over Value a && (fits_over want b && same_type (type_of b) t)
+    fits_over want (Assign o works a b t) =
+        fits_over Place' a && (fits_over (right_wanted o t) b && assign_fits o works (type_of a) (type_of b) t)
+    fits_over want (Cond a b c t) = false
+    fits_over want (Binary o a b t) =
+        fits_over Value a && (fits_over Value b && (is_read want && binary_fits o (type_of a) (type_of b) t))
+    fits_over want (Cast a t) = fits_over (unless_array (type_of a)) a && conversion_fits want (type_of a) t
+    fits_over want (Unary o a t) = fits_over (operand_wanted o) a && unary_fits o want (type_of a) t
+    fits_over want (PreInc d a t) = fits_over Place' a && count_fits want (type_of a) t
+    fits_over want (PostInc d a t) = fits_over Place' a && count_fits want (type_of a) t
+    fits_over want (SizeofExpr a n t) = number_fits want t
+    fits_over want (SizeofType n t) = number_fits want t
+    fits_over want (Index a b t) =
+        fits_over (unless_array (type_of a)) a
+        && (fits_over Value b && (is_integer (type_of b) && indexed_fits (is_array (type_of a)) (type_of a) t))
+    fits_over want (Call x f es t) = false
+    fits_over want (Field a n arrow t) = fits_over (object_wanted arrow) a && field_fits arrow (type_of a) n t
+    fits_over want (Param n t) = is_typed_there (origin.Param n) t
+    fits_over want (Local n t) = is_typed_there (origin.Local n) t
+    fits_over want (Global n t) = is_typed_there (origin.Global n) t
+    fits_over want (Function n b t) = is_stub_there (origin.Function n) t
+    fits_over want (Number n t) = number_fits want t
+    fits_over want (Str x t) = is_stub_there (origin.Literal x.token) t
+    fits_over want (Convert a t) = fits_over (unless_array (type_of a)) a && conversion_fits want (type_of a) t
+    fits_over want (Temp n t) = is_read want && keeps ks n Value t
+    fits_over want (TempPlace n t) = keeps ks n Place' t

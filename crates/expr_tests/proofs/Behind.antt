@@ -1,5 +1,5 @@
 -- From what was ready to what the next expression finds ready.
-use Rattle.std.proofs.Common.{◌≡◌, ℕ, ◌^◌, ◌<◌, ◌≤◌, List, [], length, subst, sym, arith}
+use Rattle.std.proofs.Common.{◌≡◌, ℕ, ◌^◌, ◌<◌, ◌≤◌, List, [], length, refl, subst, sym, arith}
 use Rattle.bit_net.specs.declared.nodes.Node.{Node}
 use Rattle.bit_net.specs.Runs.{Grown}
 use Rattle.gl_store.specs.declared.stores.Location.{Location}
@@ -10,6 +10,7 @@ use Rattle.sc_world.specs.Tree.{Exp}
 use Rattle.sc_world.specs.Eval.{Want}
 use Rattle.expr_fits.specs.declared.around.Around.{Around}
 use Rattle.expr_fits.specs.Around.{layout_of, source_of, temps_of}
+use Rattle.expr_fits.specs.Fits.{CanWalk, Walkable}
 use Rattle.expr_fits.specs.Temps.{temps_top}
 use Rattle.tr_walk.specs.declared.evaled.Evaled.{Evaled}
 use Rattle.tr_walk.specs.Evaled.{IsEvaled}
@@ -38,4 +39,15 @@ begin_first {a} {ns} few same none low made =
       store = made.below;
       live = low;
       temps = subst (λ xs. temps_top xs ≤ length ns) (sym none) (omega arith);
+    }
+
+-- an expression that passes the test over no temps
+pub walks_untold : (a : Around) (want : Want) (e : Exp) → Walkable a [] want e → CanWalk a want e
+walks_untold a want e h =
+    record {
+      kept = record { temps = []; slots = [] };
+      have = λ n named k is. absurd (cc);
+      fits = h.fits (record { temps = []; slots = [] }) refl;
+      plain = h.plain;
+      constants = h.constants;
     }

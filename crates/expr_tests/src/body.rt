@@ -90,7 +90,7 @@ fn parts(alloc: Global, body: &TStmt) -> Result<Option<Vec<Part<'_>>>, OutOfMemo
 }
 
 // The gates of an expression, in a run that goes on where the gate holds; none where it has none.
-#[tactic(auto, using(crate::proofs::Behind::begin_behind))]
+#[tactic(auto, using(crate::proofs::Behind::begin_behind, crate::proofs::Behind::walks_untold))]
 fn one_made(
     alloc: Global,
     around: &Around,
@@ -103,7 +103,7 @@ fn one_made(
     ensures grown { Grown net.old net.new }
     ensures ready { IfOk result (λ r. IfSome r (λ x. CanBegin around.now net.new stored.new.locations.items x.live.at)) }
 {
-    if !can_walk(around, part.want, part.e) {
+    if !can_walk(around, &[], part.want, part.e) {
         return Ok(None);
     }
     match part.want {

@@ -1,5 +1,5 @@
 -- The gates of a construct are made of those of its operands: what each arm of the walk promises.
-use Rattle.std.proofs.Common.{◌≡◌, ℕ, ◌≤◌, nat_eq, Bool, true, false, ◌||◌, if◌then◌else◌, Option, Some, None, List, length, slice_index_or, refl, sym, ◌∙◌, ap, subst, arith}
+use Rattle.std.proofs.Common.{◌≡◌, ℕ, ◌≤◌, nat_eq, Bool, true, false, ◌||◌, if◌then◌else◌, Option, Some, None, List, ◌++◌, length, slice_index_or, refl, sym, ◌∙◌, ap, subst, arith}
 use Rattle.std.proofs.lemmas.Bool.{true≢false}
 use Rattle.bit_net.specs.declared.nodes.Node.{Node}
 use Rattle.bit_net.specs.Runs.{Runs, Grown}
@@ -39,18 +39,19 @@ use Rattle.sc_world.specs.Tree.{Ty, is_integer, is_pointer, is_array, is_void, i
 use Rattle.sc_world.specs.Layout.{Layout}
 use Rattle.sc_world.specs.World.{Env, Run, ◌>>=◌, done, load, store, dereference, kind_of_type, number_of, pointer_to, is_true, unless}
 use Rattle.sc_world.specs.Eval.{Want, Value, Place', eval, wanted, needs_right, place_of, is_logical, operated, counted, combined, convert, first_element, assign_by, assign_value, assign_struct, element, truth_cell, member}
+use Rattle.flow_graph.specs.Conditions as graph
 use Rattle.flow_types.specs.Kinds as flow
 use Rattle.tr_expr.specs.Evals.{Operates, IsOfUnary, of_unary}
 use Rattle.tr_expr.specs.Names.{DoesName, DoesAddress}
 use Rattle.tr_expr.proofs.TypeKinds.{integer_kind, pointer_kind}
 use Rattle.expr_fits.specs.declared.around.Around.{Around}
 use Rattle.expr_fits.specs.Around.{layout_of, source_of, temps_of}
-use Rattle.tr_walk.specs.Leaves.{Converts, temp_at}
-use Rattle.expr_fits.specs.Temps.{AreKept, HasKindFor}
+use Rattle.tr_walk.specs.Leaves.{Converts}
+use Rattle.expr_fits.specs.Temps.{AreKept, HasKindFor, temp_at}
 use Rattle.expr_fits.specs.Fits.{CanWalk}
 use Rattle.tr_walk.specs.Walks.{IsReady, Walks, changes, takes_value}
-use Rattle.tr_walk.proofs.Can.{read_kind}
-use Rattle.tr_walk.proofs.Kept.{all_stay, ends_grow, kept_at, kind_at, temp_low}
+use Rattle.tr_walk.proofs.Kept.{ends_grow, kept_at, kind_at, left_kept, right_kept, temp_low}
+use Rattle.tr_walk.proofs.Types.{read_kind}
 
 -- Steps one after the other; behind the first one it is known that the run went on before, where it goes on.
 followed : {A B : Type 0} (v : ℕ → Bool) (l0 l1 l2 : List Location) (g0 g1 g2 : Ends) (m : Run A) (f : A → Run B) (Good : A → Type 0) (Fine : B → Type 0)
@@ -79,6 +80,19 @@ module _ (a : Around) where
   abbrev env : List Bool → List Cell → ℕ → Env
   env bits cells turn = env_of (source_of a) (layout_of a) bits cells turn
 
+  -- what was kept of the temps that a run reads
+  abbrev Have : (v : ℕ → Bool) → Bool → flow.Kinds → List Cell → (named : List ℕ) → Type 0
+  Have v b k cells named = AreKept v b (layout_of a) k.temps (temps_of a) cells named
+
+  left : (v : ℕ → Bool) (b : Bool) (k : flow.Kinds) (cells : List Cell) (x y : Exp) → Have v b k cells (graph.temps_of x ++ graph.temps_of y)
+      → Have v b k cells (graph.temps_of x)
+  left v b k cells x y h = left_kept v (layout_of a) k.temps (temps_of a) cells (graph.temps_of x) (graph.temps_of y) b h
+
+  right : (v : ℕ → Bool) (b0 b1 : Bool) (k : flow.Kinds) (cells : List Cell) (x y : Exp) → (b1 ≡ true → b0 ≡ true)
+      → Have v b0 k cells (graph.temps_of x ++ graph.temps_of y) → Have v b1 k cells (graph.temps_of y)
+  right v b0 b1 k cells x y narrow h =
+      right_kept v (layout_of a) k.temps (temps_of a) cells (graph.temps_of x) (graph.temps_of y) b0 b1 narrow h
+
   pub walks_comma : (n1 n2 : List Node) (want : Want) (x y : Exp) (t : Ty) (l0 l1 l2 : List Location) (g0 g1 g2 : Ends) (u r : Val) → Grown n1 n2
       → type_of y ≡ t → Walks a n1 Value x l0 l1 g0 g1 u → Walks a n2 want y l1 l2 g1 g2 r → Walks a n2 want (Comma x y t) l0 l2 g0 g2 r
   walks_comma n1 n2 want x y t l0 l1 l2 g0 g1 g2 u r grown is first second =
@@ -93,9 +107,9 @@ module _ (a : Around) where
             subst (λ z. Does v l0 g0 (eval (Comma x y t) want (env bits cells turn)) l2 g2 (GoodFor v g2 (layout_of a) want z r)) is
             (followed v l0 l1 l2 g0 g1 g2 (eval x Value (env bits cells turn)) (λ c. eval y want (env bits cells turn)) (GoodFor v g1 (layout_of a) Value (type_of x) u)
             (GoodFor v g2 (layout_of a) want (type_of y) r)
-            (first.does choice v (grown.runs choice v runs) k fits.0 bits cells turn kept)
+            (first.does choice v (grown.runs choice v runs) k fits.0 bits cells turn (left v (v g0.live.at) k cells x y kept))
             (λ c good narrow.
-            second.does choice v runs k fits.1 bits cells turn (all_stay v (v g0.live.at) (v g1.live.at) (layout_of a) k.temps (temps_of a) cells narrow kept)));
+            second.does choice v runs k fits.1 bits cells turn (right v (v g0.live.at) (v g1.live.at) k cells x y narrow kept)));
       }
 
   pub walks_assign : (n1 n2 n3 : List Node) (want : Want) (works : Ty) (x y : Exp) (t : Ty) (l0 l1 l2 l3 : List Location) (g0 g1 g2 : Ends) (q : Sets) (u r : Val)
@@ -113,7 +127,7 @@ module _ (a : Around) where
             let r2 = grown3.runs choice v runs in
             followed v l0 l1 l3 g0 g1 g2 (eval x Place' (env bits cells turn)) (λ c. assign_by None works t want (env bits cells turn) c (eval y))
             (GoodFor v g1 (layout_of a) Place' (type_of x) (Set q)) (GoodFor v g2 (layout_of a) want t r)
-            (first.does choice v (grown.runs choice v r2) k fits.0 bits cells turn kept)
+            (first.does choice v (grown.runs choice v r2) k fits.0 bits cells turn (left v (v g0.live.at) k cells x y kept))
             (λ c good narrow.
             subst (λ b. Does v l1 g1 (if b
             then (eval y Value (env bits cells turn) >>= λ d. assign_value (env bits cells turn) want t c d)
@@ -121,7 +135,7 @@ module _ (a : Around) where
             (followed v l1 l2 l3 g1 g2 g2 (eval y Value (env bits cells turn)) (λ d. assign_value (env bits cells turn) want t c d)
             (GoodFor v g2 (layout_of a) Value (type_of y) u) (GoodFor v g2 (layout_of a) want t r)
             (second.does choice v r2 k (subst (λ w. flow.FitsOver k (layout_of a) w y) (ap (λ b. if b then Value else Place') cell) fits.1) bits cells turn
-            (all_stay v (v g0.live.at) (v g1.live.at) (layout_of a) k.temps (temps_of a) cells narrow kept))
+            (right v (v g0.live.at) (v g1.live.at) k cells x y narrow kept))
             (λ d meets more.
             assigned.does choice v runs bits cells turn c d
             (place_stays v g1 g2 (layout_of a) t q c more (subst (λ z. GoodFor v g1 (layout_of a) Place' z (Set q) c) fits.2 good)) meets)));
@@ -142,7 +156,7 @@ module _ (a : Around) where
             let r2 = grown3.runs choice v runs in
             followed v l0 l1 l3 g0 g1 g2 (eval x Place' (env bits cells turn)) (λ c. assign_by None works t want (env bits cells turn) c (eval y))
             (GoodFor v g1 (layout_of a) Place' (type_of x) (Set q)) (GoodFor v g2 (layout_of a) want t r)
-            (first.does choice v (grown.runs choice v r2) k fits.0 bits cells turn kept)
+            (first.does choice v (grown.runs choice v r2) k fits.0 bits cells turn (left v (v g0.live.at) k cells x y kept))
             (λ c good narrow.
             subst (λ b. Does v l1 g1 (if b
             then (eval y Value (env bits cells turn) >>= λ d. assign_value (env bits cells turn) want t c d)
@@ -150,7 +164,7 @@ module _ (a : Around) where
             (followed v l1 l2 l3 g1 g2 g2 (eval y Place' (env bits cells turn)) (λ d. assign_struct (env bits cells turn) c d)
             (GoodFor v g2 (layout_of a) Place' (type_of y) (Set u)) (GoodFor v g2 (layout_of a) want t r)
             (second.does choice v r2 k (subst (λ w. flow.FitsOver k (layout_of a) w y) (ap (λ b. if b then Value else Place') cell) fits.1) bits cells turn
-            (all_stay v (v g0.live.at) (v g1.live.at) (layout_of a) k.temps (temps_of a) cells narrow kept))
+            (right v (v g0.live.at) (v g1.live.at) k cells x y narrow kept))
             (λ d meets more.
             either v l2 l3 g2 (assign_struct (env bits cells turn) c d) want
             (copied.does choice v runs bits cells turn c d
@@ -197,7 +211,7 @@ module _ (a : Around) where
             let r2 = grown3.runs choice v r3 in
             followed v l0 l1 l3 g0 g1 g3 (eval x Place' (env bits cells turn)) (λ c. assign_by (Some o) works t want (env bits cells turn) c (eval y))
             (GoodFor v g1 (layout_of a) Place' (type_of x) (Set q)) (GoodFor v g3 (layout_of a) want t r)
-            (first.does choice v (grown2.runs choice v r2) k fits.0 bits cells turn kept)
+            (first.does choice v (grown2.runs choice v r2) k fits.0 bits cells turn (left v (v g0.live.at) k cells x y kept))
             (λ c good narrow.
             let place : GoodFor v g1 (layout_of a) Place' t (Set q) c = subst (λ z. GoodFor v g1 (layout_of a) Place' z (Set q) c) fits.2 good in
             followed v l1 l1 l3 g1 g1 g3 (load (place_of c))
@@ -207,7 +221,7 @@ module _ (a : Around) where
             followed v l1 l2 l3 g1 g2 g3 (eval y Value (env bits cells turn))
             (λ d. combined (env bits cells turn) o works t b d >>= λ e. assign_value (env bits cells turn) want t c e)
             (Meets v u) (GoodFor v g3 (layout_of a) want t r)
-            (second.does choice v r3 k fits.1 bits cells turn (all_stay v (v g0.live.at) (v g1.live.at) (layout_of a) k.temps (temps_of a) cells narrow kept))
+            (second.does choice v r3 k fits.1 bits cells turn (right v (v g0.live.at) (v g1.live.at) k cells x y narrow kept))
             (λ d meets more.
             followed v l2 l2 l3 g2 g3 g3 (combined (env bits cells turn) o works t b d) (λ e. assign_value (env bits cells turn) want t c e) (Meets v sum)
             (GoodFor v g3 (layout_of a) want t r) (made.does choice v r4 l2 (layout_of a) bits cells turn b d was meets)
@@ -236,7 +250,7 @@ module _ (a : Around) where
             then (eval y Value (env bits cells turn) >>= λ d. done (truth_cell (env bits cells turn) t (is_true d)))
             else done (truth_cell (env bits cells turn) t (is_true c)))
             else (eval y Value (env bits cells turn) >>= λ d. operated (env bits cells turn) o (type_of x) t c d)) (Meets v u) (Meets v r)
-            (first.does choice v (grown.runs choice v r2) k fits.0 bits cells turn kept)
+            (first.does choice v (grown.runs choice v r2) k fits.0 bits cells turn (left v (v g0.live.at) k cells x y kept))
             (λ c was narrow.
             subst (λ b. Does v l1 g1 (if b
             then (if needs_right o (is_true c)
@@ -244,7 +258,7 @@ module _ (a : Around) where
             else done (truth_cell (env bits cells turn) t (is_true c)))
             else (eval y Value (env bits cells turn) >>= λ d. operated (env bits cells turn) o (type_of x) t c d)) l2 g3 (Meets v r)) (sym plain)
             (followed v l1 l2 l2 g1 g2 g3 (eval y Value (env bits cells turn)) (λ d. operated (env bits cells turn) o (type_of x) t c d) (Meets v w) (Meets v r)
-            (second.does choice v r2 k fits.1 bits cells turn (all_stay v (v g0.live.at) (v g1.live.at) (layout_of a) k.temps (temps_of a) cells narrow kept))
+            (second.does choice v r2 k fits.1 bits cells turn (right v (v g0.live.at) (v g1.live.at) k cells x y narrow kept))
             (λ d meets more. made.does choice v runs l2 (layout_of a) bits cells turn c d was meets))));
       }
 
@@ -407,7 +421,7 @@ module _ (a : Around) where
       → DoesFind (source_of a) (layout_of a) n2 l1 Value t q.pairs.items old → Counts (source_of a) n3 d t old g1 g2 new → DoesStore n4 g2 q.pairs.items new l1 l2
       → ((v : ℕ → Bool) (b e : Cell) → Meets v old b → Meets v new e → Meets v r (pick b e))
       → (choice v : ℕ → Bool) → Runs n4 choice v → (k : flow.Kinds) → flow.FitsOver k (layout_of a) Place' x
-      → (bits : List Bool) (cells : List Cell) (turn : ℕ) → AreKept v (v g0.live.at) (layout_of a) k.temps (temps_of a) cells
+      → (bits : List Bool) (cells : List Cell) (turn : ℕ) → Have v (v g0.live.at) k cells (graph.temps_of x)
       → Does v l0 g0 (eval x Place' (env bits cells turn) >>= λ c. load (place_of c) >>= λ b. counted (env bits cells turn) d t b >>= λ e. store (place_of c) e
       >>= λ w. done (pick b e)) l2 g2 (Meets v r)
   counting n1 n2 n3 n4 d x t l0 l1 l2 g0 g1 g2 q old new r pick grown2 grown3 grown4 integer is first found made stored picked choice v runs k fits bits cells turn kept =
@@ -488,11 +502,11 @@ module _ (a : Around) where
             (λ c. eval y Value (env bits cells turn) >>= λ d. element (env bits cells turn) (place_of c) (number_of d) >>= λ at. wanted want t at)
             (GoodFor v g1 (layout_of a) Place' (type_of x) (Set q)) (GoodFor v g3 (layout_of a) want t r)
             (first.does choice v (grown.runs choice v r2) k (subst (λ z. flow.FitsOver k (layout_of a) z x) (ap (λ b. if b then Place' else Value) array) fits.0)
-            bits cells turn kept)
+            bits cells turn (left v (v g0.live.at) k cells x y kept))
             (λ c good narrow.
             followed v l1 l2 l2 g1 g2 g3 (eval y Value (env bits cells turn))
             (λ d. element (env bits cells turn) (place_of c) (number_of d) >>= λ at. wanted want t at) (Meets v (Word w)) (GoodFor v g3 (layout_of a) want t r)
-            (second.does choice v r2 k fits.1 bits cells turn (all_stay v (v g0.live.at) (v g1.live.at) (layout_of a) k.temps (temps_of a) cells narrow kept))
+            (second.does choice v r2 k fits.1 bits cells turn (right v (v g0.live.at) (v g1.live.at) k cells x y narrow kept))
             (λ d meets more.
             made.does choice v runs (type_of x) (subst (λ b. Indexed (layout_of a) b (type_of x) t) array fits.3) bits cells turn c d
             (place_stays v g1 g2 (layout_of a) (type_of x) q c more good) meets)));
@@ -520,12 +534,12 @@ module _ (a : Around) where
             (followed v l0 l1 l2 g0 g1 g3 (eval x Value (env bits cells turn))
             (λ c. eval y Value (env bits cells turn) >>= λ d. pointer_index (env bits cells turn) want t c d) (Meets v (Set q)) (GoodFor v g3 (layout_of a) want t r)
             (first.does choice v (grown.runs choice v r2) k (subst (λ z. flow.FitsOver k (layout_of a) z x) (ap (λ b. if b then Place' else Value) array) fits.0)
-            bits cells turn kept)
+            bits cells turn (left v (v g0.live.at) k cells x y kept))
             (λ c points narrow.
             let h = cell_points v q c points in
             followed v l1 l2 l2 g1 g2 g3 (eval y Value (env bits cells turn)) (λ d. pointer_index (env bits cells turn) want t c d) (Meets v (Word w))
             (GoodFor v g3 (layout_of a) want t r)
-            (second.does choice v r2 k fits.1 bits cells turn (all_stay v (v g0.live.at) (v g1.live.at) (layout_of a) k.temps (temps_of a) cells narrow kept))
+            (second.does choice v r2 k fits.1 bits cells turn (right v (v g0.live.at) (v g1.live.at) k cells x y narrow kept))
             (λ d meets more.
             subst (λ e. Does v l2 g2 (pointer_index (env bits cells turn) want t e d) l2 g3 (GoodFor v g3 (layout_of a) want t r)) (sym h.1)
             (made.does choice v runs bits cells turn h.0 d h.2 meets))));
@@ -573,7 +587,7 @@ module _ (a : Around) where
   leaf : (n0 ns : List Node) (want : Want) (e : Exp) (l : List Location) (g : Ends) (r : Val) → Grown n0 ns → IsReady a n0 l g → val_top r ≤ length ns
       → HasKindFor (source_of a) want (type_of e) r
       → ((choice v : ℕ → Bool) → Runs ns choice v → (k : flow.Kinds) → flow.FitsOver k (layout_of a) want e → (bits : List Bool) (cells : List Cell) (turn : ℕ)
-      → AreKept v (v g.live.at) (layout_of a) k.temps (temps_of a) cells
+      → Have v (v g.live.at) k cells (graph.temps_of e)
       → Does v l g (eval e want (env bits cells turn)) l g (GoodFor v g (layout_of a) want (type_of e) r))
       → Walks a ns want e l l g g r
   leaf n0 ns want e l g r grown ready below kind does =

@@ -14,6 +14,7 @@ use Rattle.sc_world.specs.Tree.{Ty, Exp, type_of}
 use Rattle.sc_world.specs.Layout.{Layout}
 use Rattle.sc_world.specs.World.{World}
 use Rattle.sc_world.specs.Eval.{Want, Value, Place'}
+use Rattle.flow_graph.specs.Conditions as graph
 use Rattle.flow_types.specs.Kinds as flow
 use Rattle.expr_fits.specs.declared.around.Around.{Around}
 use Rattle.expr_fits.specs.Around.{layout_of, temps_of}
@@ -90,6 +91,6 @@ is_evaled a n1 n2 want e begins l0 l1 g0 g1 x grown begun h =
           (begins_off v choice n1 begins l0 g0 w (grown.runs choice v runs) begun met off));
     }
   where
-    kept_from : (choice v : ℕ → Bool) (k : flow.Kinds) (cells : List Cell) → AreKept v (v begins) (layout_of a) k.temps (temps_of a) cells
-        → AreKept v (v g0.live.at) (layout_of a) k.temps (temps_of a) cells
-    kept_from choice v k cells kept = subst (λ b. AreKept v b (layout_of a) k.temps (temps_of a) cells) (ap v (sym begun.live)) kept
+    kept_from : (choice v : ℕ → Bool) (k : flow.Kinds) (cells : List Cell) → AreKept v (v begins) (layout_of a) k.temps (temps_of a) cells (graph.temps_of e)
+        → AreKept v (v g0.live.at) (layout_of a) k.temps (temps_of a) cells (graph.temps_of e)
+    kept_from choice v k cells kept = subst (λ b. AreKept v b (layout_of a) k.temps (temps_of a) cells (graph.temps_of e)) (ap v (sym begun.live)) kept

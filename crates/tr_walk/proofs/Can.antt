@@ -1,33 +1,21 @@
--- What parts of an expression that can be walked are, and what the gates of its constructs ask of types.
-use Rattle.std.proofs.Common.{◌≡◌, Bool, true, false, not, ◌&&◌, ◌||◌, if◌then◌else◌, Some, None, refl, sym, ◌∙◌, ap, subst}
+-- Which operands of an expression can be walked, where the expression can be.
+use Rattle.std.proofs.Common.{◌≡◌, Bool, true, false, not, ◌&&◌, ◌++◌, refl, sym, ◌∙◌, subst}
 use Rattle.std.proofs.lemmas.Bool.{true≢false}
-use Rattle.gl_store.specs.declared.values.Val.{Val}
-use Rattle.gl_store.specs.Meets.{val_kind}
-use Rattle.run_store.specs.Concrete.{Pointers}
-use Rattle.sc_base.specs.declared.pos.NameId.{NameId}
-use Rattle.sc_tree.specs.declared.op.AssignOp.{AssignOp}
-use Rattle.sc_tree.specs.declared.op.AssignOp.TheVariants as assign
 use Rattle.sc_tree.specs.declared.op.BinaryOp.{BinaryOp}
-use Rattle.sc_tree.specs.declared.op.BinaryOp.TheVariants as op
-use Rattle.sc_tree.specs.declared.op.UnaryOp.{UnaryOp}
 use Rattle.sc_tree.specs.declared.op.UnaryOp.TheVariants as sign
-use Rattle.sc_tree.specs.declared.op.Step.{Step}
-use Rattle.sc_world.specs.Tree.{Ty, Void, Bool', Int, Ptr, is_integer, is_pointer, is_array, is_void, is_bool, int_bits, Exp, Comma, Assign, Binary, Cast, Unary, Index, Field, Convert, type_of}
-use Rattle.sc_world.specs.Source.{Source}
-use Rattle.sc_world.specs.View.{operator}
-use Rattle.sc_world.specs.World.{kind_of_type}
+use Rattle.sc_world.specs.Tree.{Ty, Void, is_integer, is_pointer, is_array, target_or_void, Exp, Comma, Assign, Binary, Cast, Unary, PreInc, PostInc, Index, Field, Convert, type_of}
 use Rattle.sc_world.specs.Eval.{Want, Value, Place', is_logical}
-use Rattle.run_laws.specs.Fits.{is_scalar, if_scalar, unless_array, IsRead, operands_fit, compares_pointers, in_one_type, gives_truth, Indexed}
+use Rattle.run_laws.specs.Fits.{is_scalar, if_scalar, unless_array, operands_fit, TypesMeet, converts_to, Indexed, MemberFits}
+use Rattle.flow_graph.specs.Conditions as graph
 use Rattle.flow_graph.specs.Conditions.{is_plain}
 use Rattle.flow_types.specs.Kinds as flow
-use Rattle.gate_values.specs.Operators.{is_shift, is_test}
-use Rattle.gate_changes.specs.Changes.{CombineFits}
-use Rattle.tr_expr.specs.Plain.{AreAlike, Integers, PointersBoth, BinaryFits, ConvertFits, SignFits, UnaryFits}
 use Rattle.expr_fits.specs.declared.around.Around.{Around}
-use Rattle.expr_fits.specs.Around.{layout_of, source_of}
-use Rattle.expr_fits.specs.Temps.{HasKindFor}
+use Rattle.expr_fits.specs.declared.operands.Arity.TheVariants as arity
+use Rattle.expr_fits.specs.Around.{layout_of, source_of, temps_of}
+use Rattle.expr_fits.specs.Temps.{HaveKinds}
 use Rattle.expr_fits.specs.Fits.{CanWalk, constants_fit}
-use Rattle.tr_walk.specs.Walks.{changes, gives_pointer, takes_value}
+use Rattle.expr_fits.specs.Operands.{Applies, arity_of, has_operands, first_operand, second_operand, first_wanted, second_wanted, with_operands}
+use Rattle.tr_walk.proofs.Kept.{left_kinds, right_kinds}
 
 -- Both of two tests hold.
 
@@ -43,331 +31,103 @@ not_holds : (a : Bool) → not a ≡ true → a ≡ false
 not_holds true e = sym e
 not_holds false e = refl
 
--- Parts of an expression.
+module _ (a : Around) where
+  -- an operand that is the only one, and the first and the second one of two
+  pub only : (w : Want) (x : Exp) (k : flow.Kinds) → HaveKinds (source_of a) k.temps (temps_of a) (graph.temps_of x) → flow.FitsOver k (layout_of a) w x
+      → is_plain x ≡ true → constants_fit (source_of a) x ≡ true → CanWalk a w x
+  only w x k have fits plain constants = record { kept = k; have = have; fits = fits; plain = plain; constants = constants }
+
+  pub left : (w : Want) (x y : Exp) (k : flow.Kinds) → HaveKinds (source_of a) k.temps (temps_of a) (graph.temps_of x ++ graph.temps_of y)
+      → flow.FitsOver k (layout_of a) w x → is_plain x && is_plain y ≡ true → constants_fit (source_of a) x && constants_fit (source_of a) y ≡ true → CanWalk a w x
+  left w x y k have fits plain constants =
+      only w x k (left_kinds (source_of a) k.temps (temps_of a) (graph.temps_of x) (graph.temps_of y) have) fits
+      (left_holds (is_plain x) (is_plain y) plain) (left_holds (constants_fit (source_of a) x) (constants_fit (source_of a) y) constants)
+
+  pub right : (w : Want) (x y : Exp) (k : flow.Kinds) → HaveKinds (source_of a) k.temps (temps_of a) (graph.temps_of x ++ graph.temps_of y)
+      → flow.FitsOver k (layout_of a) w y → is_plain x && is_plain y ≡ true → constants_fit (source_of a) x && constants_fit (source_of a) y ≡ true → CanWalk a w y
+  right w x y k have fits plain constants =
+      only w y k (right_kinds (source_of a) k.temps (temps_of a) (graph.temps_of x) (graph.temps_of y) have) fits
+      (right_holds (is_plain x) (is_plain y) plain) (right_holds (constants_fit (source_of a) x) (constants_fit (source_of a) y) constants)
 
 module _ (a : Around) (want : Want) where
+  -- Commas.
+
   pub comma_left : (x y : Exp) (t : Ty) → CanWalk a want (Comma x y t) → CanWalk a Value x
-  comma_left x y t can =
-      record {
-        kept = can.kept;
-        have = can.have;
-        fits = can.fits.0;
-        plain = left_holds (is_plain x) (is_plain y) can.plain;
-        constants = left_holds (constants_fit (source_of a) x) (constants_fit (source_of a) y) can.constants;
-      }
+  comma_left x y t can = left a Value x y can.kept can.have can.fits.0 can.plain can.constants
 
   pub comma_right : (x y : Exp) (t : Ty) → CanWalk a want (Comma x y t) → CanWalk a want y
-  comma_right x y t can =
-      record {
-        kept = can.kept;
-        have = can.have;
-        fits = can.fits.1;
-        plain = right_holds (is_plain x) (is_plain y) can.plain;
-        constants = right_holds (constants_fit (source_of a) x) (constants_fit (source_of a) y) can.constants;
-      }
+  comma_right x y t can = right a want x y can.kept can.have can.fits.1 can.plain can.constants
 
   pub comma_type : (x y : Exp) (t : Ty) → CanWalk a want (Comma x y t) → type_of y ≡ t
   comma_type x y t can = can.fits.2
 
-  pub assign_left : (works : Ty) (x y : Exp) (t : Ty) → CanWalk a want (Assign None works x y t) → CanWalk a Place' x
-  assign_left works x y t can =
-      record {
-        kept = can.kept;
-        have = can.have;
-        fits = can.fits.0;
-        plain = left_holds (is_plain x) (is_plain y) can.plain;
-        constants = left_holds (constants_fit (source_of a) x) (constants_fit (source_of a) y) can.constants;
-      }
+  -- Operands of operators, over any others of their types.
 
-  -- the right side gives its value where it has a cell, and else its place
-  pub assign_right : (w : Want) (works : Ty) (x y : Exp) (t : Ty) → if_scalar t ≡ w → CanWalk a want (Assign None works x y t) → CanWalk a w y
-  assign_right w works x y t is can =
-      record {
-        kept = can.kept;
-        have = can.have;
-        fits = subst (λ z. flow.FitsOver can.kept (layout_of a) z y) is can.fits.1;
-        plain = right_holds (is_plain x) (is_plain y) can.plain;
-        constants = right_holds (constants_fit (source_of a) x) (constants_fit (source_of a) y) can.constants;
-      }
-
-  pub combined_left : (o : BinaryOp) (works : Ty) (x y : Exp) (t : Ty) → CanWalk a want (Assign (Some o) works x y t) → CanWalk a Place' x
-  combined_left o works x y t can =
-      record {
-        kept = can.kept;
-        have = can.have;
-        fits = can.fits.0;
-        plain = left_holds (is_plain x) (is_plain y) can.plain;
-        constants = left_holds (constants_fit (source_of a) x) (constants_fit (source_of a) y) can.constants;
-      }
-
-  pub combined_right : (o : BinaryOp) (works : Ty) (x y : Exp) (t : Ty) → CanWalk a want (Assign (Some o) works x y t) → CanWalk a Value y
-  combined_right o works x y t can =
-      record {
-        kept = can.kept;
-        have = can.have;
-        fits = can.fits.1;
-        plain = right_holds (is_plain x) (is_plain y) can.plain;
-        constants = right_holds (constants_fit (source_of a) x) (constants_fit (source_of a) y) can.constants;
-      }
-
-  not_logical : (o : BinaryOp) (x y : Exp) → is_plain (Binary o x y Void) ≡ true → is_logical o ≡ false
+  pub not_logical : (o : BinaryOp) (x y : Exp) → is_plain (Binary o x y Void) ≡ true → is_logical o ≡ false
   not_logical o x y plain = not_holds (is_logical o) (left_holds (not (is_logical o)) (is_plain x && is_plain y) plain)
 
   both_plain : (o : BinaryOp) (x y : Exp) → is_plain (Binary o x y Void) ≡ true → is_plain x && is_plain y ≡ true
   both_plain o x y plain = right_holds (not (is_logical o)) (is_plain x && is_plain y) plain
 
-  pub binary_left : (o : BinaryOp) (x y : Exp) (t : Ty) → CanWalk a want (Binary o x y t) → CanWalk a Value x
-  binary_left o x y t can =
-      record {
-        kept = can.kept;
-        have = can.have;
-        fits = can.fits.0;
-        plain = left_holds (is_plain x) (is_plain y) (both_plain o x y can.plain);
-        constants = left_holds (constants_fit (source_of a) x) (constants_fit (source_of a) y) can.constants;
-      }
-
-  pub binary_right : (o : BinaryOp) (x y : Exp) (t : Ty) → CanWalk a want (Binary o x y t) → CanWalk a Value y
-  binary_right o x y t can =
-      record {
-        kept = can.kept;
-        have = can.have;
-        fits = can.fits.1;
-        plain = right_holds (is_plain x) (is_plain y) (both_plain o x y can.plain);
-        constants = right_holds (constants_fit (source_of a) x) (constants_fit (source_of a) y) can.constants;
-      }
-
-  -- the operand of a conversion gives the place of an array, and a value else
-  pub convert_operand : (w : Want) (x : Exp) (t : Ty) → unless_array (type_of x) ≡ w → CanWalk a want (Convert x t) → CanWalk a w x
-  convert_operand w x t is can =
-      record {
-        kept = can.kept;
-        have = can.have;
-        fits = subst (λ z. flow.FitsOver can.kept (layout_of a) z x) is can.fits.0;
-        plain = can.plain;
-        constants = can.constants;
-      }
-
   pub cast_is_convert : (x : Exp) (t : Ty) → CanWalk a want (Cast x t) → CanWalk a want (Convert x t)
   cast_is_convert x t can = record { kept = can.kept; have = can.have; fits = can.fits; plain = can.plain; constants = can.constants }
 
-  pub address_operand : (x : Exp) (t : Ty) → CanWalk a want (Unary sign.Address x t) → CanWalk a Place' x
-  address_operand x t can =
-      record { kept = can.kept; have = can.have; fits = can.fits.0; plain = can.plain; constants = can.constants }
+  -- an array is wanted as a place
+  by_array : (k : flow.Kinds) (x u : Exp) → type_of x ≡ type_of u → flow.FitsOver k (layout_of a) (unless_array (type_of x)) x
+      → flow.FitsOver k (layout_of a) (unless_array (type_of u)) x
+  by_array k x u is fits = subst (λ t. flow.FitsOver k (layout_of a) (unless_array t) x) is fits
 
-  pub deref_operand : (x : Exp) (t : Ty) → CanWalk a want (Unary sign.Deref x t) → CanWalk a Value x
-  deref_operand x t can =
-      record { kept = can.kept; have = can.have; fits = can.fits.0; plain = can.plain; constants = can.constants }
+  pub first : (e x y : Exp) → has_operands (arity_of e) ≡ true → type_of x ≡ type_of (first_operand e) → CanWalk a want (with_operands e x y)
+      → CanWalk a (first_wanted e) x
+  first (Assign o w u v t) x y some is can = left a Place' x y can.kept can.have can.fits.0 can.plain can.constants
+  first (Binary o u v t) x y some is can = left a Value x y can.kept can.have can.fits.0 (both_plain o x y can.plain) can.constants
+  first (Index u v t) x y some is can =
+      left a (unless_array (type_of u)) x y can.kept can.have (by_array can.kept x u is can.fits.0) can.plain can.constants
+  first (Cast u t) x y some is can = only a (unless_array (type_of u)) x can.kept can.have (by_array can.kept x u is can.fits.0) can.plain can.constants
+  first (Convert u t) x y some is can = only a (unless_array (type_of u)) x can.kept can.have (by_array can.kept x u is can.fits.0) can.plain can.constants
+  first (Unary sign.Address u t) x y some is can = only a Place' x can.kept can.have can.fits.0 can.plain can.constants
+  first (Unary sign.Deref u t) x y some is can = only a Value x can.kept can.have can.fits.0 can.plain can.constants
+  first (Unary sign.Not u t) x y some is can = only a Value x can.kept can.have can.fits.0 can.plain can.constants
+  first (Unary sign.Plus u t) x y some is can = only a Value x can.kept can.have can.fits.0 can.plain can.constants
+  first (Unary sign.Minus u t) x y some is can = only a Value x can.kept can.have can.fits.0 can.plain can.constants
+  first (Unary sign.Complement u t) x y some is can = only a Value x can.kept can.have can.fits.0 can.plain can.constants
+  first (PreInc d u t) x y some is can = only a Place' x can.kept can.have can.fits.0 can.plain can.constants
+  first (PostInc d u t) x y some is can = only a Place' x can.kept can.have can.fits.0 can.plain can.constants
+  first (Field u n true t) x y some is can = only a Value x can.kept can.have can.fits.0 can.plain can.constants
+  first (Field u n false t) x y some is can = only a Place' x can.kept can.have can.fits.0 can.plain can.constants
+  first _ x y some is can = absurd (true≢false (sym some))
 
-  pub not_operand : (x : Exp) (t : Ty) → CanWalk a want (Unary sign.Not x t) → CanWalk a Value x
-  not_operand x t can =
-      record { kept = can.kept; have = can.have; fits = can.fits.0; plain = can.plain; constants = can.constants }
+  pub second : (e x y : Exp) → arity_of e ≡ arity.Binary → CanWalk a want (with_operands e x y) → CanWalk a (second_wanted e) y
+  second (Assign o w u v t) x y two can = right a (if_scalar t) x y can.kept can.have can.fits.1 can.plain can.constants
+  second (Binary o u v t) x y two can = right a Value x y can.kept can.have can.fits.1 (both_plain o x y can.plain) can.constants
+  second (Index u v t) x y two can = right a Value x y can.kept can.have can.fits.1 can.plain can.constants
+  second _ x y two can = absurd (cc)
 
-  pub plus_operand : (x : Exp) (t : Ty) → CanWalk a want (Unary sign.Plus x t) → CanWalk a Value x
-  plus_operand x t can =
-      record { kept = can.kept; have = can.have; fits = can.fits.0; plain = can.plain; constants = can.constants }
+  -- What the operator asks of the types.
 
-  pub minus_operand : (x : Exp) (t : Ty) → CanWalk a want (Unary sign.Minus x t) → CanWalk a Value x
-  minus_operand x t can =
-      record { kept = can.kept; have = can.have; fits = can.fits.0; plain = can.plain; constants = can.constants }
-
-  pub complement_operand : (x : Exp) (t : Ty) → CanWalk a want (Unary sign.Complement x t) → CanWalk a Value x
-  complement_operand x t can =
-      record { kept = can.kept; have = can.have; fits = can.fits.0; plain = can.plain; constants = can.constants }
-
-  pub changes_operand : (new : Bool) (d : Step) (x : Exp) (t : Ty) → CanWalk a want (changes new d x t) → CanWalk a Place' x
-  changes_operand true d x t can =
-      record { kept = can.kept; have = can.have; fits = can.fits.0; plain = can.plain; constants = can.constants }
-  changes_operand false d x t can =
-      record { kept = can.kept; have = can.have; fits = can.fits.0; plain = can.plain; constants = can.constants }
-
-  pub changes_type : (new : Bool) (d : Step) (x : Exp) (t : Ty) → CanWalk a want (changes new d x t) → type_of x ≡ t
-  changes_type true d x t can = can.fits.2
-  changes_type false d x t can = can.fits.2
-
-  pub changes_integer : (new : Bool) (d : Step) (x : Exp) (t : Ty) → CanWalk a want (changes new d x t) → is_integer t ≡ true
-  changes_integer true d x t can = can.fits.3
-  changes_integer false d x t can = can.fits.3
-
-  pub index_left : (w : Want) (x y : Exp) (t : Ty) → unless_array (type_of x) ≡ w → CanWalk a want (Index x y t) → CanWalk a w x
-  index_left w x y t is can =
-      record {
-        kept = can.kept;
-        have = can.have;
-        fits = subst (λ z. flow.FitsOver can.kept (layout_of a) z x) is can.fits.0;
-        plain = left_holds (is_plain x) (is_plain y) can.plain;
-        constants = left_holds (constants_fit (source_of a) x) (constants_fit (source_of a) y) can.constants;
-      }
-
-  pub index_right : (x y : Exp) (t : Ty) → CanWalk a want (Index x y t) → CanWalk a Value y
-  index_right x y t can =
-      record {
-        kept = can.kept;
-        have = can.have;
-        fits = can.fits.1;
-        plain = right_holds (is_plain x) (is_plain y) can.plain;
-        constants = right_holds (constants_fit (source_of a) x) (constants_fit (source_of a) y) can.constants;
-      }
-
-  pub index_integer : (x y : Exp) (t : Ty) → CanWalk a want (Index x y t) → is_integer (type_of y) ≡ true
-  index_integer x y t can = can.fits.2
-
-  pub index_pointer : (x y : Exp) (t : Ty) → is_array (type_of x) ≡ false → CanWalk a want (Index x y t) → is_pointer (type_of x) ≡ true
-  index_pointer x y t is can = subst (λ b. Indexed (layout_of a) b (type_of x) t) is can.fits.3
-
-  pub arrow_operand : (x : Exp) (n : NameId) (t : Ty) → CanWalk a want (Field x n true t) → CanWalk a Value x
-  arrow_operand x n t can =
-      record { kept = can.kept; have = can.have; fits = can.fits.0; plain = can.plain; constants = can.constants }
-
-  pub dot_operand : (x : Exp) (n : NameId) (t : Ty) → CanWalk a want (Field x n false t) → CanWalk a Place' x
-  dot_operand x n t can =
-      record { kept = can.kept; have = can.have; fits = can.fits.0; plain = can.plain; constants = can.constants }
-
-  pub arrow_pointer : (x : Exp) (n : NameId) (t : Ty) → CanWalk a want (Field x n true t) → is_pointer (type_of x) ≡ true
-  arrow_pointer x n t can = can.fits.1
-
-  pub deref_pointer : (x : Exp) (t : Ty) → CanWalk a want (Unary sign.Deref x t) → is_pointer (type_of x) ≡ true
-  deref_pointer x t can = can.fits.1
-
-  -- What the gates of constructs ask.
-
-  integers : (t : Ty) → is_integer t ≡ true → is_scalar t ≡ true
-  integers t e = ap (λ b. b || is_pointer t) e
-
-  same_bits : (t u : Ty) → t ≡ u → int_bits (source_of a).widths t ≡ int_bits (source_of a).widths u
-  same_bits t u e = ap (λ x. int_bits (source_of a).widths x) e
-
-  pointer_bits : (t : Ty) → is_pointer t ≡ true → int_bits (source_of a).widths t ≡ 0
-  pointer_bits (Ptr t) e = refl
-  pointer_bits Bool' e = absurd (true≢false (sym e))
-  pointer_bits (Int k) e = absurd (true≢false (sym e))
-  pointer_bits _ e = refl
-
-  tests_truth : (o : BinaryOp) → is_test o ≡ false → gives_truth o ≡ false
-  tests_truth op.Less e = e
-  tests_truth op.Greater e = e
-  tests_truth op.LessEqual e = e
-  tests_truth op.GreaterEqual e = e
-  tests_truth op.Equal e = e
-  tests_truth op.NotEqual e = e
-  tests_truth op.And e = e
-  tests_truth op.Or e = e
-  tests_truth _ e = refl
-
-  common : (o : BinaryOp) → is_logical o ≡ false → is_shift o ≡ false → in_one_type o ≡ true
-  common op.And e f = absurd (true≢false e)
-  common op.Or e f = absurd (true≢false e)
-  common op.ShiftLeft e f = absurd (true≢false f)
-  common op.ShiftRight e f = absurd (true≢false f)
-  common _ e f = refl
-
-  -- i and j: integers on the left and on the right; p and q: pointers; c: whether pointers are compared
-  alike_by : (t u : Ty) (i j p q c : Bool) → is_integer t ≡ i → is_integer u ≡ j → is_pointer t ≡ p → is_pointer u ≡ q
-      → (i && j) || (c && (p && q)) ≡ true → AreAlike t u
-  alike_by t u true true p q c i j k l e = Integers i j
-  alike_by t u true false true true true i j k l e = PointersBoth k l
-  alike_by t u false j true true true i is k l e = PointersBoth k l
-  alike_by t u true false p q false i j k l e = absurd (true≢false (sym e))
-  alike_by t u true false false q true i j k l e = absurd (true≢false (sym e))
-  alike_by t u true false true false true i j k l e = absurd (true≢false (sym e))
-  alike_by t u false j p q false i is k l e = absurd (true≢false (sym e))
-  alike_by t u false j false q true i is k l e = absurd (true≢false (sym e))
-  alike_by t u false j true false true i is k l e = absurd (true≢false (sym e))
-
-  are_alike : (o : BinaryOp) (t u : Ty) → is_logical o ≡ false → operands_fit o t u ≡ true → AreAlike t u
-  are_alike o t u plain e =
-      alike_by t u (is_integer t) (is_integer u) (is_pointer t) (is_pointer u) (compares_pointers o) refl refl refl refl
-      (subst (λ b. (if b then is_scalar t && is_scalar u
-      else ((is_integer t && is_integer u) || (compares_pointers o && (is_pointer t && is_pointer u)))) ≡ true) plain e)
-
-  alike_bits : (o : BinaryOp) (t u : Ty) → in_one_type o ≡ true → AreAlike t u → (is_integer t ≡ true → t ≡ u)
-      → int_bits (source_of a).widths t ≡ int_bits (source_of a).widths u
-  alike_bits o t u one (Integers i j) same = same_bits t u (same i)
-  alike_bits o t u one (PointersBoth p q) same = pointer_bits t p ∙ sym (pointer_bits u q)
-
-  pub binary_fits : (o : BinaryOp) (x y : Exp) (t : Ty) → CanWalk a want (Binary o x y t)
-      → BinaryFits (source_of a) o (type_of x) (type_of y) t
-  binary_fits o x y t can =
-      let plain : is_logical o ≡ false = not_logical o x y can.plain in
-      let alike : AreAlike (type_of x) (type_of y) = are_alike o (type_of x) (type_of y) plain can.fits.4 in
-      record {
-        plain = plain;
-        gives = can.fits.3;
-        alike = alike;
-        same = λ e. let one = common o plain e in alike_bits o (type_of x) (type_of y) one alike (can.fits.5.same one);
-        keeps = λ e. same_bits t (type_of x) (can.fits.5.keeps (tests_truth o e));
-      }
-
-  integer_converts : (t u : Ty) → is_integer t ≡ true → is_integer u ≡ true → ConvertFits t u
-  integer_converts t u i j = record { holds = both (is_integer t) (is_integer u) (is_pointer u) (is_pointer t && (is_pointer u || is_bool u)) i j }
-    where
-      both : (p q r s : Bool) → p ≡ true → q ≡ true → (p && (q || r)) || s ≡ true
-      both true true r s e f = refl
-      both false q r s e f = absurd (true≢false (sym e))
-      both true false r s e f = absurd (true≢false (sym f))
-
-  pub combine_fits : (o : BinaryOp) (works : Ty) (x y : Exp) (t : Ty) → is_logical o ≡ false → CanWalk a want (Assign (Some o) works x y t)
-      → CombineFits (source_of a) o works t (type_of y)
-  combine_fits o works x y t plain can =
-      let i : is_integer t ≡ true = can.fits.3 in
-      let j : is_integer works ≡ true = can.fits.4 in
-      record {
-        into = integer_converts t works i j;
-        operator =
-            record {
-              plain = plain;
-              gives = j;
-              alike = Integers j can.fits.5;
-              same = λ e. same_bits works (type_of y) (can.fits.6.same (common o plain e) j);
-              keeps = λ e. refl;
-            };
-        back = integer_converts works t j i;
-      }
-
-  same : {x y : BinaryOp} → Some x ≡ Some y → x ≡ y
-  same e = cc
-
-  -- no operator of an assignment is logical
-  pub assigning : (x : AssignOp) (o : BinaryOp) → Some o ≡ operator x → is_logical o ≡ false
-  assigning assign.Set o e = absurd (cc)
-  assigning assign.Mul o e = ap is_logical (same e)
-  assigning assign.Div o e = ap is_logical (same e)
-  assigning assign.Rem o e = ap is_logical (same e)
-  assigning assign.Add o e = ap is_logical (same e)
-  assigning assign.Sub o e = ap is_logical (same e)
-  assigning assign.ShiftLeft o e = ap is_logical (same e)
-  assigning assign.ShiftRight o e = ap is_logical (same e)
-  assigning assign.BitAnd o e = ap is_logical (same e)
-  assigning assign.BitXor o e = ap is_logical (same e)
-  assigning assign.BitOr o e = ap is_logical (same e)
-
-  sign_fits : (t u : Ty) → t ≡ u → is_integer u ≡ true → SignFits (source_of a) t u
-  sign_fits t u e i = record { takes = ap is_integer e ∙ i; gives = i; same = same_bits t u e }
-
-  pub unary_fits : (o : UnaryOp) (x : Exp) (t : Ty) → takes_value o ≡ true → CanWalk a want (Unary o x t)
-      → UnaryFits (source_of a) o (type_of x) t
-  unary_fits sign.Plus x t e can = sign_fits (type_of x) t can.fits.2 can.fits.3
-  unary_fits sign.Minus x t e can = sign_fits (type_of x) t can.fits.2 can.fits.3
-  unary_fits sign.Complement x t e can = sign_fits (type_of x) t can.fits.2 can.fits.3
-  unary_fits sign.Not x t e can = record { gives = can.fits.3 }
-  unary_fits sign.Address x t e can = absurd (true≢false (sym e))
-  unary_fits sign.Deref x t e can = absurd (true≢false (sym e))
-
--- Kinds of what is wanted.
-
-scalar_no_void : (t : Ty) → is_scalar t ≡ true → is_void t ≡ false
-scalar_no_void Void e = sym e
-scalar_no_void _ e = refl
-
-pub cell_kind : (s : Source) (t : Ty) (x : Val) → is_scalar t ≡ true → HasKindFor s Value t x → val_kind x ≡ kind_of_type s (Some t)
-cell_kind s t x e h =
-    subst (λ b. val_kind x ≡ (if b then kind_of_type s (Some t) else Pointers)) e (h (scalar_no_void t e))
-
-pub read_kind : (s : Source) (want : Want) (t : Ty) (x : Val) → IsRead want → is_scalar t ≡ true → val_kind x ≡ kind_of_type s (Some t)
-    → HasKindFor s want t x
-read_kind s Value t x read e h = λ some. subst (λ b. val_kind x ≡ (if b then kind_of_type s (Some t) else Pointers)) (sym e) h
-read_kind s Place' t x read e h = absurd read
-
-pub set_kind : (s : Source) (want : Want) (t : Ty) (x : Val) → gives_pointer want t ≡ true → HasKindFor s want t x → val_kind x ≡ Pointers
-set_kind s Place' t x e h = h refl
-set_kind s Value (Ptr t) x e h = h refl
-set_kind s Value _ x e h = absurd (true≢false (sym e))
+  pub applies : (e x y : Exp) → has_operands (arity_of e) ≡ true → type_of x ≡ type_of (first_operand e) → type_of y ≡ type_of (second_operand e)
+      → CanWalk a want (with_operands e x y) → Applies (layout_of a) want e
+  applies (Assign o w u v t) x y some l r can = (sym l ∙ can.fits.2, sym r ∙ can.fits.3)
+  applies (Binary o u v t) x y some l r can = (
+    not_logical o x y can.plain,
+    can.fits.2,
+    can.fits.3,
+    subst (λ i. operands_fit o i (type_of v) ≡ true) l (subst (λ j. operands_fit o (type_of x) j ≡ true) r can.fits.4),
+    subst (λ i. TypesMeet o i (type_of v) t) l (subst (λ j. TypesMeet o (type_of x) j t) r can.fits.5),
+  )
+  applies (Index u v t) x y some l r can =
+      (subst (λ j. is_integer j ≡ true) r can.fits.2, subst (λ i. Indexed (layout_of a) (is_array i) i t) l can.fits.3)
+  applies (Cast u t) x y some l r can = (can.fits.1, subst (λ i. converts_to i t ≡ true) l can.fits.2)
+  applies (Convert u t) x y some l r can = (can.fits.1, subst (λ i. converts_to i t ≡ true) l can.fits.2)
+  applies (Unary sign.Address u t) x y some l r can = (can.fits.1, can.fits.2)
+  applies (Unary sign.Deref u t) x y some l r can = subst (λ i. is_pointer i ≡ true) l can.fits.1
+  applies (Unary sign.Not u t) x y some l r can = (can.fits.1, subst (λ i. is_scalar i ≡ true) l can.fits.2, can.fits.3)
+  applies (Unary sign.Plus u t) x y some l r can = (can.fits.1, sym l ∙ can.fits.2, can.fits.3)
+  applies (Unary sign.Minus u t) x y some l r can = (can.fits.1, sym l ∙ can.fits.2, can.fits.3)
+  applies (Unary sign.Complement u t) x y some l r can = (can.fits.1, sym l ∙ can.fits.2, can.fits.3)
+  applies (PreInc d u t) x y some l r can = (can.fits.1, sym l ∙ can.fits.2, can.fits.3)
+  applies (PostInc d u t) x y some l r can = (can.fits.1, sym l ∙ can.fits.2, can.fits.3)
+  applies (Field u n true t) x y some l r can =
+      (subst (λ i. is_pointer i ≡ true) l can.fits.1, subst (λ i. MemberFits (layout_of a) (target_or_void i) n t) l can.fits.2)
+  applies (Field u n false t) x y some l r can = subst (λ i. MemberFits (layout_of a) i n t) l can.fits.1
+  applies _ x y some l r can = absurd (true≢false (sym some))

@@ -80,8 +80,7 @@ module _ (a : Around) (want : Want) where
       → Walks a n1 Value x l0 l1 g0 g1 u → Walks a n2 Value y l1 l2 g1 g2 d → Operates (source_of a) n3 o w t u d g2 g3 r
       → Walks a n3 want (Binary o x y t) l0 l2 g0 g3 r
   by_binary n1 n2 n3 o x y t w l0 l1 l2 g0 g1 g2 g3 u d r is h grown grown3 ends bads first second made =
-      let fits = can.binary_fits a want o x y t h in
-      arms.walks_binary a n1 n2 n3 want o x y t l0 l1 l2 g0 g1 g2 g3 u d r grown grown3 ends bads fits.plain h.fits.2 h.fits.3 first second
+      arms.walks_binary a n1 n2 n3 want o x y t l0 l1 l2 g0 g1 g2 g3 u d r grown grown3 ends bads (can.not_logical a want o x y h.plain) h.fits.2 h.fits.3 first second
       (subst (λ z. Operates (source_of a) n3 o z t u d g2 g3 r) is made) (omega (arith, second.top, grown3.longer))
 
   -- an array becomes a pointer, or nothing is wanted of it

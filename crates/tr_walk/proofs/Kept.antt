@@ -1,5 +1,6 @@
 -- What the temps have, and what is ready, behind a step.
-use Rattle.std.proofs.Common.{◌≡◌, ℕ, zero, suc, ◌≤◌, Bool, true, Some, List, [], ◌∷◌, length, slice_get, slice_index_or, refl, subst, arith}
+use Rattle.std.proofs.Common.{◌≡◌, ℕ, zero, suc, ◌≤◌, nat_eq, Bool, true, false, ◌||◌, Some, List, [], ◌∷◌, ◌++◌, length, map, slice_get, slice_index_or, refl, sym, ap, arith}
+use Rattle.std.proofs.lemmas.Bool.{eq-eqb, true≢false}
 use Rattle.bit_net.specs.declared.nodes.Node.{Node}
 use Rattle.bit_net.specs.Runs.{Grown}
 use Rattle.gl_store.specs.declared.values.Val.{Val}
@@ -12,12 +13,12 @@ use Rattle.sc_world.specs.Tree.{Exp}
 use Rattle.sc_world.specs.Source.{Source}
 use Rattle.sc_world.specs.Layout.{Layout}
 use Rattle.sc_world.specs.Eval.{Want}
+use Rattle.flow_graph.specs.Conditions.{InTemp, among}
 use Rattle.flow_types.specs.Kinds as flow
 use Rattle.gate_places.proofs.Assigning.{stays_laid}
 use Rattle.expr_fits.specs.declared.around.Around.{Around}
 use Rattle.expr_fits.specs.Around.{layout_of, source_of}
-use Rattle.tr_walk.specs.Leaves.{temp_at}
-use Rattle.expr_fits.specs.Temps.{AreKept, HasKind, HaveKinds, IsKept, temps_top}
+use Rattle.expr_fits.specs.Temps.{AreKept, HasKind, HaveKinds, IsKept, IsNamed, temp_at, temps_top}
 use Rattle.tr_walk.specs.Walks.{IsReady, Walks}
 
 -- Where the run goes on behind a step, it went on before; so a place that was good stays good.
@@ -26,35 +27,51 @@ kept_stays : (v : ℕ → Bool) (b0 b1 : Bool) (p : Layout) (k : flow.Kind) (x :
 kept_stays v b0 b1 p (flow.ValueOf t) x c narrow good = good
 kept_stays v b0 b1 p (flow.PlaceOf t) x c narrow good = (good.0, λ on. good.1 (narrow on))
 
-pub all_stay : (v : ℕ → Bool) (b0 b1 : Bool) (p : Layout) (ks : List flow.Kind) (xs : List Val) (cs : List Cell) → (b1 ≡ true → b0 ≡ true)
-    → AreKept v b0 p ks xs cs → AreKept v b1 p ks xs cs
-all_stay v b0 b1 p [] xs cs narrow h = tt
-all_stay v b0 b1 p (k ∷ ks) (x ∷ xs) (c ∷ cs) narrow h = (kept_stays v b0 b1 p k x c narrow h.0, all_stay v b0 b1 p ks xs cs narrow h.1)
-all_stay v b0 b1 p (k ∷ ks) [] cs narrow h = absurd h
-all_stay v b0 b1 p (k ∷ ks) (x ∷ xs) [] narrow h = absurd h
+-- The temps that a part of an expression names are among those that the whole names.
+
+or_later : (b c : Bool) → c ≡ true → b || c ≡ true
+or_later true c h = refl
+or_later false c h = h
+
+named_left : (n : ℕ) (xs ys : List ℕ) → IsNamed n xs → IsNamed n (xs ++ ys)
+named_left n [] ys h = absurd (true≢false (sym h))
+named_left n (x ∷ xs) ys h = either (nat_eq n x) (among (InTemp n) (map InTemp xs)) (among (InTemp n) (map InTemp (xs ++ ys))) (λ rest. named_left n xs ys rest) h
+  where
+    either : (b c d : Bool) → (c ≡ true → d ≡ true) → b || c ≡ true → b || d ≡ true
+    either true c d next h = refl
+    either false c d next h = next h
+
+named_right : (n : ℕ) (xs ys : List ℕ) → IsNamed n ys → IsNamed n (xs ++ ys)
+named_right n [] ys h = h
+named_right n (x ∷ xs) ys h = or_later (nat_eq n x) (among (InTemp n) (map InTemp (xs ++ ys))) (named_right n xs ys h)
+
+pub named_one : (n : ℕ) → IsNamed n (n ∷ [])
+named_one n = ap (λ b. b || false) (eq-eqb n n refl)
+
+pub left_kinds : (s : Source) (ks : List flow.Kind) (vals : List Val) (xs ys : List ℕ) → HaveKinds s ks vals (xs ++ ys) → HaveKinds s ks vals xs
+left_kinds s ks vals xs ys h = λ n named k e. h n (named_left n xs ys named) k e
+
+pub right_kinds : (s : Source) (ks : List flow.Kind) (vals : List Val) (xs ys : List ℕ) → HaveKinds s ks vals (xs ++ ys) → HaveKinds s ks vals ys
+right_kinds s ks vals xs ys h = λ n named k e. h n (named_right n xs ys named) k e
+
+module _ (v : ℕ → Bool) (p : Layout) (ks : List flow.Kind) (vals : List Val) (cs : List Cell) (xs ys : List ℕ) where
+  pub left_kept : (b : Bool) → AreKept v b p ks vals cs (xs ++ ys) → AreKept v b p ks vals cs xs
+  left_kept b h = λ n named k e. h n (named_left n xs ys named) k e
+
+  -- behind what the first part does
+  pub right_kept : (b0 b1 : Bool) → (b1 ≡ true → b0 ≡ true) → AreKept v b0 p ks vals cs (xs ++ ys) → AreKept v b1 p ks vals cs ys
+  right_kept b0 b1 narrow h =
+      λ n named k e. kept_stays v b0 b1 p k (temp_at vals n) (slice_index_or cs n Nothing) narrow (h n (named_right n xs ys named) k e)
 
 -- The temp with a number.
 
-pub kind_at : (s : Source) (ks : List flow.Kind) (xs : List Val) (n : ℕ) (k : flow.Kind) → slice_get ks n ≡ Some k → HaveKinds s ks xs
+pub kind_at : (s : Source) (ks : List flow.Kind) (xs : List Val) (n : ℕ) (k : flow.Kind) → slice_get ks n ≡ Some k → HaveKinds s ks xs (n ∷ [])
     → HasKind s k (temp_at xs n)
-kind_at s [] xs n k e h = absurd (cc)
-kind_at s (j ∷ ks) [] n k e h = absurd h
-kind_at s (j ∷ ks) (x ∷ xs) zero k e h = subst (λ i. HasKind s i x) (same e) h.0
-  where
-    same : {i k : flow.Kind} → Some i ≡ Some k → i ≡ k
-    same e = cc
-kind_at s (j ∷ ks) (x ∷ xs) (suc n) k e h = kind_at s ks xs n k e h.1
+kind_at s ks xs n k e h = h n (named_one n) k e
 
 pub kept_at : (v : ℕ → Bool) (b : Bool) (p : Layout) (ks : List flow.Kind) (xs : List Val) (cs : List Cell) (n : ℕ) (k : flow.Kind) → slice_get ks n ≡ Some k
-    → AreKept v b p ks xs cs → IsKept v b p k (temp_at xs n) (slice_index_or cs n Nothing)
-kept_at v b p [] xs cs n k e h = absurd (cc)
-kept_at v b p (j ∷ ks) [] cs n k e h = absurd h
-kept_at v b p (j ∷ ks) (x ∷ xs) [] n k e h = absurd h
-kept_at v b p (j ∷ ks) (x ∷ xs) (c ∷ cs) zero k e h = subst (λ i. IsKept v b p i x c) (same e) h.0
-  where
-    same : {i k : flow.Kind} → Some i ≡ Some k → i ≡ k
-    same e = cc
-kept_at v b p (j ∷ ks) (x ∷ xs) (c ∷ cs) (suc n) k e h = kept_at v b p ks xs cs n k e h.1
+    → AreKept v b p ks xs cs (n ∷ []) → IsKept v b p k (temp_at xs n) (slice_index_or cs n Nothing)
+kept_at v b p ks xs cs n k e h = h n (named_one n) k e
 
 pub temp_low : (xs : List Val) (n : ℕ) → val_top (temp_at xs n) ≤ temps_top xs
 unfolding temps_top

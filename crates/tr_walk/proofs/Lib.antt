@@ -1,9 +1,11 @@
-pub mod Can
 pub mod Kept
+pub mod Types
+pub mod Can
 pub mod Arms
 pub mod Made
 pub mod Beginning
 pub mod Seen
-pub mod Operands
 pub mod Joined
-pub mod Parts
+pub mod Behind
+pub mod Own
+pub mod Operands

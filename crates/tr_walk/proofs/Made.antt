@@ -25,7 +25,7 @@ use Rattle.tr_expr.proofs.TypeKinds.{bits_some, bits_few, integer_kind, numbers_
 use Rattle.tr_walk.specs.Leaves.{Converts}
 use Rattle.expr_fits.specs.Temps.{HasKindFor}
 use Rattle.expr_fits.specs.Fits.{fits_width}
-use Rattle.tr_walk.proofs.Can.{cell_kind}
+use Rattle.tr_walk.proofs.Types.{cell_kind}
 
 -- Numbers.
 

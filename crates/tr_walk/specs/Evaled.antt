@@ -14,6 +14,7 @@ use Rattle.sc_world.specs.Tree.{Exp, type_of, Ty}
 use Rattle.sc_world.specs.World.{World}
 use Rattle.sc_world.specs.Layout.{Layout}
 use Rattle.sc_world.specs.Eval.{Want, Value, Place', eval}
+use Rattle.flow_graph.specs.Conditions as graph
 use Rattle.flow_types.specs.Kinds as flow
 use Rattle.gate_places.specs.Places.{env_of}
 use Rattle.expr_fits.specs.declared.around.Around.{Around}
@@ -44,9 +45,9 @@ pub record IsEvaled (a : Around) (ns : List Node) (want : Want) (e : Exp) (begin
   pub top : locations_top new ≤ length ns
   pub same : kinds new ≡ kinds old
   pub does : (choice v : ℕ → Bool) → Runs ns choice v → (k : flow.Kinds) → flow.FitsOver k (layout_of a) want e
-      → (bits : List Bool) (cells : List Cell) (turn : ℕ) → AreKept v (v begins) (layout_of a) k.temps (temps_of a) cells → (w : World) → MeetsAll v old w.places
+      → (bits : List Bool) (cells : List Cell) (turn : ℕ) → AreKept v (v begins) (layout_of a) k.temps (temps_of a) cells (graph.temps_of e) → (w : World) → MeetsAll v old w.places
       → v begins ≡ true
       → Leaves v new (IsFor v (v r.live.at) (layout_of a) want (type_of e) r.val) r (stand (eval e want (env_of (source_of a) (layout_of a) bits cells turn) w))
   pub rests : (choice v : ℕ → Bool) → Runs ns choice v → (k : flow.Kinds) → flow.FitsOver k (layout_of a) want e
-      → (cells : List Cell) → AreKept v (v begins) (layout_of a) k.temps (temps_of a) cells → (w : World) → MeetsAll v old w.places → v begins ≡ false
+      → (cells : List Cell) → AreKept v (v begins) (layout_of a) k.temps (temps_of a) cells (graph.temps_of e) → (w : World) → MeetsAll v old w.places → v begins ≡ false
       → Leaves v new (IsFor v (v r.live.at) (layout_of a) want (type_of e) r.val) r (Over None w)

@@ -1,9 +1,8 @@
--- What single values promise: of temps, and of what a value becomes in another type.
-use Rattle.std.specs.Prelude.{ℕ, ◌≤◌, Bool, List, length, slice_index_or}
+-- What a value promises to become in another type.
+use Rattle.std.specs.Prelude.{ℕ, ◌≤◌, Bool, List, length}
 use Rattle.bit_net.specs.declared.nodes.Node.{Node}
 use Rattle.bit_net.specs.Runs.{Runs}
 use Rattle.gl_store.specs.declared.values.Val.{Val}
-use Rattle.gl_store.specs.declared.values.Val.TheVariants as val
 use Rattle.gl_store.specs.Meets.{Meets, val_top}
 use Rattle.run_store.specs.Concrete.{Cell}
 use Rattle.sc_world.specs.Tree.{Ty}
@@ -12,9 +11,6 @@ use Rattle.sc_world.specs.Layout.{Layout}
 use Rattle.sc_world.specs.Eval as eval
 use Rattle.gate_places.specs.Places.{env_of}
 use Rattle.expr_fits.specs.Temps.{HasKindFor}
-
-abbrev pub temp_at : List Val → ℕ → Val
-temp_at xs n = slice_index_or xs n val.Unit
 
 -- the value of one type in another one, which may be `void`
 pub record Converts (s : Source) (ns : List Node) (from to : Ty) (x r : Val) : Type 0 where

@@ -1,3 +1,5 @@
 pub mod Walks
 pub mod Leaves
 pub mod Evaled
+pub mod Behind
+pub mod Operands

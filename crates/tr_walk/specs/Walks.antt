@@ -12,9 +12,9 @@ use Rattle.sc_tree.specs.declared.op.Step.{Step}
 use Rattle.sc_tree.specs.declared.op.UnaryOp.{UnaryOp}
 use Rattle.sc_tree.specs.declared.op.UnaryOp.TheVariants as sign
 use Rattle.sc_world.specs.Tree.{Ty, is_pointer, Exp, PreInc, PostInc, type_of}
-use Rattle.sc_world.specs.Source.{Source}
 use Rattle.sc_world.specs.Eval.{Want, Value, Place', eval}
 use Rattle.layout_base.specs.Seen as laid
+use Rattle.flow_graph.specs.Conditions as graph
 use Rattle.flow_types.specs.Kinds as flow
 use Rattle.gate_places.specs.Places.{GoodFor, IsLaid, env_of}
 use Rattle.expr_fits.specs.declared.around.Around.{Around}
@@ -39,7 +39,7 @@ pub record CanBegin (a : Around) (ns : List Node) (locations : List Location) (b
   pub live : begins < length ns
   pub temps : temps_top (temps_of a) ≤ length ns
 
--- The gates do what the evaluation does, whatever the choice, the cells of the temps and the turn of the loops are.
+-- The gates do what the evaluation does, whatever the choice, the cells of the temps that it reads and the turn of the loops are.
 pub record Walks (a : Around) (ns : List Node) (want : Want) (e : Exp) (old new : List Location) (old_gates new_gates : Ends) (r : Val) : Type 0 where
   pub below : val_top r ≤ length ns
   pub kind : HasKindFor (source_of a) want (type_of e) r
@@ -48,7 +48,7 @@ pub record Walks (a : Around) (ns : List Node) (want : Want) (e : Exp) (old new 
   pub ends : AreEnds ns new_gates
   pub bads : length new_gates.bads.items ≡ length old_gates.bads.items
   pub does : (choice v : ℕ → Bool) → Runs ns choice v → (k : flow.Kinds) → flow.FitsOver k (layout_of a) want e
-      → (bits : List Bool) (cells : List Cell) (turn : ℕ) → AreKept v (v old_gates.live.at) (layout_of a) k.temps (temps_of a) cells
+      → (bits : List Bool) (cells : List Cell) (turn : ℕ) → AreKept v (v old_gates.live.at) (layout_of a) k.temps (temps_of a) cells (graph.temps_of e)
       → Does v old old_gates (eval e want (env_of (source_of a) (layout_of a) bits cells turn)) new new_gates
       (GoodFor v new_gates (layout_of a) want (type_of e) r)
 

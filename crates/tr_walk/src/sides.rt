@@ -1,21 +1,26 @@
 //! The operands of constructs: of each is known that it can be walked.
 
-ghost use Rattle.std.specs.Prelude.{◌≡◌, ◌||◌, Some, None, true, false};
+ghost use Rattle.std.specs.Prelude.{◌≡◌, true};
 ghost use Rattle.sc_typed.specs.declared.expr.TExpr.{out-TExpr};
 ghost use Rattle.sc_typed.specs.declared.expr.What.TheVariants as what;
 ghost use Rattle.sc_world.specs.Eval as eval;
-ghost use Rattle.sc_world.specs.Tree as tree;
-ghost use Rattle.sc_world.specs.View.{operator, type};
 ghost use Rattle.run_values.specs.Seen.{want_of};
 ghost use Rattle.expr_fits.specs.Around.{exp_of};
 ghost use Rattle.expr_fits.specs.Fits.{CanWalk};
+ghost use Rattle.expr_fits.specs.Operands as operand;
+ghost use Rattle.expr_fits.specs.declared.operands.Arity.TheVariants as arity;
 
-use expr_fits::Around;
+use expr_fits::{Around, first_wanted, second_wanted};
 use run_values::Want;
 use sc_base::Boxed;
-use sc_tree::ctype::CType;
-use sc_tree::op::{AssignOp, BinaryOp};
 use sc_typed::TExpr;
+
+/// An operand, and what is wanted of it.
+#[derive(Clone, Copy)]
+pub struct Operand<'e> {
+    pub want: Want,
+    pub e: &'e TExpr,
+}
 
 /// The left side of a comma.
 pub fn comma_left<'e>(
@@ -49,164 +54,30 @@ pub fn comma_right<'e>(
     b.get()
 }
 
-/// The left side of an operator.
-pub fn binary_left<'e>(
-    around: &Around,
-    want: Want,
-    e: &TExpr,
-    op: BinaryOp,
-    a: &'e Boxed<TExpr>,
-    b: &Boxed<TExpr>,
-) -> &'e TExpr
+/// The first operand of an operator.
+pub fn first<'e>(around: &Around, want: Want, e: &TExpr, a: &'e Boxed<TExpr>) -> Operand<'e>
     requires can { CanWalk around.now (want_of want) (exp_of around.now e.now) }
-    requires is { (out-TExpr e.now).what ≡ what.Binary op a.now b.now }
-    ensures can { CanWalk around.now eval.Value (exp_of around.now result.now) }
-    ensures same { result.now ≡ a.now }
+    requires some { operand.has_operands (operand.arity_of (exp_of around.now e.now)) ≡ true }
+    requires is { operand.first_operand (exp_of around.now e.now) ≡ exp_of around.now a.now }
+    ensures can { CanWalk around.now (want_of result.want) (exp_of around.now result.e.now) }
+    ensures same { result.e.now ≡ a.now }
+    ensures wanted { want_of result.want ≡ operand.first_wanted (exp_of around.now e.now) }
+    ensures operand { exp_of around.now result.e.now ≡ operand.first_operand (exp_of around.now e.now) }
 {
-    a.get()
+    let want = first_wanted(around, e);
+    Operand { want, e: a.get() }
 }
 
-/// The right side of an operator.
-pub fn binary_right<'e>(
-    around: &Around,
-    want: Want,
-    e: &TExpr,
-    op: BinaryOp,
-    a: &Boxed<TExpr>,
-    b: &'e Boxed<TExpr>,
-) -> &'e TExpr
+/// The second operand of an operator.
+pub fn second<'e>(around: &Around, want: Want, e: &TExpr, b: &'e Boxed<TExpr>) -> Operand<'e>
     requires can { CanWalk around.now (want_of want) (exp_of around.now e.now) }
-    requires is { (out-TExpr e.now).what ≡ what.Binary op a.now b.now }
-    ensures can { CanWalk around.now eval.Value (exp_of around.now result.now) }
-    ensures same { result.now ≡ b.now }
+    requires two { operand.arity_of (exp_of around.now e.now) ≡ arity.Binary }
+    requires is { operand.second_operand (exp_of around.now e.now) ≡ exp_of around.now b.now }
+    ensures can { CanWalk around.now (want_of result.want) (exp_of around.now result.e.now) }
+    ensures same { result.e.now ≡ b.now }
+    ensures wanted { want_of result.want ≡ operand.second_wanted (exp_of around.now e.now) }
+    ensures operand { exp_of around.now result.e.now ≡ operand.second_operand (exp_of around.now e.now) }
 {
-    b.get()
-}
-
-/// The left side of an assignment.
-pub fn assign_left<'e>(
-    around: &Around,
-    want: Want,
-    e: &TExpr,
-    op: AssignOp,
-    works: &CType,
-    a: &'e Boxed<TExpr>,
-    b: &Boxed<TExpr>,
-) -> &'e TExpr
-    requires can { CanWalk around.now (want_of want) (exp_of around.now e.now) }
-    requires is { (out-TExpr e.now).what ≡ what.Assign op works.now a.now b.now }
-    ensures can { CanWalk around.now eval.Place' (exp_of around.now result.now) }
-    ensures same { result.now ≡ a.now }
-{
-    a.get()
-}
-
-/// The right side of `a = b` of numbers and pointers.
-pub fn assign_value<'e>(
-    around: &Around,
-    want: Want,
-    e: &TExpr,
-    op: AssignOp,
-    works: &CType,
-    a: &Boxed<TExpr>,
-    b: &'e Boxed<TExpr>,
-) -> &'e TExpr
-    requires can { CanWalk around.now (want_of want) (exp_of around.now e.now) }
-    requires is { (out-TExpr e.now).what ≡ what.Assign op works.now a.now b.now }
-    requires plain { operator op ≡ None }
-    requires cell { tree.is_integer (type (out-TExpr e.now).ctype) || tree.is_pointer (type (out-TExpr e.now).ctype) ≡ true }
-    ensures can { CanWalk around.now eval.Value (exp_of around.now result.now) }
-    ensures same { result.now ≡ b.now }
-{
-    b.get()
-}
-
-/// The right side of `a = b` of structs.
-pub fn assign_object<'e>(
-    around: &Around,
-    want: Want,
-    e: &TExpr,
-    op: AssignOp,
-    works: &CType,
-    a: &Boxed<TExpr>,
-    b: &'e Boxed<TExpr>,
-) -> &'e TExpr
-    requires can { CanWalk around.now (want_of want) (exp_of around.now e.now) }
-    requires is { (out-TExpr e.now).what ≡ what.Assign op works.now a.now b.now }
-    requires plain { operator op ≡ None }
-    requires object { tree.is_integer (type (out-TExpr e.now).ctype) || tree.is_pointer (type (out-TExpr e.now).ctype) ≡ false }
-    ensures can { CanWalk around.now eval.Place' (exp_of around.now result.now) }
-    ensures same { result.now ≡ b.now }
-{
-    b.get()
-}
-
-/// The right side of `a += b` and its kin.
-pub fn assign_operand<'e>(
-    around: &Around,
-    want: Want,
-    e: &TExpr,
-    op: AssignOp,
-    by: BinaryOp,
-    works: &CType,
-    a: &Boxed<TExpr>,
-    b: &'e Boxed<TExpr>,
-) -> &'e TExpr
-    requires can { CanWalk around.now (want_of want) (exp_of around.now e.now) }
-    requires is { (out-TExpr e.now).what ≡ what.Assign op works.now a.now b.now }
-    requires combined { operator op ≡ Some by }
-    ensures can { CanWalk around.now eval.Value (exp_of around.now result.now) }
-    ensures same { result.now ≡ b.now }
-{
-    b.get()
-}
-
-/// The array of `a [ b ]`.
-pub fn indexed_array<'e>(
-    around: &Around,
-    want: Want,
-    e: &TExpr,
-    a: &'e Boxed<TExpr>,
-    b: &Boxed<TExpr>,
-) -> &'e TExpr
-    requires can { CanWalk around.now (want_of want) (exp_of around.now e.now) }
-    requires is { (out-TExpr e.now).what ≡ what.Index a.now b.now }
-    requires array { tree.is_array (tree.type_of (exp_of around.now a.now)) ≡ true }
-    ensures can { CanWalk around.now eval.Place' (exp_of around.now result.now) }
-    ensures same { result.now ≡ a.now }
-{
-    a.get()
-}
-
-/// The pointer of `a [ b ]`.
-pub fn indexed_pointer<'e>(
-    around: &Around,
-    want: Want,
-    e: &TExpr,
-    a: &'e Boxed<TExpr>,
-    b: &Boxed<TExpr>,
-) -> &'e TExpr
-    requires can { CanWalk around.now (want_of want) (exp_of around.now e.now) }
-    requires is { (out-TExpr e.now).what ≡ what.Index a.now b.now }
-    requires pointer { tree.is_array (tree.type_of (exp_of around.now a.now)) ≡ false }
-    ensures can { CanWalk around.now eval.Value (exp_of around.now result.now) }
-    ensures same { result.now ≡ a.now }
-{
-    a.get()
-}
-
-/// The index of `a [ b ]`.
-pub fn index_of<'e>(
-    around: &Around,
-    want: Want,
-    e: &TExpr,
-    a: &Boxed<TExpr>,
-    b: &'e Boxed<TExpr>,
-) -> &'e TExpr
-    requires can { CanWalk around.now (want_of want) (exp_of around.now e.now) }
-    requires is { (out-TExpr e.now).what ≡ what.Index a.now b.now }
-    ensures can { CanWalk around.now eval.Value (exp_of around.now result.now) }
-    ensures same { result.now ≡ b.now }
-{
-    b.get()
+    let want = second_wanted(around, e);
+    Operand { want, e: b.get() }
 }

@@ -6,7 +6,7 @@ use Rattle.gl_store.specs.declared.values.Val.{Val}
 use Rattle.sc_world.specs.View.{type}
 use Rattle.run_values.specs.Seen.{want_of}
 use Rattle.expr_fits.specs.Around.{temps_of}
-use Rattle.tr_walk.specs.Leaves.{temp_at}
+use Rattle.expr_fits.specs.Temps.{temp_at}
 use Rattle.tr_walk.proofs.Arms.{walks_place, walks_at_place, kept_pointer}
 use Rattle.tr_walk.proofs.Kept.{temp_low}
 use Rattle.tr_walk.proofs.leaves.kept_place.Goals as goal
