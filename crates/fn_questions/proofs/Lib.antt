@@ -1,0 +1,4 @@
+pub mod Kinding
+pub mod Objects
+pub mod Ready
+pub mod Rowing

@@ -1,0 +1,151 @@
+-- Questions that are asked.
+use Rattle.std.proofs.Common.{◌≡◌, ℕ, ◌<◌, ◌≤◌, ◌^◌, Bool, ◌&&◌, List, length, sym, ◌∙◌, ap, subst, arith}
+use Rattle.bit_net.specs.declared.nodes.Node.{Node}
+use Rattle.bit_net.specs.Runs.{Runs, Grown}
+use Rattle.flow_ends.specs.Encoded.{IsAnswer, IsEncoded}
+use Rattle.flow_ends.specs.declared.encoded.Encoded.{Encoded}
+use Rattle.error_laws.specs.Errors.{IsErrorOf}
+use Rattle.location_texts.specs.Seen.{texts}
+use Rattle.run_world.specs.Seen.{env}
+use Rattle.sc_world.specs.Source.{Source}
+use Rattle.sc_world.specs.declared.run.Origin.TheVariants as origin
+use Rattle.sc_world.specs.Layout.{Layout, location, location_of, or_zero}
+use Rattle.sc_world.specs.World.{bit_at}
+use Rattle.sc_world.specs.Exec.{run}
+use Rattle.sc_world.specs.Shows as shows
+use Rattle.sc_world.specs.Shows.{Query, exits, is_fate, has_out_row, has_param_row, param_object, says}
+use Rattle.sc_world.specs.Verdict.{run_over}
+use Rattle.sum_rows.specs.declared.row.Row.{Row}
+use Rattle.sc_world.specs.Known.{same_state}
+use Rattle.fn_facts.specs.declared.around.Around.{Around}
+use Rattle.fn_facts.specs.Seen.{given, is_given, over}
+use Rattle.fn_facts.specs.Showing.{HasErrorsOf, IsReady, Shows, ShowsNumber}
+use Rattle.fn_facts.proofs.Growing.{number_grows, ready_grows}
+use Rattle.fn_walks.specs.Seen.{fate}
+use Rattle.fn_questions.specs.declared.facts.Facts.{Facts}
+use Rattle.fn_questions.specs.Asking.{AreFacts, HasAll, IsReadyToAsk}
+use Rattle.fn_questions.specs.Seen.{out_fate, row_with}
+
+-- What is known stays while the net grows.
+
+pub facts_grow : (old new : List Node) (f : Facts) → Grown old new → AreFacts old f → AreFacts new f
+facts_grow old new f g a =
+    record {
+      ready = ready_grows f.around old new g a.ready;
+      objects = a.objects;
+      given = number_grows f.around old new given f.given.bits.items g a.given;
+    }
+
+encoded_grows : (s : Source) (p : Layout) (old new : List Node) (e : Encoded) → Grown old new → IsEncoded s p old e → IsEncoded s p new e
+encoded_grows s p old new e g is =
+    record {
+      inputs = g.inputs ∙ is.inputs;
+      fates = record {
+        over = omega (arith, is.fates.over, g.longer);
+        bads = omega (arith, is.fates.bads, g.longer);
+        touched = omega (arith, is.fates.touched, g.longer);
+        each_bad = is.fates.each_bad;
+        each_touched = is.fates.each_touched;
+      };
+      store = omega (arith, is.store, g.longer);
+      kinds = is.kinds;
+      result = omega (arith, is.result, g.longer);
+      kind = is.kind;
+      tells = λ bits few v runs. is.tells bits few v (g.runs (bit_at bits) v runs);
+    }
+
+pub ready_to_ask_grows : (old new : List Node) (f : Facts) → Grown old new → IsReadyToAsk old f → IsReadyToAsk new f
+ready_to_ask_grows old new f g r =
+    record {
+      facts = facts_grow old new f g r.facts;
+      texts = r.texts;
+      encoded = encoded_grows (env f.around.here).source (env f.around.here).layout old new f.around.encoded.now g r.encoded;
+      errors = r.errors;
+    }
+
+-- A gate that shows what runs answer is the answer.
+
+says_of : (f : Facts) (ns : List Node) (q : Query) (g : ℕ) → IsReadyToAsk ns f → Shows f.around ns (λ o. says (texts f.texts) o q) g
+    → (bits : List Bool) → length bits ≤ (env f.around.here).layout.bits → (v : ℕ → Bool) → Runs ns (bit_at bits) v
+    → v g ≡ says (texts f.texts) (run_over (env f.around.here).source (env f.around.here).layout bits) q
+says_of f ns q g r s bits few v runs =
+    let ended = run (env f.around.here).source (env f.around.here).layout bits in
+    s.value bits v ended.0 ended.1 runs (record { few = few; tells = r.encoded.tells bits few v runs; error = r.errors.error bits few })
+
+pub answer_shown : (f : Facts) (ns : List Node) (q : Query) (g : ℕ) → IsReadyToAsk ns f → Shows f.around ns (λ o. says (texts f.texts) o q) g
+    → IsAnswer (env f.around.here).source (texts f.texts) ns q g
+answer_shown f ns q g r s =
+    record {
+      below = s.below;
+      says =
+          subst
+          (λ p. (bits : List Bool) → length bits ≤ p.bits → (v : ℕ → Bool) → Runs ns (bit_at bits) v
+          → v g ≡ says (texts f.texts) (run_over (env f.around.here).source p bits) q)
+          (sym r.texts) (says_of f ns q g r s);
+    }
+
+-- What a function is asked about whose runs were made gates.
+
+pub made_ready : (a : Around) (ns : List Node) → length a.here.places.now.locations.items < 2 ^ 32
+    → IsEncoded (env a.here).source (env a.here).layout ns a.encoded.now → IsReady a ns
+made_ready a ns few is =
+    record { inputs = omega (arith, is.inputs); few = few; fates = is.fates; store = is.store; result = is.result }
+
+pub errors_of : (s : Source) (p : Layout) → HasAll p → ((bits : List Bool) → 0 < length p.locations → IsErrorOf p (run s p bits).0) → HasErrorsOf s p
+errors_of s p all law = record { error = λ bits few. law bits all.some }
+
+pub new_ready : (f : Facts) (old new : List Node) → length f.around.here.places.now.locations.items < 2 ^ 32
+    → (texts f.texts).layout ≡ (env f.around.here).layout
+    → IsEncoded (env f.around.here).source (env f.around.here).layout old f.around.encoded.now → HasAll (env f.around.here).layout
+    → ((bits : List Bool) → 0 < length (env f.around.here).layout.locations
+    → IsErrorOf (env f.around.here).layout (run (env f.around.here).source (env f.around.here).layout bits).0)
+    → Grown old new → ShowsNumber f.around new given f.given.bits.items → IsReadyToAsk new f
+new_ready f old new few same is all law grown number =
+    let s = (env f.around.here).source in
+    let p = (env f.around.here).layout in
+    let now = encoded_grows s p old new f.around.encoded.now grown is in
+    record {
+      facts = record { ready = made_ready f.around new few now; objects = all.objects; given = number };
+      texts = same;
+      encoded = now;
+      errors = errors_of s p all law;
+    }
+
+-- Rows of what a parameter points to.
+
+abbrev pub pointed : Around → ℕ → ℕ
+pointed a n = or_zero (location (env a.here).layout (location_of (env a.here).layout (origin.Param n))).target
+
+pub changes_shown : (a : Around) (ns : List Node) (n k g : ℕ) → k ≡ pointed a n → Shows a ns (λ o. exits o && is_fate (fate o k)) g
+    → Shows a ns (λ o. exits o && is_fate (shows.fate o (param_object o n))) g
+unfolding fate
+changes_shown a ns n k g e s =
+    record {
+      below = s.below;
+      value = λ bits v r w runs t.
+          s.value bits v r w runs t ∙ ap (λ m. exits (over a bits r w) && is_fate (shows.fate (over a bits r w) m)) e;
+    }
+
+pub param_row_shown : (a : Around) (ns : List Node) (n k : ℕ) (r : Row) (g : ℕ) → k ≡ pointed a n
+    → Shows a ns (λ o. exits o && (is_given o n && row_with r (λ p. same_state r.after (fate p k)) o)) g
+    → Shows a ns (λ o. exits o && has_param_row o n r) g
+unfolding row_with fate given is_given
+param_row_shown a ns n k r g e s =
+    record {
+      below = s.below;
+      value = λ bits v q w runs t.
+          (let o = over a bits q w in
+          s.value bits v q w runs t ∙ ap (λ m. exits o && (is_given o n && row_with r (λ p. same_state r.after (fate p m)) o)) e);
+    }
+
+pub out_row_shown : (a : Around) (ns : List Node) (n k : ℕ) (r : Row) (g : ℕ) → k ≡ pointed a n
+    → Shows a ns (λ o. exits o && (is_given o n && row_with r (λ p. same_state r.after (out_fate p k)) o)) g
+    → Shows a ns (λ o. exits o && has_out_row o n r) g
+unfolding row_with out_fate given is_given
+out_row_shown a ns n k r g e s =
+    record {
+      below = s.below;
+      value = λ bits v q w runs t.
+          (let o = over a bits q w in
+          s.value bits v q w runs t ∙ ap (λ m. exits o && (is_given o n && row_with r (λ p. same_state r.after (out_fate p m)) o)) e);
+    }

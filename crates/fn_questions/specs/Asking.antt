@@ -1,0 +1,30 @@
+-- When every question to the runs of a function may be asked.
+use Rattle.std.specs.Prelude.{◌≡◌, ◌<◌, List, length}
+use Rattle.bit_net.specs.declared.nodes.Node.{Node}
+use Rattle.flow_ends.specs.Encoded.{IsEncoded}
+use Rattle.location_texts.specs.Seen.{texts}
+use Rattle.run_world.specs.Seen.{env}
+use Rattle.sc_world.specs.Layout.{Layout}
+use Rattle.walk_laws.specs.Objects.{HasObjects}
+use Rattle.fn_facts.specs.Seen.{given}
+use Rattle.fn_facts.specs.Showing.{HasErrorsOf, IsReady, ShowsNumber}
+use Rattle.fn_questions.specs.declared.facts.Facts.{Facts}
+
+-- what a layout needs: a location, and that the object of each location is a location
+pub record HasAll (p : Layout) : Type 0 where
+  pub some : 0 < length p.locations
+  pub objects : HasObjects p
+
+-- what was made of the runs is right in the net
+pub record AreFacts (ns : List Node) (f : Facts) : Type 0 where
+  pub ready : IsReady f.around ns
+  pub objects : HasObjects (env f.around.here).layout
+  pub given : ShowsNumber f.around ns given f.given.bits.items
+
+-- The gates tell the runs of the function, texts are of its layout, and its runs end by errors at its locations alone. It stays so while the
+-- net grows.
+pub record IsReadyToAsk (ns : List Node) (f : Facts) : Type 0 where
+  pub facts : AreFacts ns f
+  pub texts : (texts f.texts).layout ≡ (env f.around.here).layout
+  pub encoded : IsEncoded (env f.around.here).source (env f.around.here).layout ns f.around.encoded.now
+  pub errors : HasErrorsOf (env f.around.here).source (env f.around.here).layout
