@@ -1,6 +1,6 @@
 // The verdict of a function.
 
-ghost use Rattle.std.specs.Prelude.{◌≡◌, IfOk, Ok, Some, slice_get};
+ghost use Rattle.std.specs.Prelude.{◌≡◌, ◌<◌, ◌^◌, IfOk, Ok, Some, length, slice_get};
 ghost use Rattle.sc_base.specs.declared.skip.Skip.TheVariants as skip;
 ghost use Rattle.sum_rows.specs.declared.report.Verdict.TheVariants as verdicts;
 ghost use Rattle.fsm_spec.specs.Table.{IsWhole};
@@ -9,16 +9,25 @@ ghost use Rattle.sc_world.specs.Verdict as spec;
 ghost use Rattle.sc_world.specs.Places as laying;
 ghost use Rattle.sc_world.specs.Programs.{source};
 ghost use Rattle.layout_base.specs.Seen as laid;
+ghost use Rattle.location_texts.specs.Seen as named;
+ghost use Rattle.run_laws.specs.Proper.{IsClosed};
+ghost use Rattle.flow_ends.specs.Encoded.{IsEncoded};
 ghost use Rattle.program_verdicts.specs.Verdicts.{texts, verdict_given};
 ghost use Rattle.fn_analysis.specs.Analysis.{HasWholeMachine};
 
-use fn_trying::Trying;
-use fn_verdict::verdict;
+use bit_net::Net;
+use flow_ends::Encoded;
+use fn_by_gates::{Gates, judge};
+use fn_facts::Around;
+use fn_gates::{InGates, in_gates};
+use fn_questions::Facts;
 use fsm_spec::{locks, whole_machines};
 use layout_base::{Ground, Places};
 use location_texts::Texts;
 use places::{PlaceAnswer, places};
 use run_laws::layouts_are_closed;
+use run_world::Here;
+use sat_cdcl::Cdcl;
 use sc_base::{LimitKind, OutOfMemory, Skip};
 use sc_gather::{Context, gather};
 use sc_typed::{Function, Program, TBody};
@@ -41,9 +50,47 @@ fn beyond(kind: LimitKind) -> Verdict
     Verdict::Skipped(Skip::Limit { kind, count })
 }
 
+// The verdict of the function at hand by gates that tell of all its runs; where not all questions have gates, by trying every choice.
+#[tactic(auto, unfolding(layout_base::specs::Seen::ground_of))]
+fn by_gates<'p, 'm, 'f>(
+    alloc: Global,
+    given: Ground<'p, 'm, 'f>,
+    texts: Texts<'p, 'f>,
+    mut net: Net,
+    encoded: &'f Encoded,
+) -> Result<Verdict, OutOfMemory>
+    requires whole { IsWhole (laid.ground_of given).source.machine }
+    requires closed { IsClosed (laid.layout_of texts.places.now) }
+    requires few { length texts.places.now.locations.items < 2 ^ 32 }
+    requires encoded { IsEncoded (laid.ground_of given).source (laid.layout_of texts.places.now) net encoded.now }
+    ensures { IfOk result (λ v. v ≡ spec.done_with (laid.ground_of given.entry).source (named.texts texts.entry)
+        (spec.answers (laid.ground_of given.entry).source (named.texts texts.entry))) }
+{
+    let around = Around {
+        here: Here {
+            ground: given,
+            places: texts.places,
+            choice: &[],
+            turn: 0,
+        },
+        encoded,
+    };
+    let gates = match Facts::new(around, texts, &mut net) {
+        Ok(None) => None,
+        Ok(Some(questions)) => Some(Gates {
+            net,
+            questions,
+            solver: Cdcl::new(alloc),
+        }),
+        Err(_) => return Err(OutOfMemory),
+    };
+    let judged = judge(alloc, given, texts, gates)?;
+    Ok(judged)
+}
+
 // The verdict of the function at hand, which has this layout.
 #[tactic(auto, unfolding(layout_base::specs::Seen::ground_of))]
-fn tried<'p>(
+fn of_layout<'p>(
     alloc: Global,
     here: &Context<'p, '_>,
     function: &'p Function,
@@ -69,8 +116,13 @@ fn tried<'p>(
         function,
         places: layout,
     };
-    let mut asks = Trying::new(alloc, given, names)?;
-    verdict(alloc, here, &names, &mut asks)
+    match in_gates(alloc, given, layout)? {
+        None => judge::<Facts, Cdcl>(alloc, given, names, None),
+        Some(made) => {
+            let InGates { net, encoded } = made;
+            by_gates(alloc, given, names, net, &encoded)
+        }
+    }
 }
 
 // The verdict of the function at hand, which has a body.
@@ -93,7 +145,7 @@ fn of_body<'p>(
         here.depth,
         here.reach,
     ) {
-        Ok(layout) => tried(alloc, here, function, &layout),
+        Ok(layout) => of_layout(alloc, here, function, &layout),
         Err(PlaceAnswer::Limit(kind, _)) => Ok(beyond(kind)),
         Err(PlaceAnswer::OutOfMemory) => Err(OutOfMemory),
     }

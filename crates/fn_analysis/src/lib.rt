@@ -1,4 +1,4 @@
-//! The verdict of a function, by trying every choice: each run is made by the interpreter, and asked.
+//! The verdict of a function: by gates that tell of all its runs and a solver, or by trying every choice where it has no gates.
 #![tactic(auto)]
 
 mod analysis;
