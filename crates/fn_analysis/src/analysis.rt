@@ -51,7 +51,7 @@ fn beyond(kind: LimitKind) -> Verdict
 }
 
 // The verdict of the function at hand by gates that tell of all its runs; where not all questions have gates, by trying every choice.
-#[tactic(auto, unfolding(layout_base::specs::Seen::ground_of))]
+#[tactic(auto, unfolding(run_world::specs::Seen::env, layout_base::specs::Seen::ground_of))]
 fn by_gates<'p, 'm, 'f>(
     alloc: Global,
     given: Ground<'p, 'm, 'f>,
@@ -75,17 +75,22 @@ fn by_gates<'p, 'm, 'f>(
         },
         encoded,
     };
-    let gates = match Facts::new(around, texts, &mut net) {
-        Ok(None) => None,
-        Ok(Some(questions)) => Some(Gates {
-            net,
-            questions,
-            solver: Cdcl::new(alloc),
-        }),
-        Err(_) => return Err(OutOfMemory),
-    };
-    let judged = judge(alloc, given, texts, gates)?;
-    Ok(judged)
+    match Facts::new(around, texts, &mut net) {
+        Ok(Some(questions)) => {
+            let gates = Gates {
+                net,
+                questions,
+                solver: Cdcl::new(alloc),
+            };
+            let judged = judge(alloc, given, texts, Some(gates))?;
+            Ok(judged)
+        }
+        Ok(None) => {
+            let judged = judge::<Facts, Cdcl>(alloc, given, texts, None)?;
+            Ok(judged)
+        }
+        Err(_) => Err(OutOfMemory),
+    }
 }
 
 // The verdict of the function at hand, which has this layout.
@@ -117,10 +122,14 @@ fn of_layout<'p>(
         places: layout,
     };
     match in_gates(alloc, given, layout)? {
-        None => judge::<Facts, Cdcl>(alloc, given, names, None),
+        None => {
+            let judged = judge::<Facts, Cdcl>(alloc, given, names, None)?;
+            Ok(judged)
+        }
         Some(made) => {
             let InGates { net, encoded } = made;
-            by_gates(alloc, given, names, net, &encoded)
+            let judged = by_gates(alloc, given, names, net, &encoded)?;
+            Ok(judged)
         }
     }
 }
