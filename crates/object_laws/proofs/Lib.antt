@@ -1,0 +1,4 @@
+pub mod Steps
+pub mod Objects
+pub mod Calls
+pub mod Layouts
