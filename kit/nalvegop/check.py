@@ -170,7 +170,9 @@ class FileCheck:
         for function in self.result.analysed:
             names = segments[function.name].names if function.name in segments else frozenset[str]()
             for name in sorted(names & effects - {function.name}):
-                self.result.warnings.append(f"'{function.name}' calls '{name}', of which nothing is known: what it does to locks and memory is not in the answer")
+                self.result.warnings.append(
+                    f"'{function.name}' calls '{name}', of which nothing is known: what it does to locks and memory is not in the answer"
+                )
 
     def _shown(self, place: Place) -> Place:
         return Place(shown(self.it.folder, place.file), place.line, place.column)

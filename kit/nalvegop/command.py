@@ -26,7 +26,9 @@ from .show_sarif import sarif
 from .totals import summary
 
 CLEAN, FOUND, NOT_ALL, WORDS = 0, 1, 2, 3
-_STATUSES = "status: 0 nothing found; 1 findings; 2 some file, or some function in time, was not analysed, with findings or without; 3 the words are not of this form"
+_STATUSES = (
+    "status: 0 nothing found; 1 findings; 2 some file, or some function in time, was not analysed, with findings or without; 3 the words are not of this form"
+)
 
 
 class _Parser(argparse.ArgumentParser):
@@ -43,7 +45,9 @@ def parser() -> argparse.ArgumentParser:
     top.add_argument("--version", action="version", version=f"nalvegop {VERSION}")
     verbs = top.add_subparsers(dest="verb", required=True, metavar="VERB")
     verbs.add_parser("sparse", help="check the file among the words that the kernel's make hands to CHECK; status 0")
-    check = verbs.add_parser("check", help="check files, or a whole project", epilog=f"{_STATUSES}. Behind -- stand the compiler, if it is not cc, and its flags.")
+    check = verbs.add_parser(
+        "check", help="check files, or a whole project", epilog=f"{_STATUSES}. Behind -- stand the compiler, if it is not cc, and its flags."
+    )
     check.add_argument("files", nargs="*", metavar="FILE", help="files to check; all of the database where none is named")
     _common(check)
     check.add_argument("--format", choices=("gcc", "sarif", "json", "html"), default="gcc", help="the form of what is shown (gcc)")

@@ -30,10 +30,50 @@ class BadDatabase(ValueError):
 
 
 # Flags that say what is made of the file, where it goes, or what is printed: with and without a word behind them.
-_DROPPED = {"-c", "-S", "-E", "-MD", "-MMD", "-MP", "-MG", "-M", "-MM", "-MV", "-w", "-pipe", "-v", "-P", "-C", "-CC", "-fsyntax-only", "-save-temps", "--compile"}
+_DROPPED = {
+    "-c",
+    "-S",
+    "-E",
+    "-MD",
+    "-MMD",
+    "-MP",
+    "-MG",
+    "-M",
+    "-MM",
+    "-MV",
+    "-w",
+    "-pipe",
+    "-v",
+    "-P",
+    "-C",
+    "-CC",
+    "-fsyntax-only",
+    "-save-temps",
+    "--compile",
+}
 _DROPPED_WITH_WORD = {"-o", "-MF", "-MT", "-MQ", "-MJ", "-dumpdir", "-dumpbase", "--output", "-Xlinker", "-L", "-l", "-aux-info"}
 _DROPPED_HEADS = ("-W", "-g", "-save-temps=", "-fdiagnostics", "-fno-diagnostics", "-l", "-L", "-d", "-o")
-_WITH_WORD = {"-D", "-U", "-I", "-isystem", "-iquote", "-idirafter", "-include", "-imacros", "-iprefix", "-isysroot", "-x", "-target", "--param", "-Xpreprocessor", "-Xclang", "-arch", "-mllvm", "-iwithprefix", "-A"}
+_WITH_WORD = {
+    "-D",
+    "-U",
+    "-I",
+    "-isystem",
+    "-iquote",
+    "-idirafter",
+    "-include",
+    "-imacros",
+    "-iprefix",
+    "-isysroot",
+    "-x",
+    "-target",
+    "--param",
+    "-Xpreprocessor",
+    "-Xclang",
+    "-arch",
+    "-mllvm",
+    "-iwithprefix",
+    "-A",
+}
 _C_ENDINGS = (".c", ".i")
 
 

@@ -67,16 +67,17 @@ class Filter:
         """Filters. With `only`, the own functions of these names keep their bodies, and so do those that they call; the
         bodies of the functions in `without` become prototypes."""
         self.sheet, self.counts, self.passed_over = Sheet(self._text), {}, {}
-        own = self.own_functions()
-        roots = [it for it in own if only is None or it.function in set(only)]
-        kept = self._needed(roots, own if only is None else [], {*without})
+        own, cut = self.own_functions(), set(without)
+        wanted = {it.function for it in own} if only is None else {*only}
+        roots = [it for it in own if it.function in wanted]
+        kept = self._needed(roots, own if only is None else [], cut)
         for segment in self.unit.segments:
             if id(segment) not in kept:
                 self._blank(segment.first, segment.end)
                 self._count("functions" if segment.is_function else "segments")
         for segment in self.unit.segments:
             if id(segment) in kept:
-                self._mend(segment, segment.function in without)
+                self._mend(segment, segment.function in cut)
         names = [it.function or "" for it in own if id(it) in kept]
         return Filtered(self.sheet.text(), names, self.passed_over, self.counts)
 

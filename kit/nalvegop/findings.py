@@ -115,7 +115,7 @@ class Teller:
 
     def _bits(self, function: Function, report: Report) -> set[str]:
         """Returns all entry bits for which a report of this kind could stand: what differs among them is not named."""
-        rows = next((it.rows for it in function.items if it.what == "state" and it.name == report.about), [])
+        rows = _rows_about(function, report)
         if report.kind == "double":
             return {it.entry for it in rows if sum(one.entry == it.entry and one.after == "!" for one in rows) == len(report.runs)}
         ends = [(it.entry, it.before, it.result) for it in rows if it.after != "!"]
@@ -123,7 +123,7 @@ class Teller:
 
     def _double_rows(self, function: Function, report: Report) -> list[Row]:
         """Returns the error rows of the first entry bits from which each state has one."""
-        rows = next((it.rows for it in function.items if it.what == "state" and it.name == report.about), [])
+        rows = _rows_about(function, report)
         errors = [it for it in rows if it.after == "!"]
         for one in errors:
             same = [it for it in errors if it.entry == one.entry]
@@ -183,8 +183,7 @@ class Teller:
 
     def _ambiguous_rows(self, function: Function, report: Report) -> list[Row]:
         """Returns the first two rows that differ in the state behind alone: those that the report speaks of."""
-        rows = next((it.rows for it in function.items if it.what == "state" and it.name == report.about), [])
-        rows = [it for it in rows if it.after != "!"]
+        rows = [it for it in _rows_about(function, report) if it.after != "!"]
         for one in rows:
             same = [it for it in rows if (it.entry, it.before, it.result) == (one.entry, one.before, one.result)]
             if len(same) > 1:
@@ -248,6 +247,16 @@ class Teller:
             about = names.get((report.at.line, report.at.column), "")
         shape = [[(it.kind, "" if it.kind == "error" else it.word) for it in run.events] for run in report.runs]
         return hashlib.sha256(repr((report.kind, function.name, about, shape)).encode()).hexdigest()[:24]
+
+
+def _rows_about(function: Function, report: Report) -> list[Row]:
+    """Returns the rows of the location that the report speaks of."""
+    found = list[Row]()
+    for it in function.items:
+        if it.what == "state" and it.name == report.about:
+            found = it.rows
+            break
+    return found
 
 
 def _state(name: str | None) -> str:

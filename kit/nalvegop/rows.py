@@ -15,7 +15,7 @@ _ENDS = {"null": "null", "fresh": "new memory", "other": "another pointer", "sam
 
 
 def _word(state: str | None) -> str:
-    return "" if state is None else _STATES.get(state) or _ENDS.get(state, state)
+    return "" if state is None else {**_STATES, **_ENDS}.get(state, state)
 
 
 def _result(row: Row) -> str:

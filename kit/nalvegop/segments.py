@@ -114,7 +114,9 @@ class Unit:
             self._read_function(segment)
         segment.declares = self._declared(segment)
         heads = range(first, segment.body[0] if segment.is_function else end - 1)
-        segment.mentions = frozenset(self.tokens[i + 1].text for i in heads if self.tokens[i].text in _TYPE_HEADS and self.tokens[i + 1].is_word) - segment.declares
+        segment.mentions = (
+            frozenset(self.tokens[i + 1].text for i in heads if self.tokens[i].text in _TYPE_HEADS and self.tokens[i + 1].is_word) - segment.declares
+        )
         return segment
 
     def _read_function(self, segment: Segment) -> None:
@@ -182,7 +184,9 @@ class Unit:
                 at = self._behind_initialiser(at, end)
             elif token.text == "(" and self.partner[at] > at:
                 # `(*name)(..)` declares a name inside of the brackets, `name(..)` does not
-                is_declarator = self.tokens[at + 1].text in ("*", "(", "^") or self.partner[at] + 1 < end and self.tokens[self.partner[at] + 1].text in ("(", "[")
+                is_declarator = (
+                    self.tokens[at + 1].text in ("*", "(", "^") or self.partner[at] + 1 < end and self.tokens[self.partner[at] + 1].text in ("(", "[")
+                )
                 if is_declarator and not segment.is_function:
                     found |= {it.text for it in self.tokens[at : self.partner[at]] if it.is_word and it.text not in KEYWORDS}
                 at = self.partner[at] + 1

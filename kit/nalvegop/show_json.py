@@ -30,7 +30,16 @@ def _file(it: FileResult) -> dict[str, Any]:
 
 def _finding(it: Finding, result: FileResult) -> dict[str, Any]:
     paths = [{"head": path.head, "choice": path.choice, "steps": [{**_place(step.place), "text": step.text} for step in path.steps]} for path in it.paths]
-    return {"kind": it.kind, "function": it.function, **_place(it.place), "message": it.message, "unsure": it.marks, "known_by": it.known_by, "paths": paths, "story": [*story(it, result)]}
+    return {
+        "kind": it.kind,
+        "function": it.function,
+        **_place(it.place),
+        "message": it.message,
+        "unsure": it.marks,
+        "known_by": it.known_by,
+        "paths": paths,
+        "story": [*story(it, result)],
+    }
 
 
 def _place(it: Place) -> dict[str, Any]:

@@ -55,7 +55,9 @@ class _Log:
         return {**made, "codeFlows": flows} if flows else made
 
     def _flow(self, path: Path) -> dict[str, Any]:
-        steps = [{"location": {**self._location(step.place), "message": {"text": step.text}}, "executionOrder": number} for number, step in enumerate(path.steps, 1)]
+        steps = [
+            {"location": {**self._location(step.place), "message": {"text": step.text}}, "executionOrder": number} for number, step in enumerate(path.steps, 1)
+        ]
         flow: dict[str, Any] = {"threadFlows": [{"locations": steps}]}
         return {"message": {"text": path.head}, **flow} if path.head else flow
 

@@ -20,7 +20,8 @@ _LOST = "#include <stdlib.h>\nvoid lost(void)\n{\n\tvoid *p = malloc(1);\n}\n"
 
 class Statuses(unittest.TestCase):
     def test_words(self) -> None:
-        for words in ([], ["check"], ["check", "--depth", "9", "a.c"], ["check", "--format", "xml", "a.c"], ["check", "--update-baseline", "a.c"], ["explain", "a.c"], ["what"]):
+        bad = "", "check", "check --depth 9 a.c", "check --format xml a.c", "check --update-baseline a.c", "explain a.c", "explain 1", "what"
+        for words in (it.split() for it in bad):
             with folder(a__c="int x;\n") as room:
                 said = nalvegop(*words, at=room, checker=program(room, _NOTHING))
                 self.assertEqual((said.returncode, said.stdout), (3, ""), words)
@@ -43,7 +44,12 @@ class Statuses(unittest.TestCase):
             self.assertIn("there is no compiler no-such-cc", said.stderr)
 
     def test_a_program_that_is_refused_memory_or_refuses(self) -> None:
-        for text, why in (("exit 6", "memory was refused"), ('echo "saturn_check: unit.c:1:2: lexical" >&2; exit 2', "unit.c:1:2: lexical"), ("kill -SEGV $$", "signal 11"), ("echo what", "not understood")):
+        for text, why in (
+            ("exit 6", "memory was refused"),
+            ('echo "saturn_check: unit.c:1:2: lexical" >&2; exit 2', "unit.c:1:2: lexical"),
+            ("kill -SEGV $$", "signal 11"),
+            ("echo what", "not understood"),
+        ):
             with folder(a__c="int x;\n") as room:
                 said = nalvegop("check", "a.c", at=room, checker=program(room, text))
                 self.assertEqual(said.returncode, 2, text)
@@ -58,7 +64,9 @@ class Statuses(unittest.TestCase):
             self.assertNotIn("b.c:", said.stderr)
 
     def test_a_database_that_lacks_a_file(self) -> None:
-        with folder(a__c="int x;\n", b__c="int x;\n", compile_commands__json=json.dumps([{"directory": ".", "file": "a.c", "arguments": ["gcc", "a.c"]}])) as room:
+        with folder(
+            a__c="int x;\n", b__c="int x;\n", compile_commands__json=json.dumps([{"directory": ".", "file": "a.c", "arguments": ["gcc", "a.c"]}])
+        ) as room:
             checker = program(room, _NOTHING)
             self.assertEqual(nalvegop("check", "-p", ".", at=room, checker=checker).returncode, 0)
             said = nalvegop("check", "-p", "compile_commands.json", "b.c", at=room, checker=checker)
@@ -107,7 +115,10 @@ class Forms(unittest.TestCase):
         run = log["runs"][0]
         self.assertEqual(log["version"], "2.1.0")
         self.assertEqual(run["results"][0]["locations"][0]["physicalLocation"]["artifactLocation"], {"uri": "a%20b/it%27s.c", "uriBaseId": "SRCROOT"})
-        self.assertEqual(run["results"][0]["codeFlows"][0]["threadFlows"][0]["locations"][1]["location"]["physicalLocation"]["artifactLocation"]["uri"], "file:///usr/include/x.h")
+        self.assertEqual(
+            run["results"][0]["codeFlows"][0]["threadFlows"][0]["locations"][1]["location"]["physicalLocation"]["artifactLocation"]["uri"],
+            "file:///usr/include/x.h",
+        )
         self.assertEqual(run["tool"]["driver"]["rules"][run["results"][0]["ruleIndex"]]["id"], "leak")
         self.assertEqual(len(run["invocations"][0]["toolExecutionNotifications"]), 2)
 
@@ -118,7 +129,8 @@ class Forms(unittest.TestCase):
             self.skipTest("there is no jsonschema")
         with open(os.path.join(KIT, "tests", "sarif-part.schema.json"), encoding="utf-8") as it:
             schema = json.load(it)
-        for results in ([], [self.result()], [FileResult("b.c", failure="why"), self.result()]):
+        cases: list[list[FileResult]] = [[], [self.result()], [FileResult("b.c", failure="why"), self.result()]]
+        for results in cases:
             jsonschema.validate(json.loads(json.dumps(sarif(results, 1))), schema)
 
     @needs_checker

@@ -58,7 +58,10 @@ class Steps(unittest.TestCase):
         self.becomes(text, text)
 
     def test_asserts_and_empty_members(self) -> None:
-        self.becomes('struct s { int a; ; int b; _Static_assert(1, "x"); }; int f(struct s *p) { _Static_assert(1, "y"); return p->a; }', "struct s { int a; int b; }; int f(struct s *p) { return p->a; }")
+        self.becomes(
+            'struct s { int a; ; int b; _Static_assert(1, "x"); }; int f(struct s *p) { _Static_assert(1, "y"); return p->a; }',
+            "struct s { int a; int b; }; int f(struct s *p) { return p->a; }",
+        )
 
     def test_initialisers_at_file_scope(self) -> None:
         self.becomes("static int a = 1, b[2] = { 1, 2 }; int f(void) { return a + b[0]; }", "static int a , b[2] ; int f(void) { return a + b[0]; }")
@@ -91,7 +94,10 @@ class WhatStays(unittest.TestCase):
 
     def test_functions_of_headers_that_are_reached_stay(self) -> None:
         header = "static inline int one(void) { return 1; } static inline int two(void) { return one(); } static inline int three(void) { return 3; }"
-        self.assertEqual(self.kept(header, "int f(void) { return two(); }"), "static inline int one(void) { return 1; } static inline int two(void) { return one(); } int f(void) { return two(); }")
+        self.assertEqual(
+            self.kept(header, "int f(void) { return two(); }"),
+            "static inline int one(void) { return 1; } static inline int two(void) { return one(); } int f(void) { return two(); }",
+        )
 
     def test_a_used_static_function_below_stays(self) -> None:
         own = "static int later(void); int f(void) { return later(); } static int later(void) { return 2; }"
@@ -106,13 +112,19 @@ class WhatStays(unittest.TestCase):
 
     def test_tags_behind_attributes_stay(self) -> None:
         header = "struct __attribute__((packed)) s { int a; } __attribute__((aligned(4))); struct t { struct s s; } t;"
-        self.assertEqual(self.kept(header, "int f(struct s *s) { return s->a; }"), "struct __attribute__((packed)) s { int a; } __attribute__((aligned(4))); int f(struct s *s) { return s->a; }")
+        self.assertEqual(
+            self.kept(header, "int f(struct s *s) { return s->a; }"),
+            "struct __attribute__((packed)) s { int a; } __attribute__((aligned(4))); int f(struct s *s) { return s->a; }",
+        )
 
     def test_a_function_that_the_file_defines_again(self) -> None:
         self.assertEqual(self.kept("extern inline int f(void) { return 1; }", "int f(void) { return 2; }"), "int f(void) { return 2; }")
 
     def test_bodies_of_built_in_names_go(self) -> None:
-        self.assertEqual(self.kept("static inline void spin_lock(int *l) { deep(l); } static inline void deep(int *l) { *l = 1; }", "void f(int *l) { spin_lock(l); }"), "static inline void spin_lock(int *l) ; void f(int *l) { spin_lock(l); }")
+        self.assertEqual(
+            self.kept("static inline void spin_lock(int *l) { deep(l); } static inline void deep(int *l) { *l = 1; }", "void f(int *l) { spin_lock(l); }"),
+            "static inline void spin_lock(int *l) ; void f(int *l) { spin_lock(l); }",
+        )
 
     def test_what_is_left_compiles_as_before(self) -> None:
         source = "#include <stdio.h>\n#include <stdlib.h>\n#include <string.h>\n#include <pthread.h>\n#include <errno.h>\nstatic pthread_mutex_t m;\nint f(const char *s, FILE *o) { pthread_mutex_lock(&m); errno = 0; fprintf(o, s); return strtol(s, NULL, 0) + strlen(s); }\n"
@@ -120,7 +132,14 @@ class WhatStays(unittest.TestCase):
             text = subprocess.run(["gcc", "-E", "unit.c"], cwd=room, capture_output=True, text=True, check=True).stdout
             line_map = LineMap(text, "unit.c", SourceFiles(room))
             made = Filter(text, line_map.is_own).run().text
-            said = subprocess.run(["gcc", "-fpreprocessed", "-fsyntax-only", "-Werror=implicit-function-declaration", "-x", "cpp-output", "-"], input=made, cwd=room, capture_output=True, text=True, check=False)
+            said = subprocess.run(
+                ["gcc", "-fpreprocessed", "-fsyntax-only", "-Werror=implicit-function-declaration", "-x", "cpp-output", "-"],
+                input=made,
+                cwd=room,
+                capture_output=True,
+                text=True,
+                check=False,
+            )
             self.assertEqual((said.returncode, said.stderr.count("error")), (0, 0), said.stderr)
             self.assertLess(len(squeezed(made)), len(squeezed(text)) / 4)
 

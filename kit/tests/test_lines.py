@@ -43,7 +43,9 @@ class Places(unittest.TestCase):
             words = ["-std=gnu89", "source.c"]
             text = subprocess.run([compiler, "-E", *words], cwd=room, capture_output=True, encoding="latin-1", check=True).stdout
             bytes_of = ["-fdiagnostics-column-unit=byte"] if compiler == "gcc" else []
-            said = subprocess.run([compiler, *bytes_of, "-fsyntax-only", "-Wimplicit-function-declaration", *words], cwd=room, capture_output=True, text=True, check=False).stderr
+            said = subprocess.run(
+                [compiler, *bytes_of, "-fsyntax-only", "-Wimplicit-function-declaration", *words], cwd=room, capture_output=True, text=True, check=False
+            ).stderr
             line_map = LineMap(text, "source.c", SourceFiles(room))
             found = {}
             for number, line in enumerate(text.split("\n"), 1):

@@ -45,7 +45,7 @@ class Macros(unittest.TestCase):
 
     def test_the_headers_of_the_c_library_compile(self) -> None:
         source = "#define _GNU_SOURCE\n" + "".join(f"#include <{it}>\n" for it in sorted(os.listdir(os.path.join(MODELS, "libc"))))
-        source += "int f(char *s, FILE *o, void **p) { assert(s); errno = 0; strcpy(s, \"a\"); fprintf(o, \"%s\", s); return posix_memalign(p, 8, 8) + strcmp(s, s) + (asprintf(&s, \"a\") < 0); }\n"
+        source += 'int f(char *s, FILE *o, void **p) { assert(s); errno = 0; strcpy(s, "a"); fprintf(o, "%s", s); return posix_memalign(p, 8, 8) + strcmp(s, s) + (asprintf(&s, "a") < 0); }\n'
         for compiler in ("gcc", "clang"):
             with folder(a__c=source) as room:
                 words = [compiler, "-isystem", os.path.join(MODELS, "libc"), "-fsyntax-only", "-Wall", "-Wno-unused", "a.c"]
@@ -53,7 +53,9 @@ class Macros(unittest.TestCase):
                 self.assertEqual((said.returncode, said.stderr), (0, ""), compiler)
 
     def test_the_header_of_linux_preprocesses_without_a_kernel(self) -> None:
-        said = subprocess.run(["gcc", "-nostdinc", "-I.", "-include", os.path.join(MODELS, "linux.h"), "-E", "-x", "c", os.devnull], capture_output=True, text=True, check=False)
+        said = subprocess.run(
+            ["gcc", "-nostdinc", "-I.", "-include", os.path.join(MODELS, "linux.h"), "-E", "-x", "c", os.devnull], capture_output=True, text=True, check=False
+        )
         self.assertEqual((said.returncode, said.stderr), (0, ""))
 
 

@@ -67,7 +67,11 @@ _ENTER = {
     "bits": 1,
     "items": [
         {"item": "end", "rows": [_row([True], None, "none", None)]},
-        {"item": "state", "path": _path("*lock"), "rows": [_row([True], {"state": "U"}, "none", {"state": "L"}), _row([True], {"state": "L"}, "none", "error")]},
+        {
+            "item": "state",
+            "path": _path("*lock"),
+            "rows": [_row([True], {"state": "U"}, "none", {"state": "L"}), _row([True], {"state": "L"}, "none", "error")],
+        },
     ],
     "writes": [],
     "reports": [],
