@@ -6,13 +6,14 @@ import os
 import time
 from dataclasses import dataclass, field
 
-from .checker import Checker, NotChecked, OutOfTime
+from .checker import Checker, NotChecked, OutOfMemory, OutOfTime
 from .compilations import Compilation
 from .filter import Filter, Filtered
 from .findings import Finding, Step, Teller
 from .lines import LineMap, Place, SourceFiles
 from .noise import Comments
 from .preprocess import Models, NotPreprocessed, fitting_models, preprocessed, width_model
+from .segments import Segment
 from .verdicts import Function, NotVerdicts, Verdicts
 
 # Calls that change a lock or an object: who calls a function with one of them, of which nothing is known, may miss rows.
@@ -82,7 +83,7 @@ class FileCheck:
         name = self.options.models or fitting_models(self.it)
         self.result.models = name
         text = preprocessed(self.it, Models(name, self.options.more_models), self._left())
-        line_map = LineMap(text, self.it.file, self.files)
+        self.line_map = line_map = LineMap(text, self.it.file, self.files)
         model = width_model(self.it)
         self.filter = Filter(text, line_map.is_own)
         filtered = self.filter.run()
@@ -98,43 +99,36 @@ class FileCheck:
         with those that it calls; one that has no answer in time is unknown to the others from there on."""
         try:
             return self.options.checker.check(filtered.text, model, max(self._left() / 3, 1))
-        except OutOfTime:
-            pass
+        except (OutOfTime, OutOfMemory):
+            # (over the text that is left: the raw one is many times as long)
+            one_by_one = Filter(filtered.text, self.line_map.is_own)
+            names = callees_first(one_by_one.own_functions())
+            if not names:
+                raise
         found, late = Verdicts(), list[str]()
-        for name in self._callees_first(filtered.functions):
-            try:
-                if time.monotonic() >= self.end:
-                    raise OutOfTime("the file's time is over")
-                alone = self.filter.run(only=[name], without=late)
-                self.result.passed_over |= alone.passed_over
-                if name in alone.passed_over:
-                    continue
-                verdicts = self.options.checker.check(alone.text, model, min(max(self.options.seconds / 10, 1), self._left()))
+        for number, name in enumerate(names):
+            verdicts = self._alone(one_by_one.run(only=[name], without=late).text, model, len(names) - number)
+            if verdicts:
                 found.functions += [it for it in verdicts.functions if it.name == name]
-            except OutOfTime:
+            else:
                 late.append(name)
         order = {name: number for number, name in enumerate(filtered.functions)}
         found.functions.sort(key=lambda it: order.get(it.name, 0))
         self.result.late = sorted(late, key=lambda it: order.get(it, 0))
         return found
 
-    def _callees_first(self, names: list[str]) -> list[str]:
-        """Returns the functions so that one that is called comes before its callers, where no cycle forbids it."""
-        own = {it.function: it for it in self.filter.own_functions() if it.function}
-        done: dict[str, None] = {}
+    def _alone(self, text: str, model: str, waiting: int) -> Verdicts | None:
+        """Returns the verdicts of a text with one function, or None where there are none in its time or memory."""
+        if time.monotonic() >= self.end:
+            return None
+        try:
+            return self.options.checker.check(text, model, self._share(waiting))
+        except (OutOfTime, OutOfMemory):
+            return None
 
-        def visit(name: str, above: frozenset[str]) -> None:
-            if name in done or name in above:
-                return
-            for other in names:
-                if other in own[name].names and other != name:
-                    visit(other, above | {name})
-            done[name] = None
-
-        for name in names:
-            if name in own:
-                visit(name, frozenset())
-        return [*done]
+    def _share(self, waiting: int) -> float:
+        """Returns the seconds for the next of so many functions: most need little, so it may take twice its part."""
+        return min(self._left(), max(self.options.seconds / 10, 1), max(2 * self._left() / waiting, 0.5))
 
     # ---- in the source's places
 
@@ -182,6 +176,24 @@ class FileCheck:
         for path in finding.paths:
             path.steps = [Step(self._shown(step.place), step.text) for step in path.steps]
         return finding
+
+
+def callees_first(functions: list[Segment]) -> list[str]:
+    """Returns the names of functions so that one that is called comes before its callers, where no cycle forbids it."""
+    own = {it.function: it for it in functions if it.function}
+    calls = {name: [it for it in own if it in one.names and it != name] for name, one in own.items()}
+    done, entered = dict[str, None](), set[str]()
+    for first in own:
+        work = [first]
+        while work:
+            name = work[-1]
+            waiting = [] if name in done else [it for it in calls[name] if it not in entered and it not in done]
+            entered.add(name)
+            if waiting:
+                work.append(waiting[0])
+            else:
+                done[work.pop()] = None
+    return [*done]
 
 
 def shown(folder: str, name: str) -> str:

@@ -25,6 +25,10 @@ class OutOfTime(NotChecked):
     """The program was ended, since its time was over."""
 
 
+class OutOfMemory(NotChecked):
+    """The program was refused memory."""
+
+
 def find_program(is_unproved: bool) -> str:
     """Returns the path of `saturn_check`; where it is not built, bin/saturn_check builds it first, and says so."""
     if os.environ.get(PROGRAM):
@@ -68,6 +72,8 @@ class Checker:
             is_json = writes_json(self.program)
             words += ["--format", "json"] if is_json else []
             said = _ran([*words, "unit.c"], room, seconds)
+        if said.returncode == 6:
+            raise OutOfMemory("memory was refused")
         if said.returncode not in (0, 1):
             raise NotChecked(_why(said))
         return (read_json if is_json else read_text)(said.stdout.decode("latin-1"))
@@ -85,8 +91,6 @@ def _ran(words: Sequence[str], folder: str, seconds: float) -> subprocess.Comple
 def _why(said: subprocess.CompletedProcess[bytes]) -> str:
     lines = [it for it in said.stderr.decode(errors="replace").splitlines() if it.startswith("saturn_check: ")]
     text = lines[-1].removeprefix("saturn_check: ") if lines else ""
-    if said.returncode == 6:
-        return "memory was refused"
     if said.returncode < 0:
         return f"saturn_check was ended by signal {-said.returncode}"
     return text or f"saturn_check ended with status {said.returncode}"

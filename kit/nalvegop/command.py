@@ -6,13 +6,14 @@ import argparse
 import io
 import json
 import os
+import signal
 import sys
 from collections.abc import Iterable, Iterator
-from concurrent.futures import ThreadPoolExecutor
 from typing import NoReturn, TextIO
 
 from . import VERSION
 from .check import FileResult, Options, check_file
+from .side_by_side import checked_files, stop
 from .checker import Checker, NotChecked, find_program
 from .compilations import BadDatabase, Compilation, chosen, of_flags, read_database
 from .findings import KINDS
@@ -25,7 +26,7 @@ from .show_json import as_json
 from .show_sarif import sarif
 from .totals import summary
 
-CLEAN, FOUND, NOT_ALL, WORDS = 0, 1, 2, 3
+CLEAN, FOUND, NOT_ALL, WORDS, INTERRUPTED = 0, 1, 2, 3, 130
 _STATUSES = (
     "status: 0 nothing found; 1 findings; 2 some file, or some function in time, was not analysed, with findings or without; 3 the words are not of this form"
 )
@@ -121,6 +122,7 @@ def main(words: list[str]) -> int:
     cut = words.index("--") if "--" in words else len(words)
     flags = words[cut + 1 :]
     it = parser().parse_args(words[:cut])
+    signal.signal(signal.SIGTERM, stop)
     try:
         if it.verb == "check":
             return _check(it, flags)
@@ -129,7 +131,7 @@ def main(words: list[str]) -> int:
         print(f"nalvegop: {trouble}", file=sys.stderr)
         return trouble.status
     except KeyboardInterrupt:
-        return 130
+        return INTERRUPTED
 
 
 # ---- check
@@ -185,11 +187,10 @@ def _results(compilations: list[Compilation], options: Options, jobs: int) -> li
     """Checks the files, some at a time, and keeps their order. A line on the terminal says how many are done."""
     is_shown = sys.stderr.isatty() and len(compilations) > 1
     found = list[FileResult]()
-    with ThreadPoolExecutor(jobs) as pool:
-        for result in pool.map(lambda it: check_file(it, options), compilations):
-            found.append(result)
-            if is_shown:
-                print(f"\rnalvegop: {len(found)} of {len(compilations)} files", end="", file=sys.stderr, flush=True)
+    for result in checked_files(compilations, options, jobs):
+        found.append(result)
+        if is_shown:
+            print(f"\rnalvegop: {len(found)} of {len(compilations)} files", end="", file=sys.stderr, flush=True)
     if is_shown:
         print("\r\033[K", end="", file=sys.stderr)
     return found

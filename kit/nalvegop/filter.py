@@ -1,8 +1,9 @@
 """Makes a preprocessed file fit for the checker, by spaces in place of what its own functions do not need.
 
-No byte moves, so every line and column stays. Each step keeps the meaning of the functions that are left, or says here
-what it loses; docs/MODELS.md has them as a table. A function whose meaning would be lost, since it has something that
-runs at the end of a scope, is *passed over*: its body becomes a `;`, and its name is given with the reason.
+Nothing moves, so every line and column stays; only blanks at the ends of lines go. Each step keeps the meaning of the
+functions that are left, or says here what it loses; docs/MODELS.md has them as a table. A function whose meaning would
+be lost, since it has something that runs at the end of a scope, is *passed over*: its body becomes a `;`, and its name is
+given with the reason.
 """
 
 from __future__ import annotations
@@ -79,7 +80,7 @@ class Filter:
             if id(segment) in kept:
                 self._mend(segment, segment.function in cut)
         names = [it.function or "" for it in own if id(it) in kept]
-        return Filtered(self.sheet.text(), names, self.passed_over, self.counts)
+        return Filtered(_without_ends(self.sheet.text()), names, self.passed_over, self.counts)
 
     def _needed(self, roots: list[Segment], own: list[Segment], without: set[str]) -> set[int]:
         """Returns the segments that the roots need, by names and transitively, with what the file itself declares."""
@@ -325,23 +326,23 @@ class Filter:
 
     def _is_left_early(self, opening: int, closing: int) -> bool:
         """Returns whether a break or continue between these braces belongs to the loop whose body they are."""
-        return any(
-            self.tokens[at].text in ("break", "continue") and not self._has_own_loop(at, opening, self.tokens[at].text == "break")
-            for at in range(opening + 1, closing)
-        )
-
-    def _has_own_loop(self, at: int, opening: int, is_break: bool) -> bool:
-        """Returns whether a loop, or for a break a switch, inside of the braces has this statement in its own braces."""
-        for i in range(opening + 1, at):
-            if self.tokens[i].text == "{" and self.partner[i] > at:
-                before = i - 1
-                if self.tokens[before].text == "do":
-                    return True
-                if self.tokens[before].text == ")":
-                    word = self.tokens[self.partner[before] - 1].text
-                    if word in ("for", "while") or is_break and word == "switch":
-                        return True
+        loop_end = switch_end = opening
+        for at in range(opening + 1, closing):
+            text = self.tokens[at].text
+            if text == "{":
+                head = self._head(at)
+                loop_end = max(loop_end, self.partner[at]) if head in _LOOPS else loop_end
+                switch_end = max(switch_end, self.partner[at]) if head == "switch" else switch_end
+            elif text == "continue" and at > loop_end or text == "break" and at > max(loop_end, switch_end):
+                return True
         return False
+
+    def _head(self, brace: int) -> str:
+        """Returns the word of the statement whose body begins with this brace, as `do` or `while`."""
+        before = brace - 1
+        if self.tokens[before].text == ")" and self.partner[before] > 0:
+            before = self.partner[before] - 1
+        return self.tokens[before].text
 
     def _statement_expressions(self, first: int, end: int) -> None:
         """`({ S });` as a whole statement becomes `{ S }`; `({ E1; E2; })` of expressions alone becomes `( E1, E2 )`."""
@@ -399,6 +400,11 @@ class Filter:
 
     def _count(self, step: str) -> None:
         self.counts[step] = self.counts.get(step, 0) + 1
+
+
+def _without_ends(text: str) -> str:
+    """Returns a text without the blanks at the ends of its lines: what is left stays at its line and column."""
+    return "\n".join(it.rstrip(" \t") for it in text.split("\n"))
 
 
 class _LineIndex:

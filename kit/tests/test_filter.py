@@ -4,10 +4,13 @@ from __future__ import annotations
 
 import re
 import subprocess
+import time
 import unittest
+from collections.abc import Callable
 
 from nalvegop.filter import Filter, Filtered
 from nalvegop.lines import LineMap, SourceFiles
+from nalvegop.tokens import tokens_of
 from tests.support import folder
 
 
@@ -21,11 +24,23 @@ def squeezed(text: str) -> str:
     return re.sub(r"\s+", " ", text).strip()
 
 
+# What the filter writes in place of something else.
+_WRITTEN = {",", ")", ";", "sizeof", '""', "abort"}
+
+
+def moved(made: str, before: str) -> list[str]:
+    """Returns the tokens that do not stand where they stood."""
+    if made.count("\n") != before.count("\n"):
+        return ["line feeds"]
+    lines = [*zip(made.split("\n"), before.split("\n"))]
+    return [it.text for new, old in lines for it in tokens_of(new) if not old.startswith(it.text, it.start) and it.text not in _WRITTEN]
+
+
 class Steps(unittest.TestCase):
     def becomes(self, before: str, after: str) -> None:
         made = filtered(before).text
         self.assertEqual(squeezed(made), after)
-        self.assertEqual([len(it) for it in made.split("\n")], [len(it) for it in before.split("\n")])
+        self.assertEqual(moved(made, before), [])
 
     def test_old_parameters(self) -> None:
         self.becomes("int f(a, b)\n int a;\n char *b;\n{ return a; }", "int f( int a, char *b) { return a; }")
@@ -141,7 +156,41 @@ class WhatStays(unittest.TestCase):
                 check=False,
             )
             self.assertEqual((said.returncode, said.stderr.count("error")), (0, 0), said.stderr)
+            self.assertEqual(moved(made, text), [])
             self.assertLess(len(squeezed(made)), len(squeezed(text)) / 4)
+
+
+class Time(unittest.TestCase):
+    """Four times the text takes four times as long, and not sixteen times."""
+
+    def seconds(self, text: str) -> float:
+        begun = time.process_time()
+        filtered(text)
+        return time.process_time() - begun
+
+    def test_it_is_linear(self) -> None:
+        shapes = [
+            "static int f%d(struct s *p) { do { if (p->a) { g(p); } } while (0); return ({ g(p); p->a; }); }\n",
+            "typedef struct { int a, b[2]; } t%d;\n",
+            "int old%d(a, b) int a; char *b; { return a; }\n",
+            'extern int v%d __asm__("w");      \n\n',
+        ]
+        for shape in shapes:
+            self.is_linear(lambda count: "".join(shape % number for number in range(count)), 400)
+        for block in (
+            "if (a) break; ",
+            "do { if (a) continue; } while (0); ",
+            "while (a) { switch (a) { case 1: break; } } ",
+            "while (a) { break; } ",
+            "({ g(a); a; }); ",
+        ):
+            self.is_linear(lambda count: f"void f(int a) {{ do {{ {block * count} }} while (0); }}", 400)
+        self.is_linear(lambda count: f"int a; {' ' * 100 * count} int b;\n", 1_000)
+
+    def is_linear(self, text: Callable[[int], str], count: int) -> None:
+        small, large = text(count), text(4 * count)
+        times = [(min(self.seconds(small) for _ in range(3)), self.seconds(large)) for _ in range(2)]
+        self.assertLess(min(one / max(other, 0.005) for other, one in times), 9, small[:100])
 
 
 class PassedOver(unittest.TestCase):
