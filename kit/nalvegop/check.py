@@ -13,8 +13,9 @@ from .findings import Finding, Step, Teller
 from .lines import LineMap, Place, SourceFiles
 from .noise import Comments
 from .preprocess import Models, NotPreprocessed, fitting_models, preprocessed, width_model
+from .reasons import Reason, words_of
 from .segments import Segment
-from .verdicts import Function, NotVerdicts, Verdicts
+from .verdicts import At, Function, NotVerdicts, Verdicts
 
 # Calls that change a lock or an object: who calls a function with one of them, of which nothing is known, may miss rows.
 _EFFECTS = {
@@ -47,7 +48,7 @@ class FileResult:
     hidden: int = 0
     functions: list[Function] = field(default_factory=list)
     places: dict[str, Place] = field(default_factory=dict)
-    passed_over: dict[str, str] = field(default_factory=dict)
+    passed_over: dict[str, Reason] = field(default_factory=dict)
     late: list[str] = field(default_factory=list)
     warnings: list[str] = field(default_factory=list)
     text: str = ""
@@ -88,7 +89,7 @@ class FileCheck:
         self.filter = Filter(text, line_map.is_own)
         filtered = self.filter.run()
         self.result.text = filtered.text
-        self.result.passed_over = dict(filtered.passed_over)
+        self.result.passed_over = {name: Reason(why, self._place(at)) for name, (why, at) in filtered.passed_over.items()}
         verdicts = self._verdicts(filtered, model)
         self._tell(verdicts, Teller(text, line_map, self.files, self.options.checker.machine, verdicts.functions), line_map)
 
@@ -144,7 +145,8 @@ class FileCheck:
             place = teller.place(function.at)
             self.result.places[function.name] = self._shown(place)
             if function.skip:
-                self.result.passed_over[function.name] = str(function.skip)
+                at = function.skip.at
+                self.result.passed_over[function.name] = Reason(words_of(function.skip), self._shown(teller.place(at)) if at else None)
             names = segments[function.name].names if function.name in segments else frozenset[str]()
             for report in function.reports:
                 finding = teller.finding(function, report)
@@ -167,6 +169,9 @@ class FileCheck:
                 self.result.warnings.append(
                     f"'{function.name}' calls '{name}', of which nothing is known: what it does to locks and memory is not in the answer"
                 )
+
+    def _place(self, at: At) -> Place:
+        return self._shown(self.line_map.place(at.line, at.column))
 
     def _shown(self, place: Place) -> Place:
         return Place(shown(self.it.folder, place.file), place.line, place.column)

@@ -227,7 +227,7 @@ def _name_failures(results: list[FileResult], is_verbose: bool) -> None:
             print(f"nalvegop: {it.file}: no answer in time: {', '.join(it.late)}", file=sys.stderr)
         if is_verbose:
             for name, why in it.passed_over.items():
-                print(f"nalvegop: {it.places.get(name, it.file)}: '{name}' is passed over: {why}", file=sys.stderr)
+                print(f"nalvegop: {why.place or it.places.get(name) or it.file}: '{name}' is passed over: {why.text}", file=sys.stderr)
             for text in it.warnings:
                 print(f"nalvegop: {it.file}: {text}", file=sys.stderr)
 

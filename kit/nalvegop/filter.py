@@ -15,6 +15,7 @@ from itertools import accumulate
 
 from .segments import KEYWORDS, Segment, Unit
 from .tokens import Sheet, Token, tokens_of
+from .verdicts import At
 
 _ASM = {"asm", "__asm", "__asm__"}
 _TYPEOF = {"typeof", "__typeof", "__typeof__"}
@@ -35,7 +36,7 @@ class Filtered:
 
     text: str
     functions: list[str] = field(default_factory=list)
-    passed_over: dict[str, str] = field(default_factory=dict)
+    passed_over: dict[str, tuple[str, At]] = field(default_factory=dict)
     counts: dict[str, int] = field(default_factory=dict)
 
 
@@ -54,7 +55,7 @@ class Filter:
         self._lines = _LineIndex(text)
         self._is_own = is_own
         self.counts: dict[str, int] = {}
-        self.passed_over: dict[str, str] = {}
+        self.passed_over: dict[str, tuple[str, At]] = {}
 
     # ---- what is left
 
@@ -142,17 +143,21 @@ class Filter:
         self._blank(opening, closing + 1)
         self.sheet.put(self.tokens[opening].start, ";")
 
-    def _cleanup(self, segment: Segment) -> str | None:
-        """Returns why the function is passed over: something of it runs at the end of a scope, which no text shows."""
+    def _cleanup(self, segment: Segment) -> tuple[str, At] | None:
+        """Returns why and where the function is passed over: something of it runs at the end of a scope, which no text
+        shows."""
         for at in range(segment.body[0], segment.end):
             text = self.tokens[at].text
-            if text in ("__attribute__", "__attribute") and self.tokens[at + 1].text == "(":
-                inside = self.tokens[at + 2 : self.partner[at + 1]]
-                if any(it.text in ("cleanup", "__cleanup__") for it in inside):
-                    return "cleanup"
+            behind = self.tokens[at + 1].text if at + 1 < segment.end else ""
+            is_attribute = text in ("__attribute__", "__attribute") and behind == "(" or text == "[" and behind == "["
+            if is_attribute and any(it.text in ("cleanup", "__cleanup__") for it in self.tokens[at + 2 : self.partner[at + 1]]):
+                return "cleanup", self._at(at)
             if text == CLEANUP_CALL:
-                return "pthread_cleanup_push"
+                return "pthread_cleanup_push", self._at(at)
         return None
+
+    def _at(self, at: int) -> At:
+        return self._lines.at(self.tokens[at].start)
 
     def _words(self, first: int, end: int) -> None:
         """Brings words of gcc to what C11 has: each keeps the meaning for the checker."""
@@ -416,3 +421,7 @@ class _LineIndex:
 
     def line(self, at: int) -> int:
         return bisect_right(self._starts, at)
+
+    def at(self, at: int) -> At:
+        line = self.line(at)
+        return At(line, at - self._starts[line - 1] + 1)

@@ -41,7 +41,9 @@ def _parts(results: list[FileResult], files: SourceFiles, status: int) -> Iterat
     for number, _, it in numbered:
         yield from _finding(number, it, files)
     for result in results:
-        rest = [f"{name}: {why}" for name, why in result.passed_over.items()] + [f"{name}: no answer in time" for name in result.late]
+        rest = [f"{why.place or result.file}: {name} is passed over: {why.text}" for name, why in result.passed_over.items()] + [
+            f"{name}: no answer in time" for name in result.late
+        ]
         if result.failure or rest:
             yield f"<h2>{escape(result.file)}: what was not analysed</h2>\n"
             yield f"<p>{escape(result.failure)}</p>\n" if result.failure else "<p>" + "<br>".join(map(escape, rest)) + "</p>\n"

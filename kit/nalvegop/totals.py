@@ -14,7 +14,7 @@ def _some(count: int, word: str) -> str:
 def summary(results: list[FileResult], known: int = 0) -> str:
     """Returns the line."""
     analysed = sum(len(it.analysed) for it in results)
-    reasons = Counter(why for it in results for why in it.passed_over.values())
+    reasons = Counter(why.text for it in results for why in it.passed_over.values())
     late = sum(len(it.late) for it in results)
     failed = sum(it.failure is not None for it in results)
     hidden = sum(it.hidden for it in results)

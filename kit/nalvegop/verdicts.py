@@ -31,9 +31,6 @@ class Skip:
     at: At | None = None
     count: int | None = None
 
-    def __str__(self) -> str:
-        return " ".join(it for it in (self.reason if self.reason in ("grammar", "limit") else "", self.kind) if it) or self.reason
-
 
 @dataclass(frozen=True)
 class Row:

@@ -13,8 +13,17 @@ from tests.support import folder
 
 class Flags(unittest.TestCase):
     def test_output_warnings_and_dependencies_go(self) -> None:
-        words = "-c -o x.o -Wall -Werror=format -g3 -MD -MF x.d -MT x.o -save-temps -pipe a.c b.o -lm -L /lib -Wl,-z,now".split()
+        words = "-c -o x.o -Wall -Werror=format -g3 -MD -MF x.d -MT x.o -MFy.d -MQy -Wp,-MMD,z.d -save-temps -pipe a.c b.o -lm -L /lib -Wl,-z,now -u f".split()
         self.assertEqual(kept_flags(words), [])
+
+    def test_words_in_a_file(self) -> None:
+        with folder(more__rsp="-DA='b c' -o x.o @other.rsp", other__rsp="-DB @more.rsp", a__c="int x;\n") as room:
+            database = json.dumps([{"directory": room, "file": "a.c", "arguments": ["gcc", "@more.rsp", "@missing", "a.c"]}])
+            with open(os.path.join(room, "db.json"), "w", encoding="utf-8") as it:
+                it.write(database)
+            flags = read_database(os.path.join(room, "db.json"))[0].flags
+            self.assertEqual(flags[:3], ("-DA=b c", "-DB", "-DA=b c"))
+            self.assertEqual({*flags}, {"-DA=b c", "-DB"})
 
     def test_what_changes_the_text_stays(self) -> None:
         words = [

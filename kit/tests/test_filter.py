@@ -11,6 +11,7 @@ from collections.abc import Callable
 from nalvegop.filter import Filter, Filtered
 from nalvegop.lines import LineMap, SourceFiles
 from nalvegop.tokens import tokens_of
+from nalvegop.verdicts import At
 from tests.support import folder
 
 
@@ -196,12 +197,16 @@ class Time(unittest.TestCase):
 class PassedOver(unittest.TestCase):
     def test_cleanup(self) -> None:
         made = filtered("void f(void) { int *p __attribute__((cleanup(g))) = 0; }\nvoid h(void) { f(); }")
-        self.assertEqual(made.passed_over, {"f": "cleanup"})
+        self.assertEqual(made.passed_over, {"f": ("cleanup", At(1, 23))})
         self.assertEqual(squeezed(made.text), "void f(void) ; void h(void) { f(); }")
 
     def test_a_call_of_the_model_of_cleanup_push(self) -> None:
         made = filtered("void f(void) { nalvegop_cleanup_push((g), (p)); }")
-        self.assertEqual(made.passed_over, {"f": "pthread_cleanup_push"})
+        self.assertEqual(made.passed_over, {"f": ("pthread_cleanup_push", At(1, 16))})
+
+    def test_cleanup_as_an_attribute_of_c23(self) -> None:
+        self.assertEqual([*filtered("void f(void) { [[gnu::cleanup(g)]] int *p = 0; int a[b[0]]; }").passed_over], ["f"])
+        self.assertEqual([*filtered("int b[2]; int f(int cleanup, int *a) { return a[b[cleanup]]; }").passed_over], [])
 
     def test_other_attributes_do_not_count(self) -> None:
         self.assertEqual(filtered("void f(void) { int cleanup __attribute__((unused)) = 0; }").passed_over, {})
