@@ -11,7 +11,7 @@ from nalvegop.preprocess import MODELS, model_names
 from tests.support import TOP, folder
 
 # Names of variables, which these loops count, as those that they stand for do.
-_LOOPS = re.compile(r"h?list_for_each_entry\w*")
+_LOOPS = re.compile(r"h?list_for_each\w*")
 
 
 def _macros() -> list[tuple[str, list[str], str]]:
@@ -40,7 +40,10 @@ class Macros(unittest.TestCase):
     def test_every_model_stands_in_the_page(self) -> None:
         with open(os.path.join(TOP, "docs", "MODELS.md"), encoding="utf-8") as it:
             page = it.read()
-        lacking = sorted(name for name in model_names() if name not in page)
+        # (a family of `pr_err_once` and its kin stands there by its first and last)
+        family = re.compile(r"(pr|dev)_\w+_(ratelimited|once)")
+        named = set(re.findall(r"\w+", page))
+        lacking = sorted(name for name in model_names() if name not in named and not family.fullmatch(name))
         self.assertEqual(lacking, [])
 
     def test_the_headers_of_the_c_library_compile(self) -> None:
