@@ -922,6 +922,29 @@ static inline void nalvegop_give_and_take(spinlock_t *lock)
 #define strlcpy(...) ((void)(__VA_ARGS__), nalvegop_ulong())
 #define strlcat(...) ((void)(__VA_ARGS__), nalvegop_ulong())
 
+/* A machine works on the object behind an operation's first argument. These calls have none, and get one. */
+#ifdef NALVEGOP_MACHINE
+extern struct nalvegop_cpu { int state; } nalvegop_cpu;
+void nalvegop_irq_disable(struct nalvegop_cpu *cpu);
+void nalvegop_irq_enable(struct nalvegop_cpu *cpu);
+void nalvegop_preempt_disable(struct nalvegop_cpu *cpu);
+void nalvegop_preempt_enable(struct nalvegop_cpu *cpu);
+void nalvegop_rcu_lock(struct nalvegop_cpu *cpu);
+void nalvegop_rcu_unlock(struct nalvegop_cpu *cpu);
+#undef local_irq_disable
+#undef local_irq_enable
+#undef preempt_disable
+#undef preempt_enable
+#undef rcu_read_lock
+#undef rcu_read_unlock
+#define local_irq_disable() nalvegop_irq_disable(&nalvegop_cpu)
+#define local_irq_enable() nalvegop_irq_enable(&nalvegop_cpu)
+#define preempt_disable() nalvegop_preempt_disable(&nalvegop_cpu)
+#define preempt_enable() nalvegop_preempt_enable(&nalvegop_cpu)
+#define rcu_read_lock() nalvegop_rcu_lock(&nalvegop_cpu)
+#define rcu_read_unlock() nalvegop_rcu_unlock(&nalvegop_cpu)
+#endif
+
 /* What stands at file scope and says nothing of a run. */
 #undef module_init
 #undef module_exit

@@ -11,6 +11,7 @@ from .compilations import Compilation
 from .filter import Filter, Filtered
 from .findings import Finding, Step, Teller
 from .lines import LineMap, Place, SourceFiles
+from .machines import operations
 from .noise import Comments
 from .preprocess import Models, NotPreprocessed, fitting_models, preprocessed, width_model
 from .reasons import Reason, words_of
@@ -83,10 +84,12 @@ class FileCheck:
     def _run(self) -> None:
         name = self.options.models or fitting_models(self.it)
         self.result.models = name
-        text = preprocessed(self.it, Models(name, self.options.more_models), self._left())
+        machine = self.options.checker.machine
+        text = preprocessed(self.it, Models(name, self.options.more_models, machine is not None), self._left())
         self.line_map = line_map = LineMap(text, self.it.file, self.files)
         model = width_model(self.it)
-        self.filter = Filter(text, line_map.is_own)
+        self.operations = operations(machine) if machine else frozenset[str]()
+        self.filter = Filter(text, line_map.is_own, self.operations)
         filtered = self.filter.run()
         self.result.text = filtered.text
         self.result.passed_over = {name: Reason(why, self._place(at)) for name, (why, at) in filtered.passed_over.items()}
@@ -102,7 +105,7 @@ class FileCheck:
             return self.options.checker.check(filtered.text, model, max(self._left() / 3, 1))
         except (OutOfTime, OutOfMemory):
             # (over the text that is left: the raw one is many times as long)
-            one_by_one = Filter(filtered.text, self.line_map.is_own)
+            one_by_one = Filter(filtered.text, self.line_map.is_own, self.operations)
             names = callees_first(one_by_one.own_functions())
             if not names:
                 raise

@@ -18,6 +18,7 @@ from .checker import Checker, NotChecked, find_program
 from .compilations import BadDatabase, Compilation, chosen, of_flags, read_database
 from .findings import KINDS
 from .lines import SourceFiles
+from .machines import find_machine
 from .noise import BadBaseline, Baseline
 from .rows import rows_text, story
 from .show_gcc import lines_of
@@ -27,6 +28,8 @@ from .show_sarif import sarif
 from .totals import summary
 
 CLEAN, FOUND, NOT_ALL, WORDS, INTERRUPTED = 0, 1, 2, 3, 130
+# How many of the functions without an answer are named, if not all are to be.
+_SHOWN_NAMES = 5
 _STATUSES = (
     "status: 0 nothing found; 1 findings; 2 some file, or some function in time, was not analysed, with findings or without; 3 the words are not of this form"
 )
@@ -76,7 +79,9 @@ def _common(it: argparse.ArgumentParser) -> None:
     it.add_argument("--seconds", type=_number(1, 86_400), default=60, help="the time that a file may take (60)")
     it.add_argument("--models", choices=("linux", "libc", "none"), help="macros that stand for a library's; by default what fits the file's includes")
     it.add_argument("--model", action="append", default=[], metavar="FILE", help="a header of your own to put in front; may be given again")
-    it.add_argument("--machine", metavar="FILE", help="states and operations in place of locks")
+    it.add_argument(
+        "--machine", metavar="FILE|NAME", help="states and operations in place of locks; irq, preempt, rcu, file_handle and others come with the kit"
+    )
     it.add_argument("--depth", type=_number(1, 8), default=2, help="turns of a loop (2)")
     it.add_argument("--reach", type=_number(1, 4), default=2, help="pointers that lead to objects at entry (2)")
     it.add_argument("--headers", action="store_true", help="show functions of headers too")
@@ -156,13 +161,14 @@ def _check(it: argparse.Namespace, flags: list[str]) -> int:
 
 
 def _options(it: argparse.Namespace) -> Options:
+    machine = find_machine(it.machine) if it.machine else None
+    lacking = [*([it.machine] if it.machine and not machine else []), *(name for name in it.model if not os.path.isfile(name))]
+    if lacking:
+        raise Trouble(f"{lacking[0]}: there is no such file", NOT_ALL)
     try:
-        checker = Checker(find_program(it.unproved), it.depth, it.reach, it.machine)
+        checker = Checker(find_program(it.unproved), it.depth, it.reach, machine)
     except NotChecked as why:
         raise Trouble(str(why), NOT_ALL) from why
-    for name in [*it.model, *([it.machine] if it.machine else [])]:
-        if not os.path.isfile(name):
-            raise Trouble(f"{name}: there is no such file", NOT_ALL)
     return Options(checker, it.seconds, it.models, tuple(it.model), it.headers)
 
 
@@ -224,12 +230,19 @@ def _name_failures(results: list[FileResult], is_verbose: bool) -> None:
         if it.failure:
             print(f"nalvegop: {it.file}: not analysed: {it.failure}", file=sys.stderr)
         if it.late:
-            print(f"nalvegop: {it.file}: no answer in time: {', '.join(it.late)}", file=sys.stderr)
+            print(f"nalvegop: {it.file}: no answer in time: {_listed(it.late, is_verbose)}", file=sys.stderr)
         if is_verbose:
             for name, why in it.passed_over.items():
                 print(f"nalvegop: {why.place or it.places.get(name) or it.file}: '{name}' is passed over: {why.text}", file=sys.stderr)
             for text in it.warnings:
                 print(f"nalvegop: {it.file}: {text}", file=sys.stderr)
+
+
+def _listed(names: list[str], is_verbose: bool) -> str:
+    """Returns the names, or where there are many the first of them and how many more there are."""
+    shown = names if is_verbose or len(names) <= _SHOWN_NAMES + 1 else names[:_SHOWN_NAMES]
+    more = f" and {len(names) - len(shown)} more (--verbose names all)" if len(shown) < len(names) else ""
+    return ", ".join(shown) + more
 
 
 def _status(results: list[FileResult], is_strict: bool) -> int:
@@ -294,9 +307,10 @@ def _explain(it: argparse.Namespace, flags: list[str]) -> int:
         raise Trouble("the place is FILE:LINE", WORDS)
     result = _one_file(it, name, flags)
     found = [one for one in result.findings if one.place.line == int(line) and os.path.realpath(one.place.file) == os.path.realpath(name)]
+    _name_failures([result], False)
     if not found:
         print(f"nalvegop: there is no finding at {it.place}", file=sys.stderr)
-        return CLEAN
+        return _status([result], False) if result.late else CLEAN
     _print(text for one in found for text in story(one, result))
     return FOUND
 

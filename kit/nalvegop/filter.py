@@ -46,8 +46,10 @@ IsOwn = Callable[[int], bool]
 class Filter:
     """One run of the filter over a text. `is_own` says of a line whether it stands in the file itself."""
 
-    def __init__(self, text: str, is_own: IsOwn) -> None:
+    def __init__(self, text: str, is_own: IsOwn, operations: frozenset[str] = frozenset()) -> None:
+        """`operations`: those of a machine, which have a meaning of their own as the built-in names have."""
         self._text = text
+        self._fixed = BUILT_IN | operations
         self.sheet = Sheet(text)
         self.tokens = [*tokens_of(text)]
         self.unit = Unit(self.tokens)
@@ -102,7 +104,7 @@ class Filter:
             if id(segment) in kept:
                 continue
             kept.add(id(segment))
-            is_cut = segment.function in without or segment.function in BUILT_IN
+            is_cut = segment.function in without or segment.function in self._fixed
             names = self._head_names(segment) if is_cut and id(segment) not in keeps_whole else segment.names
             for name in names:
                 work += [it for it in by_name.get(name, []) if id(it) not in kept]
@@ -127,7 +129,7 @@ class Filter:
         why = self._cleanup(segment)
         if why and segment.function:
             self.passed_over[segment.function] = why
-        is_fixed = segment.function in BUILT_IN and not self._is_own(self._line(segment.name_at))
+        is_fixed = segment.function in self._fixed and not self._is_own(self._line(segment.name_at))
         if why or is_without or is_fixed:
             self._to_prototype(segment)
             return
@@ -184,7 +186,15 @@ class Filter:
             elif token.text == "__builtin_unreachable":
                 self._put(token, "abort")
                 self._count("unreachable")
+            elif token.text == "[" and behind == "[" and self.partner[at] == self.partner[at + 1] + 1 and self._begins_attribute(at):
+                self._blank(at, self.partner[at] + 1)
+                self._count("attributes")
             at += 1
+
+    def _begins_attribute(self, at: int) -> bool:
+        """Returns whether `[[` begins an attribute of C23, and no index: one stands behind a name or a bracket."""
+        before = self.tokens[at - 1] if at else None
+        return before is None or before.text in (";", "{", "}", ":", ",", "(", "struct", "union", "enum")
 
     def _is_plain_type(self, first: int, end: int) -> bool:
         """Returns whether these tokens are a type without names other than a tag: words of types, a tag, then `*`."""

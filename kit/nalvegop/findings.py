@@ -18,6 +18,8 @@ KINDS = {
     "inner": "an operation on a lock that callers do not know is an error, for example of a local one",
     "leak": "memory that was allocated is neither freed, nor given to anyone, when the function ends",
 }
+# The object that models/linux.h gives to operations without an argument.
+PROCESSOR = "nalvegop_cpu"
 _LOCKS = {"spin_lock", "mutex_lock", "pthread_mutex_lock"}
 _UNLOCKS = {"spin_unlock", "mutex_unlock", "pthread_mutex_unlock"}
 
@@ -57,7 +59,7 @@ class Finding:
 
 def pretty(text: str) -> str:
     """Returns the location's text as C has it: `(*p).m` is `p->m`."""
-    return re.sub(r"\(\*([A-Za-z_]\w*)\)\.", r"\1->", text)
+    return "the processor" if text == PROCESSOR else re.sub(r"\(\*([A-Za-z_]\w*)\)\.", r"\1->", text)
 
 
 class Teller:
@@ -135,7 +137,7 @@ class Teller:
         """Returns a location in quotes; an object that a call gave has the place of that call."""
         found = re.search(r"call@(\d+):(\d+)", about)
         if not found:
-            return f"'{pretty(about)}'"
+            return pretty(about) if about == PROCESSOR else f"'{pretty(about)}'"
         place = self.place(At(int(found[1]), int(found[2])))
         inner = about.replace(found[0], "p")
         what = "what" if inner in ("*p", "p") else f"'{pretty(inner)}' of the p that"

@@ -21,7 +21,7 @@ def summary(results: list[FileResult], known: int = 0) -> str:
     found = sum(len(it.findings) for it in results)
     parts = [f"{_some(found, 'finding')}; {_some(analysed, 'function')} analysed in {_some(len(results) - failed, 'file')}"]
     if reasons:
-        parts.append(f"{sum(reasons.values())} passed over ({', '.join(f'{count} {why}' for why, count in reasons.most_common())})")
+        parts.append(f"{sum(reasons.values())} passed over ({', '.join(f'{why}: {count}' for why, count in reasons.most_common())})")
     if late:
         parts.append(f"{late} without an answer in time")
     if failed:

@@ -4,18 +4,46 @@ from __future__ import annotations
 
 import json
 import os
+import pty
 import re
+import signal
+import subprocess
+import sys
+import time
 import unittest
+from collections.abc import Callable
+from typing import TypeVar
 
 from nalvegop.check import FileResult
 from nalvegop.findings import Finding, Path, Step
 from nalvegop.lines import Place
 from nalvegop.show_sarif import sarif
-from tests.support import KIT, folder, nalvegop, needs_checker, program
+from tests.support import COMMAND, KIT, folder, nalvegop, needs_checker, program
 
 _EMPTY = "total functions 0 skipped 0 rows 0 reports 0"
 _NOTHING = f'case "$1" in --help) ;; *) echo "{_EMPTY}" ;; esac'
 _LOST = "#include <stdlib.h>\nvoid lost(void)\n{\n\tvoid *p = malloc(1);\n}\n"
+
+
+_Found = TypeVar("_Found")
+
+
+def wait_for(ask: Callable[[], _Found | None]) -> _Found:
+    """Returns the first answer that counts, within half a minute."""
+    end = time.monotonic() + 30
+    while not (found := ask()):
+        if time.monotonic() > end:
+            raise AssertionError("it did not come in time")
+        time.sleep(0.05)
+    return found
+
+
+def lines_of(path: str) -> list[str]:
+    try:
+        with open(path, encoding="utf-8") as it:
+            return it.read().split()
+    except FileNotFoundError:
+        return []
 
 
 class Statuses(unittest.TestCase):
@@ -62,6 +90,47 @@ class Statuses(unittest.TestCase):
             self.assertEqual(said.returncode, 2)
             self.assertIn("a.c: no answer in time: slow", said.stderr)
             self.assertNotIn("b.c:", said.stderr)
+
+    def test_many_functions_without_an_answer_are_not_all_named(self) -> None:
+        source = "".join(f"int f{it}(void) {{ return 1; }}\n" for it in range(9))
+        slow = f'case "$1" in --help) exit 0 ;; esac; sleep 30; echo "{_EMPTY}"'
+        with folder(a__c=source) as room:
+            said = nalvegop("check", "--seconds", "2", "a.c", at=room, checker=program(room, slow))
+            self.assertIn("a.c: no answer in time: f0, f1, f2, f3, f4 and 4 more (--verbose names all)", said.stderr)
+            said = nalvegop("check", "--seconds", "2", "--verbose", "a.c", at=room, checker=program(room, slow))
+            self.assertIn("f7, f8\n", said.stderr)
+            self.assertEqual(nalvegop("explain", "--seconds", "2", "a.c:1", at=room, checker=program(room, slow)).returncode, 2)
+
+    def test_files_side_by_side_are_shown_in_their_order(self) -> None:
+        late = f'case "$1" in --help) exit 0 ;; esac; grep -q first unit.c && sleep 1; echo "note unit.c:1:1 unsupported float"; echo "{_EMPTY}"'
+        with folder(a__c="int first(void) { return 1; }\n", b__c="int x;\n", c__c="int y;\n") as room:
+            said = nalvegop("check", "-j", "3", "--format", "json", "a.c", "b.c", "c.c", at=room, checker=program(room, late))
+            self.assertEqual([it["file"] for it in json.loads(said.stdout)["files"]], ["a.c", "b.c", "c.c"])
+
+    def test_what_runs_is_ended_with_the_command(self) -> None:
+        slow = 'case "$1" in --help) exit 0 ;; esac; echo $$ >>"$PIDS"; exec sleep 300'
+        for number, jobs in ((signal.SIGTERM, "1"), (signal.SIGTERM, "2"), (signal.SIGINT, "2")):
+            with folder(a__c="int f(void) { return 1; }\n", b__c="int f(void) { return 1; }\n") as room:
+                pids = os.path.join(room, "pids")
+                env = {**os.environ, "NALVEGOP_CHECKER": program(room, slow), "PIDS": pids}
+                with subprocess.Popen([sys.executable, "-B", COMMAND, "check", "-j", jobs, "a.c", "b.c"], cwd=room, env=env, stderr=subprocess.DEVNULL) as it:
+                    begun = wait_for(lambda: lines_of(pids) if len(lines_of(pids)) == int(jobs) else None)
+                    it.send_signal(number)
+                    self.assertEqual(it.wait(30), 130)
+                self.assertTrue(wait_for(lambda: not any(os.path.exists(f"/proc/{pid}") for pid in begun)), (number, jobs))
+
+    def test_a_line_on_a_terminal_says_how_many_files_are_done(self) -> None:
+        with folder(a__c="int x;\n", b__c="int y;\n") as room:
+            ours, theirs = pty.openpty()
+            env = {**os.environ, "NALVEGOP_CHECKER": program(room, _NOTHING)}
+            with subprocess.Popen([sys.executable, "-B", COMMAND, "check", "a.c", "b.c"], cwd=room, env=env, stdout=subprocess.DEVNULL, stderr=theirs) as it:
+                os.close(theirs)
+                it.wait(60)
+            shown = os.read(ours, 10_000).decode()
+            os.close(ours)
+            self.assertIn("\rnalvegop: 1 of 2 files", shown)
+            said = nalvegop("check", "a.c", "b.c", at=room, checker=program(room, _NOTHING))
+            self.assertNotIn("of 2 files", said.stderr)
 
     def test_a_database_that_lacks_a_file(self) -> None:
         with folder(

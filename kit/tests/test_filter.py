@@ -94,6 +94,14 @@ class Steps(unittest.TestCase):
         self.becomes("_Atomic int a; int f(void) { return a; }", "int a; int f(void) { return a; }")
         self.becomes("_Atomic(int) a; int f(void) { return a; }", "int a; int f(void) { return a; }")
 
+    def test_attributes_of_c23(self) -> None:
+        self.becomes(
+            "[[nodiscard]] int f(int a) { switch (a) { case 1: a++; [[fallthrough]]; default: g(a); } return a; }",
+            "int f(int a) { switch (a) { case 1: a++; ; default: g(a); } return a; }",
+        )
+        text = "int f(int *a, int *b) { return a[b[0]]; }"
+        self.becomes(text, text)
+
     def test_line_markers_stay(self) -> None:
         text = '# 1 "a.h" 1\nstruct unused {\n# 3 "a.h"\n int a;\n};\n# 1 "a.c" 2\nint f(void) { return 1; }\n'
         made = filtered(text).text
