@@ -28,6 +28,8 @@ from .show_sarif import sarif
 from .totals import summary
 
 CLEAN, FOUND, NOT_ALL, WORDS, INTERRUPTED = 0, 1, 2, 3, 130
+# Flags that the kernel's make has for sparse, and that no compiler knows. (The compiler is in CC, which make exports.)
+_SPARSE_ALONE = ("--arch=", "-mlittle-endian", "-mbig-endian")
 # How many of the functions without an answer are named, if not all are to be.
 _SHOWN_NAMES = 5
 _STATUSES = (
@@ -113,7 +115,8 @@ def _as_check(words: list[str]) -> list[str]:
     files = [it for it in words if it.endswith(".c") and not it.startswith("-")]
     if not files:
         raise Trouble("sparse: no file is among the words", WORDS)
-    return ["check", "--models", "linux", files[-1], "--", *(it for it in words if it != files[-1])]
+    flags = [it for it in words if it != files[-1] and not it.startswith(_SPARSE_ALONE)]
+    return ["check", "--models", "linux", files[-1], "--", *flags]
 
 
 def main(words: list[str]) -> int:

@@ -138,10 +138,14 @@ class Teller:
         found = re.search(r"call@(\d+):(\d+)", about)
         if not found:
             return pretty(about) if about == PROCESSOR else f"'{pretty(about)}'"
-        place = self.place(At(int(found[1]), int(found[2])))
-        inner = about.replace(found[0], "p")
-        what = "what" if inner in ("*p", "p") else f"'{pretty(inner)}' of the p that"
-        return f"{what} the call in line {place.line} gave"
+        at = At(int(found[1]), int(found[2]))
+        word = self._source_word(at)
+        given = f"what {_quoted(word) if word else 'the call'} gave in line {self.place(at).line}"
+        before, rest = about[: found.start()], about[found.end() :]
+        if before.strip("(*") or ")" in rest:
+            return f"'{pretty(before + 'it' + rest)}', where it is {given},"
+        member = rest.removeprefix("->").removeprefix(".")
+        return f"'{member}' of {given}" if member else given
 
     def _error(self, run: Run) -> str:
         """Says what goes wrong at the end of a run: the last call before the error is the operation, or leads to it."""

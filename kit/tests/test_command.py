@@ -146,7 +146,7 @@ class Statuses(unittest.TestCase):
     def test_as_the_checker_of_the_kernels_make(self) -> None:
         echo = 'case "$1" in --help) exit 0 ;; esac; grep -q "int given" unit.c || exit 6; echo "' + _EMPTY + '"'
         with folder(a__c="NAME int f(void) { return given; }\n") as room:
-            said = nalvegop("sparse", "-D__linux__", "-Wbitwise", "-DNAME=extern int given;", "-I.", "a.c", at=room, checker=program(room, echo))
+            said = nalvegop("sparse", "-D__linux__", "--arch=i386", "-mlittle-endian", "-Wbitwise", "-DNAME=extern int given;", "-I.", "a.c", at=room, checker=program(room, echo))
             self.assertEqual((said.returncode, said.stdout), (0, ""))
             self.assertNotIn("not analysed", said.stderr)
             self.assertEqual(nalvegop("sparse", "-DX", at=room, checker=program(room, echo)).returncode, 3)
