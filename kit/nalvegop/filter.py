@@ -74,7 +74,7 @@ class Filter:
         own, cut = self.own_functions(), set(without)
         wanted = {it.function for it in own} if only is None else {*only}
         roots = [it for it in own if it.function in wanted]
-        kept = self._needed(roots, own if only is None else [], cut)
+        kept = self._needed(roots, cut)
         for segment in self.unit.segments:
             if id(segment) not in kept:
                 self._blank(segment.first, segment.end)
@@ -85,8 +85,8 @@ class Filter:
         names = [it.function or "" for it in own if id(it) in kept]
         return Filtered(_without_ends(self.sheet.text()), names, self.passed_over, self.counts)
 
-    def _needed(self, roots: list[Segment], own: list[Segment], without: set[str]) -> set[int]:
-        """Returns the segments that the roots need, by names and transitively, with what the file itself declares."""
+    def _needed(self, roots: list[Segment], without: set[str]) -> set[int]:
+        """Returns the segments that the roots need, by names and transitively."""
         twice = {it.function for it in self.own_functions()}
         by_name: dict[str, list[Segment]] = {}
         for segment in self.unit.segments:
@@ -98,7 +98,7 @@ class Filter:
         for segment in self.unit.segments:
             for name in segment.mentions:
                 by_name.setdefault(name, [segment])
-        kept, work, keeps_whole = set[int](), [*roots, *own], {id(it) for it in [*roots, *own] if it.function not in without}
+        kept, work, keeps_whole = set[int](), [*roots], {id(it) for it in roots if it.function not in without}
         while work:
             segment = work.pop()
             if id(segment) in kept:

@@ -24,7 +24,7 @@ OPENING, CLOSING = {"(": ")", "[": "]", "{": "}"}, {")", "]", "}"}
 
 
 class Token(NamedTuple):
-    """A token: its text, where it begins in the whole text, and its kind (word, number, string, char or punct)."""
+    """A token: its text, where it begins in the whole text, and its kind (word, number, string, char, punct; comment)."""
 
     text: str
     start: int
@@ -47,11 +47,16 @@ def tokens_of(text: str) -> Iterator[Token]:
             yield Token(found[0], found.start(), kind)
 
 
+def parts_of(text: str) -> Iterator[Token]:
+    """Gives tokens and comments of a source, and what stands in lines of the preprocessor too."""
+    for found in _TOKEN_OR_COMMENT.finditer(text):
+        if found.lastgroup:
+            yield Token(found[0], found.start(), found.lastgroup)
+
+
 def comments_of(text: str) -> Iterator[tuple[int, str]]:
     """Gives the comments of a text, each with the place where it begins."""
-    for found in _TOKEN_OR_COMMENT.finditer(text):
-        if found.lastgroup == "comment":
-            yield found.start(), found[0]
+    return ((it.start, it.text) for it in parts_of(text) if it.kind == "comment")
 
 
 def partners(tokens: Sequence[Token]) -> list[int]:

@@ -17,6 +17,7 @@ from typing import TypeVar
 from nalvegop.check import FileResult
 from nalvegop.findings import Finding, Path, Step
 from nalvegop.lines import Place
+from nalvegop.show_html import coloured
 from nalvegop.show_sarif import sarif
 from tests.support import COMMAND, KIT, folder, nalvegop, needs_checker, program
 
@@ -146,7 +147,18 @@ class Statuses(unittest.TestCase):
     def test_as_the_checker_of_the_kernels_make(self) -> None:
         echo = 'case "$1" in --help) exit 0 ;; esac; grep -q "int given" unit.c || exit 6; echo "' + _EMPTY + '"'
         with folder(a__c="NAME int f(void) { return given; }\n") as room:
-            said = nalvegop("sparse", "-D__linux__", "--arch=i386", "-mlittle-endian", "-Wbitwise", "-DNAME=extern int given;", "-I.", "a.c", at=room, checker=program(room, echo))
+            said = nalvegop(
+                "sparse",
+                "-D__linux__",
+                "--arch=i386",
+                "-mlittle-endian",
+                "-Wbitwise",
+                "-DNAME=extern int given;",
+                "-I.",
+                "a.c",
+                at=room,
+                checker=program(room, echo),
+            )
             self.assertEqual((said.returncode, said.stdout), (0, ""))
             self.assertNotIn("not analysed", said.stderr)
             self.assertEqual(nalvegop("sparse", "-DX", at=room, checker=program(room, echo)).returncode, 3)
@@ -211,8 +223,16 @@ class Forms(unittest.TestCase):
             self.assertEqual((said.returncode, said.stdout), (1, ""))
             with open(os.path.join(room, "out.html"), encoding="utf-8") as it:
                 page = it.read()
-            self.assertIn("void *p = malloc(1);", page)
+            self.assertIn('<span class="word">void</span> *p = malloc(<span class="number">1</span>);', page)
             self.assertNotRegex(page, r"(src|href)=\"(?!#)")
+
+    def test_coloured_source(self) -> None:
+        made = coloured(["int a; /* of <two>", 'lines */ char *s = "\u00c3\u00a9 & //";', "#if 1 // rest"])
+        self.assertEqual(made[0], '<span class="word">int</span> a; <span class="comment">/* of &lt;two&gt;</span>')
+        self.assertEqual(
+            made[1], '<span class="comment">lines */</span> <span class="word">char</span> *s = <span class="string">&quot;\u00e9 &amp; //&quot;</span>;'
+        )
+        self.assertEqual(made[2], '#<span class="word">if</span> <span class="number">1</span> <span class="comment">// rest</span>')
 
     @needs_checker
     def test_explain_and_rows(self) -> None:
