@@ -210,7 +210,8 @@ class Forms(unittest.TestCase):
             self.skipTest("there is no jsonschema")
         with open(os.path.join(KIT, "tests", "sarif-part.schema.json"), encoding="utf-8") as it:
             schema = json.load(it)
-        cases: list[list[FileResult]] = [[], [self.result()], [FileResult("b.c", failure="why"), self.result()]]
+        bare = FileResult("c.c", findings=[Finding("double", "f", Place("c.c", 0, 0), "m", [Path("", [], "none")], "sum")])
+        cases: list[list[FileResult]] = [[], [self.result()], [bare], [FileResult("b.c", failure="why"), self.result()]]
         for results in cases:
             jsonschema.validate(json.loads(json.dumps(sarif(results, 1))), schema)
 

@@ -7,7 +7,7 @@ import os
 import re
 import unittest
 
-from nalvegop.command import CLEAN, FOUND, NOT_ALL, WORDS, parser
+from nalvegop.command import Status, parser
 from nalvegop.findings import KINDS
 from nalvegop.machines import FOLDERS
 from tests.support import PROJECTS, TOP
@@ -43,8 +43,8 @@ class Documents(unittest.TestCase):
         for kind in KINDS:
             self.assertIn(f"**`{kind}`**", guide)
             self.assertIn(kind, man)
-        for status in (CLEAN, FOUND, NOT_ALL, WORDS):
-            self.assertRegex(guide, rf"(?m)^\| {status} \|")
+        for status in (Status.CLEAN, Status.FOUND, Status.NOT_ALL, Status.WORDS):
+            self.assertRegex(guide, rf"(?m)^\| {int(status)} \|")
 
     def test_every_machine_is_named(self) -> None:
         page = text_of("docs", "MODELS.md")
