@@ -4,12 +4,15 @@
 int nalvegop_int(void);
 unsigned nalvegop_uint(void);
 unsigned long nalvegop_ulong(void);
+long nalvegop_long(void);
 _Bool nalvegop_more(void);
 void *nalvegop_entry(void);
 void *nalvegop_object(const void *);
 void nalvegop_use(const void *);
 /* What it gets goes away to what it gives, as to a thread that begins. */
 void *nalvegop_made(const void *);
+/* A place in a text, or null. */
+char *nalvegop_inside(int);
 void *nalvegop_realloc(void *, unsigned long);
 /* A run behind it is not followed: what would run at the end of the scope stands in no text. */
 void nalvegop_cleanup_push(void (*)(void *), void *);

@@ -91,6 +91,7 @@ class FileCheck:
         self.operations = operations(machine) if machine else frozenset[str]()
         self.filter = Filter(text, line_map.is_own, self.operations)
         filtered = self.filter.run()
+        self.renamed = filtered.renamed
         self.result.text = filtered.text
         self.result.passed_over = {name: Reason(why, self._place(at)) for name, (why, at) in filtered.passed_over.items()}
         verdicts = self._verdicts(filtered, model)
@@ -102,7 +103,7 @@ class FileCheck:
         """Checks the whole file in a third of the time. Where that does not end, each function is checked for itself,
         with those that it calls; one that has no answer in time is unknown to the others from there on."""
         try:
-            return self.options.checker.check(filtered.text, model, max(self._left() / 3, 1))
+            return self.options.checker.check(filtered.text, model, max(self._left() / 3, 1), self.renamed)
         except (OutOfTime, OutOfMemory):
             # (over the text that is left: the raw one is many times as long)
             one_by_one = Filter(filtered.text, self.line_map.is_own, self.operations)
@@ -126,7 +127,7 @@ class FileCheck:
         if time.monotonic() >= self.end:
             return None
         try:
-            return self.options.checker.check(text, model, self._share(waiting))
+            return self.options.checker.check(text, model, self._share(waiting), self.renamed)
         except (OutOfTime, OutOfMemory):
             return None
 
@@ -138,6 +139,7 @@ class FileCheck:
 
     def _tell(self, verdicts: Verdicts, teller: Teller, line_map: LineMap) -> None:
         comments = Comments(self.files)
+        self._name_lost(verdicts)
         segments = {it.function: it for it in self.filter.unit.segments if it.is_function}
         for function in verdicts.functions:
             if function.name in self.result.passed_over:
@@ -160,6 +162,13 @@ class FileCheck:
                 self.result.findings.append(self._with_shown_places(finding))
         self._warn(verdicts)
         self.result.findings.sort(key=lambda it: it.place)
+
+    def _name_lost(self, verdicts: Verdicts) -> None:
+        """Names the file's functions of which nothing is said: the checker did not take their heads for those of functions."""
+        known = {it.name for it in verdicts.functions} | {*self.result.passed_over} | {*self.result.late}
+        for it in self.filter.own_functions():
+            if it.function and it.function not in known:
+                self.result.passed_over[it.function] = Reason("grammar", self._place(self.filter.at(it.name_at)))
 
     def _warn(self, verdicts: Verdicts) -> None:
         """Notes who calls a function that was passed over, or had no answer, and that has an effect by its text."""

@@ -11,9 +11,11 @@ from __future__ import annotations
 from bisect import bisect_right
 from collections.abc import Callable, Iterable
 from dataclasses import dataclass, field
+from functools import cached_property
 from itertools import accumulate
 
 from .segments import KEYWORDS, Segment, Unit
+from .shadows import Shadows, other_name
 from .tokens import Sheet, Token, tokens_of
 from .verdicts import At
 
@@ -38,6 +40,8 @@ class Filtered:
     functions: list[str] = field(default_factory=list)
     passed_over: dict[str, tuple[str, At]] = field(default_factory=dict)
     counts: dict[str, int] = field(default_factory=dict)
+    # Names that variables got, each with the old one.
+    renamed: dict[str, str] = field(default_factory=dict)
 
 
 IsOwn = Callable[[int], bool]
@@ -57,6 +61,8 @@ class Filter:
         self._lines = _LineIndex(text)
         self._is_own = is_own
         self.counts: dict[str, int] = {}
+        self._renamed: dict[str, str] = {}
+        self._shadows = Shadows(self.tokens, self.partner, self.unit.typedefs())
         self.passed_over: dict[str, tuple[str, At]] = {}
 
     # ---- what is left
@@ -83,7 +89,7 @@ class Filter:
             if id(segment) in kept:
                 self._mend(segment, segment.function in cut)
         names = [it.function or "" for it in own if id(it) in kept]
-        return Filtered(_without_ends(self.sheet.text()), names, self.passed_over, self.counts)
+        return Filtered(_without_ends(self.sheet.text()), names, self.passed_over, self.counts, {new: old for old, new in self._renamed.items()})
 
     def _needed(self, roots: list[Segment], without: set[str]) -> set[int]:
         """Returns the segments that the roots need, by names and transitively."""
@@ -134,10 +140,27 @@ class Filter:
             self._to_prototype(segment)
             return
         self._words(segment.first, segment.end)
+        self._rename_shadows(segment)
         self._asserts(segment.body[0], segment.end)
         self._asm_statements(segment.body[0], segment.end)
         self._once_loops(segment.body[0], segment.end)
         self._statement_expressions(segment.body[0], segment.end)
+
+    def _rename_shadows(self, segment: Segment) -> None:
+        """Gives a variable with the name of a typedef another name of the same length, which stands nowhere else."""
+        for shadow in self._shadows.of(segment):
+            if shadow.name not in self._renamed:
+                other = other_name(shadow.name, self._taken | {*self._renamed.values()})
+                if not other:
+                    continue
+                self._renamed[shadow.name] = other
+            for at in self._shadows.uses(shadow):
+                self._put(self.tokens[at], self._renamed[shadow.name])
+            self._count("names")
+
+    @cached_property
+    def _taken(self) -> set[str]:
+        return {it.text for it in self.tokens if it.is_word}
 
     def _to_prototype(self, segment: Segment) -> None:
         """Leaves `int f(int a);` of a function: its callers know its type, and nothing of what it does."""
@@ -153,12 +176,13 @@ class Filter:
             behind = self.tokens[at + 1].text if at + 1 < segment.end else ""
             is_attribute = text in ("__attribute__", "__attribute") and behind == "(" or text == "[" and behind == "["
             if is_attribute and any(it.text in ("cleanup", "__cleanup__") for it in self.tokens[at + 2 : self.partner[at + 1]]):
-                return "cleanup", self._at(at)
+                return "cleanup", self.at(at)
             if text == CLEANUP_CALL:
-                return "pthread_cleanup_push", self._at(at)
+                return "pthread_cleanup_push", self.at(at)
         return None
 
-    def _at(self, at: int) -> At:
+    def at(self, at: int) -> At:
+        """Returns the line and column of a token."""
         return self._lines.at(self.tokens[at].start)
 
     def _words(self, first: int, end: int) -> None:

@@ -92,6 +92,12 @@ class Statuses(unittest.TestCase):
             self.assertIn("a.c: no answer in time: slow", said.stderr)
             self.assertNotIn("b.c:", said.stderr)
 
+    def test_a_function_of_which_nothing_is_said_is_named(self) -> None:
+        with folder(a__c="int f(void) { return 1; }\n") as room:
+            said = nalvegop("check", "--verbose", "--strict", "a.c", at=room, checker=program(room, _NOTHING))
+            self.assertEqual(said.returncode, 2)
+            self.assertIn("a.c:1:5: 'f' is passed over: syntax that is not read\n", said.stderr)
+
     def test_many_functions_without_an_answer_are_not_all_named(self) -> None:
         source = "".join(f"int f{it}(void) {{ return 1; }}\n" for it in range(9))
         slow = f'case "$1" in --help) exit 0 ;; esac; sleep 30; echo "{_EMPTY}"'

@@ -94,6 +94,43 @@ class Steps(unittest.TestCase):
         self.becomes("_Atomic int a; int f(void) { return a; }", "int a; int f(void) { return a; }")
         self.becomes("_Atomic(int) a; int f(void) { return a; }", "int a; int f(void) { return a; }")
 
+    def renamed(self, before: str, after: str) -> None:
+        made = filtered(before)
+        self.assertEqual(squeezed(made.text), after)
+        for new, old in made.renamed.items():
+            self.assertEqual((len(new), before.count(new)), (len(old), 0))
+            self.assertEqual(re.sub(rf"\b{new}\b", old, squeezed(made.text)), squeezed(before))
+
+    def test_variables_that_are_named_as_types(self) -> None:
+        types = "typedef struct list { struct list *list; } list; "
+        self.renamed(types + "void f(list *list) { list->list = 0; g(list); }", types + "void f(list *lisA) { lisA->list = 0; g(lisA); }")
+        self.renamed(
+            types + "int f(const list *a, list *const list) { return a == list; }", types + "int f(const list *a, list *const lisA) { return a == lisA; }"
+        )
+        self.renamed(types + "void f(void) { struct list *list; list = h(); }", types + "void f(void) { struct list *lisA; lisA = h(); }")
+        self.renamed(
+            types + "void f(void) { { int a, list[2] = { 1 }; list[0] = a; } list *b = h(); g(b); }",
+            types + "void f(void) { { int a, lisA[2] = { 1 }; lisA[0] = a; } list *b = h(); g(b); }",
+        )
+        self.renamed(
+            types + "void f(void) { for (list *list = h(); list; list = list->list) g(list); }",
+            types + "void f(void) { for (list *lisA = h(); lisA; lisA = lisA->list) g(lisA); }",
+        )
+
+    def test_what_is_not_named_as_a_type_stays(self) -> None:
+        types = "typedef struct list { int tag; } list; typedef int (*call)(list *); "
+        for text in (
+            "list *f(list *a) { list *b = a; return (list *)b; }",
+            "int f(call a, list *b) { return a(b) * sizeof(list); }",
+            "void f(list *tag) { goto list; list: g(tag); }",
+            "int f(int (*a)(const list), list *b) { return a(*b); }",
+        ):
+            self.assertEqual(filtered(types + text).renamed, {}, text)
+
+    def test_a_new_name_stands_nowhere_else(self) -> None:
+        made = filtered("typedef int t; typedef int A; typedef int B; int f(t t) { return t; }")
+        self.assertEqual(made.renamed, {"C": "t"})
+
     def test_attributes_of_c23(self) -> None:
         self.becomes(
             "[[nodiscard]] int f(int a) { switch (a) { case 1: a++; [[fallthrough]]; default: g(a); } return a; }",
