@@ -92,6 +92,13 @@ class Statuses(unittest.TestCase):
             self.assertIn("a.c: no answer in time: slow", said.stderr)
             self.assertNotIn("b.c:", said.stderr)
 
+    def test_a_slow_function_leaves_time_to_the_others(self) -> None:
+        source = "int slow(void) { return 1; }\n" + "".join(f"int f{it}(void) {{ return 1; }}\n" for it in range(3))
+        text = f'case "$1" in --help) exit 0 ;; esac; grep -q slow unit.c && sleep 60; echo "{_EMPTY}"'
+        with folder(a__c=source) as room:
+            said = nalvegop("check", "--seconds", "24", "--format", "json", "a.c", at=room, checker=program(room, text))
+            self.assertEqual(json.loads(said.stdout)["files"][0]["late"], ["slow"])
+
     def test_a_function_of_which_nothing_is_said_is_named(self) -> None:
         with folder(a__c="int f(void) { return 1; }\n") as room:
             said = nalvegop("check", "--verbose", "--strict", "a.c", at=room, checker=program(room, _NOTHING))
