@@ -131,6 +131,10 @@ def _as_check(words: list[str]) -> list[str]:
 
 
 def main(words: list[str]) -> int:
+    for stream in (sys.stdout, sys.stderr):
+        if isinstance(stream, io.TextIOWrapper):
+            # (a name of a file may be of any bytes)
+            stream.reconfigure(errors="surrogateescape")
     if words[:1] == ["sparse"]:
         # (make ends where its checker has another status than 0)
         try:

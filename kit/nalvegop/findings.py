@@ -4,6 +4,7 @@ from __future__ import annotations
 
 import hashlib
 import re
+from collections import Counter
 from dataclasses import dataclass, field
 
 from .lines import LineMap, Place, SourceFiles, decoded
@@ -50,11 +51,31 @@ class Finding:
     paths: list[Path]
     # What it is known by, in a baseline: no line numbers are in it.
     known_by: str = ""
+    # Why it may be false.
     marks: list[str] = field(default_factory=list)
+    # The location's text as the checker has it.
+    about: str = ""
 
     @property
-    def is_in_model(self) -> bool:
-        return bool(self.marks)
+    def text(self) -> str:
+        """Returns the message, and why it may be false."""
+        return self.message + (f" (this may be false: {' and '.join(self.marks)})" if self.marks else "")
+
+
+_ELEMENT = re.compile(r"\[\d+\]")
+
+
+def one_of_each_array(findings: list[Finding]) -> list[Finding]:
+    """Returns the findings with one for all elements of an array of which the same is found; its message counts the others."""
+    found, more = dict[tuple[object, ...], Finding](), Counter[tuple[object, ...]]()
+    for number, it in enumerate(findings):
+        key = (it.kind, it.function, it.place, _ELEMENT.sub("[]", it.about)) if _ELEMENT.search(it.about) else (number,)
+        more[key] += key in found
+        found.setdefault(key, it)
+    for key, it in found.items():
+        if more[key]:
+            it.message += f"; the same of {more[key]} more element{'s' if more[key] > 1 else ''}"
+    return [*found.values()]
 
 
 def pretty(text: str) -> str:
@@ -77,7 +98,9 @@ class Teller:
         paths = [self._path(function, report, run, number) for number, run in enumerate(report.runs)]
         place = self._main_place(function, report)
         made = Finding(report.kind, function.name, place, self._message(function, report), paths)
-        made.known_by = self._known_by(function, report)
+        made.known_by, made.about = self._known_by(function, report), report.about
+        if _ELEMENT.search(report.about):
+            made.marks.append("which element of an array an index means is not told apart")
         return made
 
     def _main_place(self, function: Function, report: Report) -> Place:
@@ -249,6 +272,7 @@ class Teller:
         """Returns what a finding is known by: kind, function, location's text and the shape of its paths; no lines."""
         names = {(it.at.line, it.at.column): it.word for run in report.runs for it in run.events if it.kind == "call"}
         about = re.sub(r"call@(\d+):(\d+)", lambda it: f"call@{names.get((int(it[1]), int(it[2])), '')}", report.about)
+        about = _ELEMENT.sub("[]", about)
         if report.at:
             about = names.get((report.at.line, report.at.column), "")
         shape = [[(it.kind, "" if it.kind == "error" else it.word) for it in run.events] for run in report.runs]

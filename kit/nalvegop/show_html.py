@@ -53,7 +53,7 @@ def _parts(results: list[FileResult], files: SourceFiles, status: int) -> Iterat
 
 
 def _finding(number: int, it: Finding, files: SourceFiles) -> Iterator[str]:
-    yield f'<h2 id="f{number}">{number}. {escape(it.message)} [{it.kind}]</h2>\n<p>{escape(str(it.place))}, in function {escape(it.function)}</p>\n'
+    yield f'<h2 id="f{number}">{number}. {escape(it.text)} [{it.kind}]</h2>\n<p>{escape(str(it.place))}, in function {escape(it.function)}</p>\n'
     for path in it.paths:
         if path.head:
             yield f"<h3>{escape(path.head[:1].upper() + path.head[1:])}</h3>\n"

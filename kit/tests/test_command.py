@@ -15,7 +15,7 @@ from collections.abc import Callable
 from typing import TypeVar
 
 from nalvegop.check import FileResult
-from nalvegop.findings import Finding, Path, Step
+from nalvegop.findings import Finding, Path, Step, one_of_each_array
 from nalvegop.lines import Place
 from nalvegop.show_html import coloured
 from nalvegop.show_sarif import sarif
@@ -240,6 +240,13 @@ class Forms(unittest.TestCase):
             self.assertIn('<span class="word">void</span> *p = malloc(<span class="number">1</span>);', page)
             self.assertNotRegex(page, r"(src|href)=\"(?!#)")
 
+    def test_all_elements_of_an_array_are_one_finding(self) -> None:
+        def made(about: str, line: int = 1, kind: str = "double") -> Finding:
+            return Finding(kind, "f", Place("a.c", line, 1), about, [], about=about)
+
+        given = [made("a[1]"), made("a[2]"), made("b"), made("b"), made("a[1]", 2), made("a[3]"), made("a[4]", 1, "ambiguous"), made("a[1].b[2]")]
+        self.assertEqual([it.message for it in one_of_each_array(given)], ["a[1]; the same of 2 more elements", "b", "b", "a[1]", "a[4]", "a[1].b[2]"])
+
     def test_coloured_source(self) -> None:
         made = coloured(["int a; /* of <two>", 'lines */ char *s = "\u00c3\u00a9 & //";', "#if 1 // rest"])
         self.assertEqual(made[0], '<span class="word">int</span> a; <span class="comment">/* of &lt;two&gt;</span>')
@@ -247,6 +254,17 @@ class Forms(unittest.TestCase):
             made[1], '<span class="comment">lines */</span> <span class="word">char</span> *s = <span class="string">&quot;\u00e9 &amp; //&quot;</span>;'
         )
         self.assertEqual(made[2], '#<span class="word">if</span> <span class="number">1</span> <span class="comment">// rest</span>')
+
+    @needs_checker
+    def test_a_name_that_is_no_text(self) -> None:
+        with folder() as room:
+            name = os.fsdecode(b"a\xff 'b'.c")
+            with open(os.path.join(room, name), "w", encoding="utf-8") as it:
+                it.write(_LOST)
+            for form in ("gcc", "json", "html", "sarif"):
+                said = nalvegop("check", "--format", form, name, at=room)
+                self.assertEqual((said.returncode, "Traceback" in said.stderr), (1, False), said.stderr)
+            self.assertIn("a%FF%20%27b%27.c", said.stdout)
 
     @needs_checker
     def test_explain_and_rows(self) -> None:
