@@ -59,6 +59,68 @@
 #if __has_include(<linux/bitops.h>)
 #include <linux/bitops.h>
 #endif
+#if __has_include(<linux/bits.h>)
+#include <linux/bits.h>
+#endif
+#if __has_include(<linux/bitfield.h>)
+#include <linux/bitfield.h>
+#endif
+#if __has_include(<linux/math.h>)
+#include <linux/math.h>
+#endif
+#if __has_include(<linux/minmax.h>)
+#include <linux/minmax.h>
+#endif
+#if __has_include(<linux/jiffies.h>)
+#include <linux/jiffies.h>
+#endif
+#if __has_include(<linux/completion.h>)
+#include <linux/completion.h>
+#endif
+#if __has_include(<linux/workqueue.h>)
+#include <linux/workqueue.h>
+#endif
+#if __has_include(<linux/kthread.h>)
+#include <linux/kthread.h>
+#endif
+#if __has_include(<linux/rwsem.h>)
+#include <linux/rwsem.h>
+#endif
+#if __has_include(<linux/rwlock_types.h>)
+#include <linux/rwlock_types.h>
+#endif
+#if __has_include(<linux/semaphore.h>)
+#include <linux/semaphore.h>
+#endif
+#if __has_include(<linux/atomic.h>)
+#include <linux/atomic.h>
+#endif
+#if __has_include(<linux/refcount.h>)
+#include <linux/refcount.h>
+#endif
+#if __has_include(<linux/rcupdate.h>)
+#include <linux/rcupdate.h>
+#endif
+#if __has_include(<linux/nospec.h>)
+#include <linux/nospec.h>
+#endif
+#if __has_include(<linux/irqflags.h>)
+#include <linux/irqflags.h>
+#endif
+#if __has_include(<linux/smp.h>)
+#include <linux/smp.h>
+#endif
+#endif
+
+#ifdef __has_include
+#if __has_include(<linux/spinlock.h>)
+/* What waiting does with a lock that is held. */
+static inline void nalvegop_give_and_take(spinlock_t *lock)
+{
+	spin_unlock(lock);
+	spin_lock(lock);
+}
+#endif
 #endif
 
 /* Spin locks: the state of interrupts is not kept. */
@@ -128,6 +190,10 @@
 #define mutex_destroy(l) ((void)(l))
 #define DEFINE_MUTEX(n) struct mutex n
 #define DEFINE_SPINLOCK(n) spinlock_t n
+#undef mutex_unlock
+#undef mutex_trylock
+#undef mutex_lock_killable_nested
+#define mutex_lock_killable_nested(l, c) ((void)(c), nalvegop_more() ? -4 : (mutex_lock(l), 0))
 
 /* Read and write locks: several readers may hold one, so readers are not followed. */
 #undef read_lock
@@ -170,6 +236,26 @@
 #define up_read(l) ((void)(l))
 #define down_write(l) mutex_lock(l)
 #define up_write(l) mutex_unlock(l)
+#undef read_trylock
+#undef write_trylock
+#undef down_read_nested
+#undef down_read_trylock
+#undef down_read_interruptible
+#undef down_read_killable
+#undef down_write_nested
+#undef down_write_trylock
+#undef down_write_killable
+#undef downgrade_write
+#define read_trylock(l) ((void)(l), nalvegop_more())
+#define write_trylock(l) spin_trylock(l)
+#define down_read_nested(l, c) ((void)(c), (void)(l))
+#define down_read_trylock(l) ((void)(l), nalvegop_more())
+#define down_read_interruptible(l) ((void)(l), nalvegop_int())
+#define down_read_killable(l) ((void)(l), nalvegop_int())
+#define down_write_nested(l, c) ((void)(c), mutex_lock(l))
+#define down_write_trylock(l) mutex_trylock(l)
+#define down_write_killable(l) (nalvegop_more() ? -4 : (mutex_lock(l), 0))
+#define downgrade_write(l) mutex_unlock(l)
 
 /* Counts that take a lock when they fall to 0. */
 #undef atomic_dec_and_lock
@@ -178,6 +264,18 @@
 #define atomic_dec_and_lock(a, l) ((void)(a), nalvegop_more() ? (spin_lock(l), 1) : 0)
 #define refcount_dec_and_lock(a, l) ((void)(a), nalvegop_more() ? (spin_lock(l), 1) : 0)
 #define refcount_dec_and_mutex_lock(a, l) ((void)(a), nalvegop_more() ? (mutex_lock(l), 1) : 0)
+#undef atomic_dec_and_lock_irqsave
+#undef atomic_dec_and_mutex_lock
+#undef refcount_dec_and_lock_irqsave
+#undef kref_put
+#undef kref_put_mutex
+#undef kref_put_lock
+#define atomic_dec_and_lock_irqsave(a, l, f) ((void)(a), (f) = 0, nalvegop_more() ? (spin_lock(l), 1) : 0)
+#define atomic_dec_and_mutex_lock(a, l) ((void)(a), nalvegop_more() ? (mutex_lock(l), 1) : 0)
+#define refcount_dec_and_lock_irqsave(a, l, f) ((void)(a), (f) = 0, nalvegop_more() ? (spin_lock(l), 1) : 0)
+#define kref_put(k, f) (nalvegop_more() ? (f(k), 1) : 0)
+#define kref_put_mutex(k, f, l) (nalvegop_more() ? (mutex_lock(l), f(k), 1) : 0)
+#define kref_put_lock(k, f, l) (nalvegop_more() ? (spin_lock(l), f(k), 1) : 0)
 
 /* Allocation: two families of one freeing function are not told apart. */
 #undef kmalloc
@@ -231,6 +329,18 @@
 #define kfree_sensitive(p) kfree(p)
 #define kfree_rcu(p, ...) kfree(p)
 #define kfree_const(p) ((void)(p))
+#undef krealloc
+#undef kmemdup_nul
+#undef kvasprintf
+#undef vmalloc_user
+#undef vmemdup_user
+#undef strndup_user
+#define krealloc(p, s, f) nalvegop_realloc((p), ((void)(f), (s)))
+#define kmemdup_nul(p, s, f) kmalloc(((void)(p), (s)), f)
+#define kvasprintf(f, ...) kmalloc(((void)(__VA_ARGS__), 1), f)
+#define vmalloc_user(s) kzalloc(s, 0)
+#define vmemdup_user(p, n) kmalloc(((void)(p), (n)), 0)
+#define strndup_user(p, n) kmalloc(((void)(p), (n)), 0)
 
 /* Error pointers: null and an error are one. */
 #undef IS_ERR
@@ -258,6 +368,16 @@
 #define hlist_entry(p, t, m) ((t *)nalvegop_object(p))
 #define rb_entry(p, t, m) ((t *)nalvegop_object(p))
 #define from_timer(v, p, m) (nalvegop_object(p))
+#undef list_last_entry
+#undef list_next_entry
+#undef list_prev_entry
+#undef hlist_entry_safe
+#undef rb_entry_safe
+#define list_last_entry(h, t, m) ((t *)nalvegop_object(h))
+#define list_next_entry(p, m) (nalvegop_object(p))
+#define list_prev_entry(p, m) (nalvegop_object(p))
+#define hlist_entry_safe(p, t, m) ((t *)nalvegop_object(p))
+#define rb_entry_safe(p, t, m) ((t *)nalvegop_object(p))
 
 /* Lists: which entries there are is not followed. */
 #undef list_for_each_entry
@@ -291,6 +411,50 @@
 #define list_first_entry(h, t, m) ((t *)nalvegop_object(h))
 #define list_first_entry_or_null(h, t, m) ((t *)nalvegop_object(h))
 #define INIT_LIST_HEAD(h) ((void)(h))
+#undef list_for_each
+#undef list_for_each_safe
+#undef list_for_each_entry_continue
+#undef list_for_each_entry_from
+#undef list_for_each_entry_safe_reverse
+#undef hlist_for_each_entry_rcu
+#undef hlist_for_each_entry_safe
+#undef list_add_rcu
+#undef list_add_tail_rcu
+#undef list_del_rcu
+#undef list_replace
+#undef list_splice
+#undef list_splice_init
+#undef list_splice_tail_init
+#undef list_empty_careful
+#undef list_is_singular
+#undef hlist_add_head
+#undef hlist_add_head_rcu
+#undef hlist_del
+#undef hlist_del_init
+#undef hlist_empty
+#undef INIT_HLIST_NODE
+#define list_for_each(p, h) for (p = nalvegop_entry(); nalvegop_more(); p = nalvegop_entry())
+#define list_for_each_safe(p, n, h) for (p = nalvegop_entry(), n = nalvegop_entry(); nalvegop_more(); p = n, n = nalvegop_entry())
+#define list_for_each_entry_continue(p, h, m) for (; nalvegop_more(); p = nalvegop_entry())
+#define list_for_each_entry_from(p, h, m) for (; nalvegop_more(); p = nalvegop_entry())
+#define list_for_each_entry_safe_reverse(p, n, h, m) for (p = nalvegop_entry(), n = nalvegop_entry(); nalvegop_more(); p = n, n = nalvegop_entry())
+#define hlist_for_each_entry_rcu(p, h, m, ...) for (p = nalvegop_entry(); nalvegop_more(); p = nalvegop_entry())
+#define hlist_for_each_entry_safe(p, n, h, m) for (p = nalvegop_entry(), (n) = nalvegop_entry(); nalvegop_more(); p = nalvegop_entry())
+#define list_add_rcu(n, h) (nalvegop_use(n), (void)(h))
+#define list_add_tail_rcu(n, h) (nalvegop_use(n), (void)(h))
+#define list_del_rcu(n) ((void)(n))
+#define list_replace(o, n) ((void)(o), nalvegop_use(n))
+#define list_splice(l, h) ((void)(l), (void)(h))
+#define list_splice_init(l, h) ((void)(l), (void)(h))
+#define list_splice_tail_init(l, h) ((void)(l), (void)(h))
+#define list_empty_careful(h) ((void)(h), nalvegop_more())
+#define list_is_singular(h) ((void)(h), nalvegop_more())
+#define hlist_add_head(n, h) (nalvegop_use(n), (void)(h))
+#define hlist_add_head_rcu(n, h) (nalvegop_use(n), (void)(h))
+#define hlist_del(n) ((void)(n))
+#define hlist_del_init(n) ((void)(n))
+#define hlist_empty(h) ((void)(h), nalvegop_more())
+#define INIT_HLIST_NODE(n) ((void)(n))
 
 /* One thread is followed: what others see, and when, is not. */
 #undef READ_ONCE
@@ -315,6 +479,66 @@
 #define mb() ((void)0)
 #define smp_load_acquire(p) (*(p))
 #define smp_store_release(p, v) (*(p) = (v))
+#undef rcu_dereference_protected
+#undef rcu_dereference_check
+#undef rcu_dereference_raw
+#undef rcu_access_pointer
+#undef RCU_INIT_POINTER
+#undef rmb
+#undef wmb
+#undef smp_mb__before_atomic
+#undef smp_mb__after_atomic
+#undef cpu_relax
+#undef smp_processor_id
+#undef raw_smp_processor_id
+#undef get_cpu
+#undef put_cpu
+#undef local_irq_save
+#undef local_irq_restore
+#define rcu_dereference_protected(p, c) (p)
+#define rcu_dereference_check(p, c) (p)
+#define rcu_dereference_raw(p) (p)
+#define rcu_access_pointer(p) (p)
+#define RCU_INIT_POINTER(p, v) ((p) = (v))
+#define rmb() ((void)0)
+#define wmb() ((void)0)
+#define smp_mb__before_atomic() ((void)0)
+#define smp_mb__after_atomic() ((void)0)
+#define cpu_relax() ((void)0)
+#define smp_processor_id() nalvegop_int()
+#define raw_smp_processor_id() nalvegop_int()
+#define get_cpu() nalvegop_int()
+#define put_cpu() ((void)0)
+#define local_irq_save(f) ((f) = 0)
+#define local_irq_restore(f) ((void)(f))
+
+/* Atomic numbers: one thread is followed. */
+#undef atomic_read
+#undef atomic_set
+#undef atomic_inc
+#undef atomic_dec
+#undef atomic_add
+#undef atomic_sub
+#undef atomic_inc_return
+#undef atomic_dec_return
+#undef atomic_add_return
+#undef atomic_sub_return
+#undef atomic_dec_and_test
+#undef atomic_inc_and_test
+#undef atomic_sub_and_test
+#define atomic_read(v) ((v)->counter)
+#define atomic_set(v, i) ((void)((v)->counter = (i)))
+#define atomic_inc(v) ((void)++(v)->counter)
+#define atomic_dec(v) ((void)--(v)->counter)
+#define atomic_add(i, v) ((void)((v)->counter += (i)))
+#define atomic_sub(i, v) ((void)((v)->counter -= (i)))
+#define atomic_inc_return(v) (++(v)->counter)
+#define atomic_dec_return(v) (--(v)->counter)
+#define atomic_add_return(i, v) ((v)->counter += (i))
+#define atomic_sub_return(i, v) ((v)->counter -= (i))
+#define atomic_dec_and_test(v) (--(v)->counter == 0)
+#define atomic_inc_and_test(v) (++(v)->counter == 0)
+#define atomic_sub_and_test(i, v) (((v)->counter -= (i)) == 0)
 
 /* Numbers: right from LONG_MIN to LONG_MAX. */
 #undef min
@@ -333,6 +557,62 @@
 #define clamp_t(t, v, a, b) ((t)nalvegop_clamp((v), (a), (b)))
 #define ARRAY_SIZE(a) (sizeof(a) / sizeof((a)[0]))
 #define struct_size(p, m, n) (sizeof(*(p)) + sizeof((p)->m[0]) * (n))
+#undef min3
+#undef max3
+#undef abs
+#undef roundup
+#undef round_up
+#undef rounddown
+#undef round_down
+#undef DIV_ROUND_CLOSEST
+#undef do_div
+#undef array_index_nospec
+#undef time_after
+#undef time_before
+#undef time_after_eq
+#undef time_before_eq
+#define min3(a, b, c) nalvegop_min((a), nalvegop_min((b), (c)))
+#define max3(a, b, c) nalvegop_max((a), nalvegop_max((b), (c)))
+#define abs(x) nalvegop_abs(x)
+#define roundup(x, n) nalvegop_roundup((x), (n))
+#define round_up(x, n) nalvegop_roundup((x), (n))
+#define rounddown(x, n) nalvegop_rounddown((x), (n))
+#define round_down(x, n) nalvegop_rounddown((x), (n))
+#define DIV_ROUND_CLOSEST(x, n) nalvegop_nearest((x), (n))
+#define do_div(x, n) ((x) /= (n), nalvegop_uint())
+#define array_index_nospec(i, n) ((void)(n), (i))
+#define time_after(a, b) ((long)((b) - (a)) < 0)
+#define time_before(a, b) ((long)((a) - (b)) < 0)
+#define time_after_eq(a, b) ((long)((a) - (b)) >= 0)
+#define time_before_eq(a, b) ((long)((b) - (a)) >= 0)
+
+/* Bits: those from 32 on are taken for the ones below. */
+#undef test_bit
+#undef set_bit
+#undef clear_bit
+#undef change_bit
+#undef __set_bit
+#undef __clear_bit
+#undef test_and_set_bit
+#undef test_and_clear_bit
+#undef __test_and_set_bit
+#undef __test_and_clear_bit
+#undef GENMASK
+#undef FIELD_PREP
+#undef FIELD_GET
+#define test_bit(n, a) ((*(a) & (1UL << ((n) & 31))) != 0)
+#define set_bit(n, a) ((void)(*(a) |= 1UL << ((n) & 31)))
+#define clear_bit(n, a) ((void)(*(a) &= ~(1UL << ((n) & 31))))
+#define change_bit(n, a) ((void)(*(a) ^= 1UL << ((n) & 31)))
+#define __set_bit(n, a) ((void)(*(a) |= 1UL << ((n) & 31)))
+#define __clear_bit(n, a) ((void)(*(a) &= ~(1UL << ((n) & 31))))
+#define test_and_set_bit(n, a) (nalvegop_set_bit((n), (a)))
+#define test_and_clear_bit(n, a) (nalvegop_clear_bit((n), (a)))
+#define __test_and_set_bit(n, a) (nalvegop_set_bit((n), (a)))
+#define __test_and_clear_bit(n, a) (nalvegop_clear_bit((n), (a)))
+#define GENMASK(h, l) __GENMASK(h, l)
+#define FIELD_PREP(m, v) nalvegop_field_prep((m), (v))
+#define FIELD_GET(m, v) nalvegop_field_get((m), (v))
 
 /* Printing: what is printed does not get away. */
 #undef printk
@@ -365,6 +645,86 @@
 #define dev_info(...) ((void)(__VA_ARGS__))
 #define dev_dbg(...) ((void)(__VA_ARGS__))
 #define dev_notice(...) ((void)(__VA_ARGS__))
+#undef pr_emerg_ratelimited
+#undef pr_emerg_once
+#undef pr_alert_ratelimited
+#undef pr_alert_once
+#undef pr_crit_ratelimited
+#undef pr_crit_once
+#undef pr_err_ratelimited
+#undef pr_err_once
+#undef pr_warn_ratelimited
+#undef pr_warn_once
+#undef pr_notice_ratelimited
+#undef pr_notice_once
+#undef pr_info_ratelimited
+#undef pr_info_once
+#undef pr_debug_ratelimited
+#undef pr_debug_once
+#undef dev_emerg_ratelimited
+#undef dev_emerg_once
+#undef dev_alert_ratelimited
+#undef dev_alert_once
+#undef dev_crit_ratelimited
+#undef dev_crit_once
+#undef dev_err_ratelimited
+#undef dev_err_once
+#undef dev_warn_ratelimited
+#undef dev_warn_once
+#undef dev_notice_ratelimited
+#undef dev_notice_once
+#undef dev_info_ratelimited
+#undef dev_info_once
+#undef dev_dbg_ratelimited
+#undef dev_dbg_once
+#undef dev_emerg
+#undef dev_alert
+#undef dev_crit
+#undef dev_printk
+#undef printk_ratelimited
+#undef printk_once
+#undef pr_devel
+#undef dev_err_probe
+#define pr_emerg_ratelimited(...) ((void)(__VA_ARGS__), 0)
+#define pr_emerg_once(...) ((void)(__VA_ARGS__), 0)
+#define pr_alert_ratelimited(...) ((void)(__VA_ARGS__), 0)
+#define pr_alert_once(...) ((void)(__VA_ARGS__), 0)
+#define pr_crit_ratelimited(...) ((void)(__VA_ARGS__), 0)
+#define pr_crit_once(...) ((void)(__VA_ARGS__), 0)
+#define pr_err_ratelimited(...) ((void)(__VA_ARGS__), 0)
+#define pr_err_once(...) ((void)(__VA_ARGS__), 0)
+#define pr_warn_ratelimited(...) ((void)(__VA_ARGS__), 0)
+#define pr_warn_once(...) ((void)(__VA_ARGS__), 0)
+#define pr_notice_ratelimited(...) ((void)(__VA_ARGS__), 0)
+#define pr_notice_once(...) ((void)(__VA_ARGS__), 0)
+#define pr_info_ratelimited(...) ((void)(__VA_ARGS__), 0)
+#define pr_info_once(...) ((void)(__VA_ARGS__), 0)
+#define pr_debug_ratelimited(...) ((void)(__VA_ARGS__), 0)
+#define pr_debug_once(...) ((void)(__VA_ARGS__), 0)
+#define dev_emerg_ratelimited(...) ((void)(__VA_ARGS__))
+#define dev_emerg_once(...) ((void)(__VA_ARGS__))
+#define dev_alert_ratelimited(...) ((void)(__VA_ARGS__))
+#define dev_alert_once(...) ((void)(__VA_ARGS__))
+#define dev_crit_ratelimited(...) ((void)(__VA_ARGS__))
+#define dev_crit_once(...) ((void)(__VA_ARGS__))
+#define dev_err_ratelimited(...) ((void)(__VA_ARGS__))
+#define dev_err_once(...) ((void)(__VA_ARGS__))
+#define dev_warn_ratelimited(...) ((void)(__VA_ARGS__))
+#define dev_warn_once(...) ((void)(__VA_ARGS__))
+#define dev_notice_ratelimited(...) ((void)(__VA_ARGS__))
+#define dev_notice_once(...) ((void)(__VA_ARGS__))
+#define dev_info_ratelimited(...) ((void)(__VA_ARGS__))
+#define dev_info_once(...) ((void)(__VA_ARGS__))
+#define dev_dbg_ratelimited(...) ((void)(__VA_ARGS__))
+#define dev_dbg_once(...) ((void)(__VA_ARGS__))
+#define dev_emerg(...) ((void)(__VA_ARGS__))
+#define dev_alert(...) ((void)(__VA_ARGS__))
+#define dev_crit(...) ((void)(__VA_ARGS__))
+#define dev_printk(...) ((void)(__VA_ARGS__))
+#define printk_ratelimited(...) ((void)(__VA_ARGS__), 0)
+#define printk_once(...) ((void)(__VA_ARGS__), 0)
+#define pr_devel(...) ((void)(__VA_ARGS__), 0)
+#define dev_err_probe(d, e, ...) ((void)(d), (void)(__VA_ARGS__), (e))
 
 /* Bugs end the run; warnings do not. */
 #undef BUG
@@ -387,6 +747,24 @@
 #define unlikely(x) (!!(x))
 #define lockdep_assert_held(l) ((void)(l))
 #define might_sleep() ((void)0)
+#undef WARN_TAINT
+#undef lockdep_assert_held_write
+#undef lockdep_assert_held_read
+#undef lockdep_assert_held_once
+#undef lockdep_assert_not_held
+#undef might_lock
+#undef BUILD_BUG_ON
+#undef BUILD_BUG_ON_MSG
+#undef BUILD_BUG_ON_ZERO
+#define WARN_TAINT(c, ...) (!!(c))
+#define lockdep_assert_held_write(l) ((void)(l))
+#define lockdep_assert_held_read(l) ((void)(l))
+#define lockdep_assert_held_once(l) ((void)(l))
+#define lockdep_assert_not_held(l) ((void)(l))
+#define might_lock(l) ((void)(l))
+#define BUILD_BUG_ON(c) ((void)0)
+#define BUILD_BUG_ON_MSG(c, m) ((void)0)
+#define BUILD_BUG_ON_ZERO(c) (0)
 
 /* Waiting: nothing is known of the condition behind it. */
 #undef wait_event
@@ -405,6 +783,44 @@
 #define wake_up_all(q) ((void)(q))
 #define wake_up_interruptible(q) ((void)(q))
 #define init_waitqueue_head(q) ((void)(q))
+#undef wait_event_killable
+#undef wait_event_killable_timeout
+#undef wait_event_freezable
+#undef wait_event_lock_irq
+#undef wait_event_interruptible_lock_irq
+#undef wake_up_interruptible_all
+#undef wake_up_interruptible_sync
+#undef wake_up_poll
+#undef wake_up_interruptible_poll
+#undef DECLARE_WAITQUEUE
+#undef DEFINE_WAIT
+#undef DEFINE_WAIT_FUNC
+#undef DECLARE_WAIT_QUEUE_HEAD_ONSTACK
+#undef DECLARE_COMPLETION_ONSTACK
+#undef INIT_WORK
+#undef INIT_DELAYED_WORK
+#undef timer_setup
+#undef kthread_run
+#undef class_create
+#define wait_event_killable(q, c) ((c) ? 0 : nalvegop_int())
+#define wait_event_killable_timeout(q, c, t) ((void)(c), (void)(t), (long)nalvegop_int())
+#define wait_event_freezable(q, c) ((c) ? 0 : nalvegop_int())
+#define wait_event_lock_irq(q, c, l) (nalvegop_give_and_take(&(l)), (void)(c))
+#define wait_event_interruptible_lock_irq(q, c, l) (nalvegop_give_and_take(&(l)), (void)(c), nalvegop_int())
+#define wake_up_interruptible_all(q) ((void)(q))
+#define wake_up_interruptible_sync(q) ((void)(q))
+#define wake_up_poll(q, m) ((void)(q), (void)(m))
+#define wake_up_interruptible_poll(q, m) ((void)(q), (void)(m))
+#define DECLARE_WAITQUEUE(n, t) struct wait_queue_entry n
+#define DEFINE_WAIT(n) struct wait_queue_entry n
+#define DEFINE_WAIT_FUNC(n, f) struct wait_queue_entry n
+#define DECLARE_WAIT_QUEUE_HEAD_ONSTACK(n) struct wait_queue_head n
+#define DECLARE_COMPLETION_ONSTACK(n) struct completion n
+#define INIT_WORK(w, f) ((void)((w)->func = (f)))
+#define INIT_DELAYED_WORK(w, f) ((void)((w)->work.func = (f)))
+#define timer_setup(t, f, g) ((void)((t)->function = (f)), (void)(g))
+#define kthread_run(f, d, ...) nalvegop_made(d)
+#define class_create(...) nalvegop_made((void *)0)
 
 /* Memory of the user, and of devices: its contents are not known. */
 #undef get_user
@@ -427,6 +843,107 @@
 #define writeb(v, a) ((void)(v), (void)(a))
 #define writew(v, a) ((void)(v), (void)(a))
 #define writel(v, a) ((void)(v), (void)(a))
+#undef __get_user
+#undef __put_user
+#undef __copy_from_user
+#undef __copy_to_user
+#undef clear_user
+#undef access_ok
+#undef readb_relaxed
+#undef readw_relaxed
+#undef readl_relaxed
+#undef writeb_relaxed
+#undef writew_relaxed
+#undef writel_relaxed
+#undef ioread8
+#undef ioread16
+#undef ioread32
+#undef iowrite8
+#undef iowrite16
+#undef iowrite32
+#define __get_user(x, p) ((void)(p), (x) = nalvegop_int(), nalvegop_int())
+#define __put_user(x, p) ((void)(x), (void)(p), nalvegop_int())
+#define __copy_from_user(d, s, n) ((void)(d), (void)(s), (void)(n), (unsigned long)nalvegop_uint())
+#define __copy_to_user(d, s, n) ((void)(d), (void)(s), (void)(n), (unsigned long)nalvegop_uint())
+#define clear_user(d, n) ((void)(d), (void)(n), (unsigned long)nalvegop_uint())
+#define access_ok(...) ((void)(__VA_ARGS__), nalvegop_more())
+#define readb_relaxed(a) ((void)(a), (unsigned char)nalvegop_uint())
+#define readw_relaxed(a) ((void)(a), (unsigned short)nalvegop_uint())
+#define readl_relaxed(a) ((void)(a), nalvegop_uint())
+#define writeb_relaxed(v, a) ((void)(v), (void)(a))
+#define writew_relaxed(v, a) ((void)(v), (void)(a))
+#define writel_relaxed(v, a) ((void)(v), (void)(a))
+#define ioread8(a) ((void)(a), nalvegop_uint())
+#define ioread16(a) ((void)(a), nalvegop_uint())
+#define ioread32(a) ((void)(a), nalvegop_uint())
+#define iowrite8(v, a) ((void)(v), (void)(a))
+#define iowrite16(v, a) ((void)(v), (void)(a))
+#define iowrite32(v, a) ((void)(v), (void)(a))
+
+/* Bytes and strings: their contents are not followed, and no object goes away through them. */
+#undef memcpy
+#undef memmove
+#undef memset
+#undef strcpy
+#undef strncpy
+#undef strcat
+#undef strncat
+#undef memcmp
+#undef strcmp
+#undef strncmp
+#undef strcasecmp
+#undef strncasecmp
+#undef sprintf
+#undef snprintf
+#undef scnprintf
+#undef strscpy
+#undef strlen
+#undef strnlen
+#undef strlcpy
+#undef strlcat
+#define memcpy(d, ...) ((void)(__VA_ARGS__), (d))
+#define memmove(d, ...) ((void)(__VA_ARGS__), (d))
+#define memset(d, ...) ((void)(__VA_ARGS__), (d))
+#define strcpy(d, ...) ((void)(__VA_ARGS__), (d))
+#define strncpy(d, ...) ((void)(__VA_ARGS__), (d))
+#define strcat(d, ...) ((void)(__VA_ARGS__), (d))
+#define strncat(d, ...) ((void)(__VA_ARGS__), (d))
+#define memcmp(...) ((void)(__VA_ARGS__), nalvegop_int())
+#define strcmp(...) ((void)(__VA_ARGS__), nalvegop_int())
+#define strncmp(...) ((void)(__VA_ARGS__), nalvegop_int())
+#define strcasecmp(...) ((void)(__VA_ARGS__), nalvegop_int())
+#define strncasecmp(...) ((void)(__VA_ARGS__), nalvegop_int())
+#define sprintf(...) ((void)(__VA_ARGS__), nalvegop_int())
+#define snprintf(...) ((void)(__VA_ARGS__), nalvegop_int())
+#define scnprintf(...) ((void)(__VA_ARGS__), nalvegop_int())
+#define strscpy(...) ((void)(__VA_ARGS__), nalvegop_int())
+#define strlen(...) ((void)(__VA_ARGS__), nalvegop_ulong())
+#define strnlen(...) ((void)(__VA_ARGS__), nalvegop_ulong())
+#define strlcpy(...) ((void)(__VA_ARGS__), nalvegop_ulong())
+#define strlcat(...) ((void)(__VA_ARGS__), nalvegop_ulong())
+
+/* A machine works on the object behind an operation's first argument. These calls have none, and get one. */
+#ifdef NALVEGOP_MACHINE
+extern struct nalvegop_cpu { int state; } nalvegop_cpu;
+void nalvegop_irq_disable(struct nalvegop_cpu *cpu);
+void nalvegop_irq_enable(struct nalvegop_cpu *cpu);
+void nalvegop_preempt_disable(struct nalvegop_cpu *cpu);
+void nalvegop_preempt_enable(struct nalvegop_cpu *cpu);
+void nalvegop_rcu_lock(struct nalvegop_cpu *cpu);
+void nalvegop_rcu_unlock(struct nalvegop_cpu *cpu);
+#undef local_irq_disable
+#undef local_irq_enable
+#undef preempt_disable
+#undef preempt_enable
+#undef rcu_read_lock
+#undef rcu_read_unlock
+#define local_irq_disable() nalvegop_irq_disable(&nalvegop_cpu)
+#define local_irq_enable() nalvegop_irq_enable(&nalvegop_cpu)
+#define preempt_disable() nalvegop_preempt_disable(&nalvegop_cpu)
+#define preempt_enable() nalvegop_preempt_enable(&nalvegop_cpu)
+#define rcu_read_lock() nalvegop_rcu_lock(&nalvegop_cpu)
+#define rcu_read_unlock() nalvegop_rcu_unlock(&nalvegop_cpu)
+#endif
 
 /* What stands at file scope and says nothing of a run. */
 #undef module_init
@@ -451,4 +968,41 @@
 #define MODULE_DEVICE_TABLE(t, n) extern int nalvegop_int(void)
 #define module_param(n, t, p) extern int nalvegop_int(void)
 #define MODULE_PARM_DESC(n, d) extern int nalvegop_int(void)
+
+#undef core_initcall
+#undef postcore_initcall
+#undef arch_initcall
+#undef subsys_initcall
+#undef fs_initcall
+#undef rootfs_initcall
+#undef device_initcall
+#undef late_initcall
+#undef MODULE_VERSION
+#undef MODULE_FIRMWARE
+#undef MODULE_SOFTDEP
+#undef MODULE_IMPORT_NS
+#undef MODULE_INFO
+#undef EXPORT_SYMBOL_NS
+#undef EXPORT_SYMBOL_NS_GPL
+#undef module_param_named
+#undef module_param_array
+#undef module_param_string
+#define core_initcall(f) extern int nalvegop_int(void)
+#define postcore_initcall(f) extern int nalvegop_int(void)
+#define arch_initcall(f) extern int nalvegop_int(void)
+#define subsys_initcall(f) extern int nalvegop_int(void)
+#define fs_initcall(f) extern int nalvegop_int(void)
+#define rootfs_initcall(f) extern int nalvegop_int(void)
+#define device_initcall(f) extern int nalvegop_int(void)
+#define late_initcall(f) extern int nalvegop_int(void)
+#define MODULE_VERSION(x) extern int nalvegop_int(void)
+#define MODULE_FIRMWARE(x) extern int nalvegop_int(void)
+#define MODULE_SOFTDEP(x) extern int nalvegop_int(void)
+#define MODULE_IMPORT_NS(x) extern int nalvegop_int(void)
+#define MODULE_INFO(t, x) extern int nalvegop_int(void)
+#define EXPORT_SYMBOL_NS(x, n) extern int nalvegop_int(void)
+#define EXPORT_SYMBOL_NS_GPL(x, n) extern int nalvegop_int(void)
+#define module_param_named(n, v, t, p) extern int nalvegop_int(void)
+#define module_param_array(n, t, c, p) extern int nalvegop_int(void)
+#define module_param_string(n, s, l, p) extern int nalvegop_int(void)
 #endif

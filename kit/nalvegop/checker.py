@@ -3,9 +3,10 @@
 from __future__ import annotations
 
 import os
+import re
 import subprocess
 import tempfile
-from collections.abc import Sequence
+from collections.abc import Mapping, Sequence
 from dataclasses import dataclass
 from functools import lru_cache
 
@@ -23,6 +24,10 @@ class NotChecked(Exception):
 
 class OutOfTime(NotChecked):
     """The program was ended, since its time was over."""
+
+
+class OutOfMemory(NotChecked):
+    """The program was refused memory."""
 
 
 def find_program(is_unproved: bool) -> str:
@@ -58,8 +63,9 @@ class Checker:
     reach: int = 2
     machine: str | None = None
 
-    def check(self, text: str, model: str, seconds: float) -> Verdicts:
-        """Returns the verdicts of a text. It is written to a file of a plain name, so that no name has a meaning."""
+    def check(self, text: str, model: str, seconds: float, renamed: Mapping[str, str]) -> Verdicts:
+        """Returns the verdicts of a text, in which names in place of others are told as those. It is written to a file
+        of a plain name, so that no name has a meaning."""
         with tempfile.TemporaryDirectory(prefix="nalvegop-") as room:
             with open(os.path.join(room, "unit.c"), "w", encoding="latin-1", newline="\n") as it:
                 it.write(text)
@@ -68,9 +74,14 @@ class Checker:
             is_json = writes_json(self.program)
             words += ["--format", "json"] if is_json else []
             said = _ran([*words, "unit.c"], room, seconds)
+        if said.returncode == 6:
+            raise OutOfMemory("memory was refused")
         if said.returncode not in (0, 1):
             raise NotChecked(_why(said))
-        return (read_json if is_json else read_text)(said.stdout.decode("latin-1"))
+        told = said.stdout.decode("latin-1")
+        if renamed:
+            told = re.sub(rf"\b(?:{'|'.join(renamed)})\b", lambda it: renamed[it[0]], told)
+        return (read_json if is_json else read_text)(told)
 
 
 def _ran(words: Sequence[str], folder: str, seconds: float) -> subprocess.CompletedProcess[bytes]:
@@ -85,8 +96,6 @@ def _ran(words: Sequence[str], folder: str, seconds: float) -> subprocess.Comple
 def _why(said: subprocess.CompletedProcess[bytes]) -> str:
     lines = [it for it in said.stderr.decode(errors="replace").splitlines() if it.startswith("saturn_check: ")]
     text = lines[-1].removeprefix("saturn_check: ") if lines else ""
-    if said.returncode == 6:
-        return "memory was refused"
     if said.returncode < 0:
         return f"saturn_check was ended by signal {-said.returncode}"
     return text or f"saturn_check ended with status {said.returncode}"

@@ -29,12 +29,18 @@ class BadDatabase(ValueError):
     """The compilation database cannot be read, or is not of its form."""
 
 
-# Flags that say what is made of the file, where it goes, or what is printed: with and without a word behind them.
-_DROPPED = {"-c", "-S", "-E", "-MD", "-MMD", "-MP", "-MG", "-M", "-MM", "-MV", "-w", "-pipe", "-v", "-P", "-C", "-CC", "-fsyntax-only", "-save-temps", "--compile"}
-_DROPPED_WITH_WORD = {"-o", "-MF", "-MT", "-MQ", "-MJ", "-dumpdir", "-dumpbase", "--output", "-Xlinker", "-L", "-l", "-aux-info"}
-_DROPPED_HEADS = ("-W", "-g", "-save-temps=", "-fdiagnostics", "-fno-diagnostics", "-l", "-L", "-d", "-o")
-_WITH_WORD = {"-D", "-U", "-I", "-isystem", "-iquote", "-idirafter", "-include", "-imacros", "-iprefix", "-isysroot", "-x", "-target", "--param", "-Xpreprocessor", "-Xclang", "-arch", "-mllvm", "-iwithprefix", "-A"}
+# Flags that say what is made of the file, where it goes, or what is printed: alone, with a word behind, and as heads.
+_DROPPED = {*"-c -S -E -w -pipe -v -P -C -CC -fsyntax-only -save-temps --compile".split()}
+_DROPPED_WITH_WORD = {*"-o -MF -MT -MQ -MJ -dumpdir -dumpbase --output -Xlinker -Xassembler -L -l -aux-info -T -u -z -e".split()}
+_DROPPED_HEADS = ("-W", "-M", "-g", "-save-temps=", "-fdiagnostics", "-fno-diagnostics", "-l", "-L", "-d", "-o")
+# Flags that stay with the word behind.
+_WITH_WORD = {
+    *"-D -U -I -B -A -x -isystem -iquote -idirafter -include -include-pch -imacros -iprefix -iwithprefix -iwithprefixbefore".split(),
+    *"-iwithsysroot -isysroot --sysroot -target --param -Xpreprocessor -Xclang -arch -mllvm".split(),
+}
 _C_ENDINGS = (".c", ".i")
+# How many files of words are read: one that names itself has an end so.
+_MOST_FILES = 2_000
 
 
 def kept_flags(words: list[str]) -> list[str]:
@@ -48,14 +54,36 @@ def kept_flags(words: list[str]) -> list[str]:
         elif word in _WITH_WORD:
             kept += words[at - 1 : at + 1]
             at += 1
-        elif word.startswith(("-Wp,-D", "-Wp,-U")):
+        elif word.startswith("-Wp,") and "-M" not in word:
             kept.append(word)
         elif word in _DROPPED or word.startswith(_DROPPED_HEADS):
             pass
-        elif word.startswith(("-", "@")) and word != "--":
-            # (what begins with neither is a file to compile or to link)
+        elif word.startswith("-") and word != "--":
+            # (what begins otherwise is a file to compile or to link)
             kept.append(word)
     return kept
+
+
+def _expanded(words: list[str], folder: str) -> list[str]:
+    """Returns the words with those of a file in place of its name (`@FILE`), as gcc and clang do; else `-o` may hide there."""
+    found, waiting, files = list[str](), words[::-1], 0
+    while waiting:
+        word = waiting.pop()
+        inside = _words_of_file(os.path.join(folder, word[1:])) if word.startswith("@") and files < _MOST_FILES else None
+        if inside is None:
+            found.append(word)
+        else:
+            waiting += inside[::-1]
+            files += 1
+    return found
+
+
+def _words_of_file(path: str) -> list[str] | None:
+    try:
+        with open(path, encoding="utf-8", errors="surrogateescape") as it:
+            return shlex.split(it.read())
+    except (OSError, ValueError):
+        return None
 
 
 def read_database(path: str) -> list[Compilation]:
@@ -70,7 +98,7 @@ def read_database(path: str) -> list[Compilation]:
             file = entry["file"]
             if not words or not file.endswith(_C_ENDINGS):
                 continue
-            made = Compilation(file, folder, *_compiler_and_flags([str(it) for it in words]))
+            made = Compilation(file, folder, *_compiler_and_flags([str(it) for it in words], folder))
             found.setdefault(os.path.realpath(made.path), made)
         return [*found.values()]
     except (OSError, ValueError, KeyError, TypeError, AttributeError) as error:
@@ -80,10 +108,10 @@ def read_database(path: str) -> list[Compilation]:
 _LAUNCHERS = {"ccache", "distcc", "sccache", "icecc"}
 
 
-def _compiler_and_flags(words: list[str]) -> tuple[str, tuple[str, ...]]:
+def _compiler_and_flags(words: list[str], folder: str) -> tuple[str, tuple[str, ...]]:
     if os.path.basename(words[0]) in _LAUNCHERS and len(words) > 1:
         words = words[1:]
-    return words[0], tuple(kept_flags(words[1:]))
+    return words[0], tuple(kept_flags(_expanded(words[1:], folder)))
 
 
 def of_flags(files: list[str], words: list[str]) -> list[Compilation]:
@@ -92,7 +120,8 @@ def of_flags(files: list[str], words: list[str]) -> list[Compilation]:
     if words and not words[0].startswith("-"):
         compiler, words = words[0], words[1:]
     head = shlex.split(compiler)
-    return [Compilation(it, os.getcwd(), head[0], tuple(kept_flags([*head[1:], *words]))) for it in files]
+    flags = tuple(kept_flags(_expanded([*head[1:], *words], os.curdir)))
+    return [Compilation(it, os.getcwd(), head[0], flags) for it in files]
 
 
 def chosen(listed: list[Compilation], files: list[str]) -> tuple[list[Compilation], list[str]]:

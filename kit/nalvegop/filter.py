@@ -1,8 +1,9 @@
 """Makes a preprocessed file fit for the checker, by spaces in place of what its own functions do not need.
 
-No byte moves, so every line and column stays. Each step keeps the meaning of the functions that are left, or says here
-what it loses; docs/MODELS.md has them as a table. A function whose meaning would be lost, since it has something that
-runs at the end of a scope, is *passed over*: its body becomes a `;`, and its name is given with the reason.
+Nothing moves, so every line and column stays; only blanks at the ends of lines go. Each step keeps the meaning of the
+functions that are left, or says here what it loses; docs/MODELS.md has them as a table. A function whose meaning would
+be lost, since it has something that runs at the end of a scope, is *passed over*: its body becomes a `;`, and its name is
+given with the reason.
 """
 
 from __future__ import annotations
@@ -10,10 +11,13 @@ from __future__ import annotations
 from bisect import bisect_right
 from collections.abc import Callable, Iterable
 from dataclasses import dataclass, field
+from functools import cached_property
 from itertools import accumulate
 
 from .segments import KEYWORDS, Segment, Unit
+from .shadows import Shadows, other_name
 from .tokens import Sheet, Token, tokens_of
+from .verdicts import At
 
 _ASM = {"asm", "__asm", "__asm__"}
 _TYPEOF = {"typeof", "__typeof", "__typeof__"}
@@ -34,8 +38,10 @@ class Filtered:
 
     text: str
     functions: list[str] = field(default_factory=list)
-    passed_over: dict[str, str] = field(default_factory=dict)
+    passed_over: dict[str, tuple[str, At]] = field(default_factory=dict)
     counts: dict[str, int] = field(default_factory=dict)
+    # Names that variables got, each with the old one.
+    renamed: dict[str, str] = field(default_factory=dict)
 
 
 IsOwn = Callable[[int], bool]
@@ -44,8 +50,10 @@ IsOwn = Callable[[int], bool]
 class Filter:
     """One run of the filter over a text. `is_own` says of a line whether it stands in the file itself."""
 
-    def __init__(self, text: str, is_own: IsOwn) -> None:
+    def __init__(self, text: str, is_own: IsOwn, operations: frozenset[str] = frozenset()) -> None:
+        """`operations`: those of a machine, which have a meaning of their own as the built-in names have."""
         self._text = text
+        self._fixed = BUILT_IN | operations
         self.sheet = Sheet(text)
         self.tokens = [*tokens_of(text)]
         self.unit = Unit(self.tokens)
@@ -53,7 +61,9 @@ class Filter:
         self._lines = _LineIndex(text)
         self._is_own = is_own
         self.counts: dict[str, int] = {}
-        self.passed_over: dict[str, str] = {}
+        self._renamed: dict[str, str] = {}
+        self._shadows = Shadows(self.tokens, self.partner, self.unit.typedefs())
+        self.passed_over: dict[str, tuple[str, At]] = {}
 
     # ---- what is left
 
@@ -67,21 +77,22 @@ class Filter:
         """Filters. With `only`, the own functions of these names keep their bodies, and so do those that they call; the
         bodies of the functions in `without` become prototypes."""
         self.sheet, self.counts, self.passed_over = Sheet(self._text), {}, {}
-        own = self.own_functions()
-        roots = [it for it in own if only is None or it.function in set(only)]
-        kept = self._needed(roots, own if only is None else [], {*without})
+        own, cut = self.own_functions(), set(without)
+        wanted = {it.function for it in own} if only is None else {*only}
+        roots = [it for it in own if it.function in wanted]
+        kept = self._needed(roots, cut)
         for segment in self.unit.segments:
             if id(segment) not in kept:
                 self._blank(segment.first, segment.end)
                 self._count("functions" if segment.is_function else "segments")
         for segment in self.unit.segments:
             if id(segment) in kept:
-                self._mend(segment, segment.function in without)
+                self._mend(segment, segment.function in cut)
         names = [it.function or "" for it in own if id(it) in kept]
-        return Filtered(self.sheet.text(), names, self.passed_over, self.counts)
+        return Filtered(_without_ends(self.sheet.text()), names, self.passed_over, self.counts, {new: old for old, new in self._renamed.items()})
 
-    def _needed(self, roots: list[Segment], own: list[Segment], without: set[str]) -> set[int]:
-        """Returns the segments that the roots need, by names and transitively, with what the file itself declares."""
+    def _needed(self, roots: list[Segment], without: set[str]) -> set[int]:
+        """Returns the segments that the roots need, by names and transitively."""
         twice = {it.function for it in self.own_functions()}
         by_name: dict[str, list[Segment]] = {}
         for segment in self.unit.segments:
@@ -93,13 +104,13 @@ class Filter:
         for segment in self.unit.segments:
             for name in segment.mentions:
                 by_name.setdefault(name, [segment])
-        kept, work, keeps_whole = set[int](), [*roots, *own], {id(it) for it in [*roots, *own] if it.function not in without}
+        kept, work, keeps_whole = set[int](), [*roots], {id(it) for it in roots if it.function not in without}
         while work:
             segment = work.pop()
             if id(segment) in kept:
                 continue
             kept.add(id(segment))
-            is_cut = segment.function in without or segment.function in BUILT_IN
+            is_cut = segment.function in without or segment.function in self._fixed
             names = self._head_names(segment) if is_cut and id(segment) not in keeps_whole else segment.names
             for name in names:
                 work += [it for it in by_name.get(name, []) if id(it) not in kept]
@@ -124,15 +135,32 @@ class Filter:
         why = self._cleanup(segment)
         if why and segment.function:
             self.passed_over[segment.function] = why
-        is_fixed = segment.function in BUILT_IN and not self._is_own(self._line(segment.name_at))
+        is_fixed = segment.function in self._fixed and not self._is_own(self._line(segment.name_at))
         if why or is_without or is_fixed:
             self._to_prototype(segment)
             return
         self._words(segment.first, segment.end)
+        self._rename_shadows(segment)
         self._asserts(segment.body[0], segment.end)
         self._asm_statements(segment.body[0], segment.end)
         self._once_loops(segment.body[0], segment.end)
         self._statement_expressions(segment.body[0], segment.end)
+
+    def _rename_shadows(self, segment: Segment) -> None:
+        """Gives a variable with the name of a typedef another name of the same length, which stands nowhere else."""
+        for shadow in self._shadows.of(segment):
+            if shadow.name not in self._renamed:
+                other = other_name(shadow.name, self._taken | {*self._renamed.values()})
+                if not other:
+                    continue
+                self._renamed[shadow.name] = other
+            for at in self._shadows.uses(shadow):
+                self._put(self.tokens[at], self._renamed[shadow.name])
+            self._count("names")
+
+    @cached_property
+    def _taken(self) -> set[str]:
+        return {it.text for it in self.tokens if it.is_word}
 
     def _to_prototype(self, segment: Segment) -> None:
         """Leaves `int f(int a);` of a function: its callers know its type, and nothing of what it does."""
@@ -140,17 +168,22 @@ class Filter:
         self._blank(opening, closing + 1)
         self.sheet.put(self.tokens[opening].start, ";")
 
-    def _cleanup(self, segment: Segment) -> str | None:
-        """Returns why the function is passed over: something of it runs at the end of a scope, which no text shows."""
+    def _cleanup(self, segment: Segment) -> tuple[str, At] | None:
+        """Returns why and where the function is passed over: something of it runs at the end of a scope, which no text
+        shows."""
         for at in range(segment.body[0], segment.end):
             text = self.tokens[at].text
-            if text in ("__attribute__", "__attribute") and self.tokens[at + 1].text == "(":
-                inside = self.tokens[at + 2 : self.partner[at + 1]]
-                if any(it.text in ("cleanup", "__cleanup__") for it in inside):
-                    return "cleanup"
+            behind = self.tokens[at + 1].text if at + 1 < segment.end else ""
+            is_attribute = text in ("__attribute__", "__attribute") and behind == "(" or text == "[" and behind == "["
+            if is_attribute and any(it.text in ("cleanup", "__cleanup__") for it in self.tokens[at + 2 : self.partner[at + 1]]):
+                return "cleanup", self.at(at)
             if text == CLEANUP_CALL:
-                return "pthread_cleanup_push"
+                return "pthread_cleanup_push", self.at(at)
         return None
+
+    def at(self, at: int) -> At:
+        """Returns the line and column of a token."""
+        return self._lines.at(self.tokens[at].start)
 
     def _words(self, first: int, end: int) -> None:
         """Brings words of gcc to what C11 has: each keeps the meaning for the checker."""
@@ -177,7 +210,15 @@ class Filter:
             elif token.text == "__builtin_unreachable":
                 self._put(token, "abort")
                 self._count("unreachable")
+            elif token.text == "[" and behind == "[" and self.partner[at] == self.partner[at + 1] + 1 and self._begins_attribute(at):
+                self._blank(at, self.partner[at] + 1)
+                self._count("attributes")
             at += 1
+
+    def _begins_attribute(self, at: int) -> bool:
+        """Returns whether `[[` begins an attribute of C23, and no index: one stands behind a name or a bracket."""
+        before = self.tokens[at - 1] if at else None
+        return before is None or before.text in (";", "{", "}", ":", ",", "(", "struct", "union", "enum")
 
     def _is_plain_type(self, first: int, end: int) -> bool:
         """Returns whether these tokens are a type without names other than a tag: words of types, a tag, then `*`."""
@@ -324,23 +365,23 @@ class Filter:
 
     def _is_left_early(self, opening: int, closing: int) -> bool:
         """Returns whether a break or continue between these braces belongs to the loop whose body they are."""
-        return any(
-            self.tokens[at].text in ("break", "continue") and not self._has_own_loop(at, opening, self.tokens[at].text == "break")
-            for at in range(opening + 1, closing)
-        )
-
-    def _has_own_loop(self, at: int, opening: int, is_break: bool) -> bool:
-        """Returns whether a loop, or for a break a switch, inside of the braces has this statement in its own braces."""
-        for i in range(opening + 1, at):
-            if self.tokens[i].text == "{" and self.partner[i] > at:
-                before = i - 1
-                if self.tokens[before].text == "do":
-                    return True
-                if self.tokens[before].text == ")":
-                    word = self.tokens[self.partner[before] - 1].text
-                    if word in ("for", "while") or is_break and word == "switch":
-                        return True
+        loop_end = switch_end = opening
+        for at in range(opening + 1, closing):
+            text = self.tokens[at].text
+            if text == "{":
+                head = self._head(at)
+                loop_end = max(loop_end, self.partner[at]) if head in _LOOPS else loop_end
+                switch_end = max(switch_end, self.partner[at]) if head == "switch" else switch_end
+            elif text == "continue" and at > loop_end or text == "break" and at > max(loop_end, switch_end):
+                return True
         return False
+
+    def _head(self, brace: int) -> str:
+        """Returns the word of the statement whose body begins with this brace, as `do` or `while`."""
+        before = brace - 1
+        if self.tokens[before].text == ")" and self.partner[before] > 0:
+            before = self.partner[before] - 1
+        return self.tokens[before].text
 
     def _statement_expressions(self, first: int, end: int) -> None:
         """`({ S });` as a whole statement becomes `{ S }`; `({ E1; E2; })` of expressions alone becomes `( E1, E2 )`."""
@@ -400,6 +441,11 @@ class Filter:
         self.counts[step] = self.counts.get(step, 0) + 1
 
 
+def _without_ends(text: str) -> str:
+    """Returns a text without the blanks at the ends of its lines: what is left stays at its line and column."""
+    return "\n".join(it.rstrip(" \t") for it in text.split("\n"))
+
+
 class _LineIndex:
     """The line of a place in a text."""
 
@@ -409,3 +455,7 @@ class _LineIndex:
 
     def line(self, at: int) -> int:
         return bisect_right(self._starts, at)
+
+    def at(self, at: int) -> At:
+        line = self.line(at)
+        return At(line, at - self._starts[line - 1] + 1)

@@ -4,6 +4,7 @@ from __future__ import annotations
 
 import hashlib
 import re
+from collections import Counter
 from dataclasses import dataclass, field
 
 from .lines import LineMap, Place, SourceFiles, decoded
@@ -18,6 +19,8 @@ KINDS = {
     "inner": "an operation on a lock that callers do not know is an error, for example of a local one",
     "leak": "memory that was allocated is neither freed, nor given to anyone, when the function ends",
 }
+# The object that models/linux.h gives to operations without an argument.
+PROCESSOR = "nalvegop_cpu"
 _LOCKS = {"spin_lock", "mutex_lock", "pthread_mutex_lock"}
 _UNLOCKS = {"spin_unlock", "mutex_unlock", "pthread_mutex_unlock"}
 
@@ -48,16 +51,36 @@ class Finding:
     paths: list[Path]
     # What it is known by, in a baseline: no line numbers are in it.
     known_by: str = ""
+    # Why it may be false.
     marks: list[str] = field(default_factory=list)
+    # The location's text as the checker has it.
+    about: str = ""
 
     @property
-    def is_in_model(self) -> bool:
-        return bool(self.marks)
+    def text(self) -> str:
+        """Returns the message, and why it may be false."""
+        return self.message + (f" (this may be false: {' and '.join(self.marks)})" if self.marks else "")
+
+
+_ELEMENT = re.compile(r"\[\d+\]")
+
+
+def one_of_each_array(findings: list[Finding]) -> list[Finding]:
+    """Returns the findings with one for all elements of an array of which the same is found; its message counts the others."""
+    found, more = dict[tuple[object, ...], Finding](), Counter[tuple[object, ...]]()
+    for number, it in enumerate(findings):
+        key = (it.kind, it.function, it.place, _ELEMENT.sub("[]", it.about)) if _ELEMENT.search(it.about) else (number,)
+        more[key] += key in found
+        found.setdefault(key, it)
+    for key, it in found.items():
+        if more[key]:
+            it.message += f"; the same of {more[key]} more element{'s' if more[key] > 1 else ''}"
+    return [*found.values()]
 
 
 def pretty(text: str) -> str:
     """Returns the location's text as C has it: `(*p).m` is `p->m`."""
-    return re.sub(r"\(\*([A-Za-z_]\w*)\)\.", r"\1->", text)
+    return "the processor" if text == PROCESSOR else re.sub(r"\(\*([A-Za-z_]\w*)\)\.", r"\1->", text)
 
 
 class Teller:
@@ -75,7 +98,9 @@ class Teller:
         paths = [self._path(function, report, run, number) for number, run in enumerate(report.runs)]
         place = self._main_place(function, report)
         made = Finding(report.kind, function.name, place, self._message(function, report), paths)
-        made.known_by = self._known_by(function, report)
+        made.known_by, made.about = self._known_by(function, report), report.about
+        if _ELEMENT.search(report.about):
+            made.marks.append("which element of an array an index means is not told apart")
         return made
 
     def _main_place(self, function: Function, report: Report) -> Place:
@@ -115,7 +140,7 @@ class Teller:
 
     def _bits(self, function: Function, report: Report) -> set[str]:
         """Returns all entry bits for which a report of this kind could stand: what differs among them is not named."""
-        rows = next((it.rows for it in function.items if it.what == "state" and it.name == report.about), [])
+        rows = _rows_about(function, report)
         if report.kind == "double":
             return {it.entry for it in rows if sum(one.entry == it.entry and one.after == "!" for one in rows) == len(report.runs)}
         ends = [(it.entry, it.before, it.result) for it in rows if it.after != "!"]
@@ -123,7 +148,7 @@ class Teller:
 
     def _double_rows(self, function: Function, report: Report) -> list[Row]:
         """Returns the error rows of the first entry bits from which each state has one."""
-        rows = next((it.rows for it in function.items if it.what == "state" and it.name == report.about), [])
+        rows = _rows_about(function, report)
         errors = [it for it in rows if it.after == "!"]
         for one in errors:
             same = [it for it in errors if it.entry == one.entry]
@@ -135,11 +160,15 @@ class Teller:
         """Returns a location in quotes; an object that a call gave has the place of that call."""
         found = re.search(r"call@(\d+):(\d+)", about)
         if not found:
-            return f"'{pretty(about)}'"
-        place = self.place(At(int(found[1]), int(found[2])))
-        inner = about.replace(found[0], "p")
-        what = "what" if inner in ("*p", "p") else f"'{pretty(inner)}' of the p that"
-        return f"{what} the call in line {place.line} gave"
+            return pretty(about) if about == PROCESSOR else f"'{pretty(about)}'"
+        at = At(int(found[1]), int(found[2]))
+        word = self._source_word(at)
+        given = f"what {_quoted(word) if word else 'the call'} gave in line {self.place(at).line}"
+        before, rest = about[: found.start()], about[found.end() :]
+        if before.strip("(*") or ")" in rest:
+            return f"'{pretty(before + 'it' + rest)}', where it is {given},"
+        member = rest.removeprefix("->").removeprefix(".")
+        return f"'{member}' of {given}" if member else given
 
     def _error(self, run: Run) -> str:
         """Says what goes wrong at the end of a run: the last call before the error is the operation, or leads to it."""
@@ -183,8 +212,7 @@ class Teller:
 
     def _ambiguous_rows(self, function: Function, report: Report) -> list[Row]:
         """Returns the first two rows that differ in the state behind alone: those that the report speaks of."""
-        rows = next((it.rows for it in function.items if it.what == "state" and it.name == report.about), [])
-        rows = [it for it in rows if it.after != "!"]
+        rows = [it for it in _rows_about(function, report) if it.after != "!"]
         for one in rows:
             same = [it for it in rows if (it.entry, it.before, it.result) == (one.entry, one.before, one.result)]
             if len(same) > 1:
@@ -244,10 +272,21 @@ class Teller:
         """Returns what a finding is known by: kind, function, location's text and the shape of its paths; no lines."""
         names = {(it.at.line, it.at.column): it.word for run in report.runs for it in run.events if it.kind == "call"}
         about = re.sub(r"call@(\d+):(\d+)", lambda it: f"call@{names.get((int(it[1]), int(it[2])), '')}", report.about)
+        about = _ELEMENT.sub("[]", about)
         if report.at:
             about = names.get((report.at.line, report.at.column), "")
         shape = [[(it.kind, "" if it.kind == "error" else it.word) for it in run.events] for run in report.runs]
         return hashlib.sha256(repr((report.kind, function.name, about, shape)).encode()).hexdigest()[:24]
+
+
+def _rows_about(function: Function, report: Report) -> list[Row]:
+    """Returns the rows of the location that the report speaks of."""
+    found = list[Row]()
+    for it in function.items:
+        if it.what == "state" and it.name == report.about:
+            found = it.rows
+            break
+    return found
 
 
 def _state(name: str | None) -> str:

@@ -25,6 +25,7 @@ class Models:
 
     name: str
     more: tuple[str, ...] = ()
+    has_machine: bool = False
 
     def flags(self) -> tuple[list[str], list[str]]:
         """Returns the words before and behind the file's own flags.
@@ -32,7 +33,8 @@ class Models:
         For Linux a header is forced in front, which includes the usual headers first and then sets their macros anew.
         For the C library that would come before the file's own _GNU_SOURCE: so there folders of headers stand first
         among the system's, each of which includes the real one and then sets its macros."""
-        first = ["-isystem", os.path.join(MODELS, "libc")] if self.name == "libc" else []
+        first = ["-DNALVEGOP_MACHINE"] if self.has_machine else []
+        first += ["-isystem", os.path.join(MODELS, "libc")] if self.name == "libc" else []
         last = ["-include", os.path.join(MODELS, "linux.h")] if self.name == "linux" else []
         return first, last + [word for it in self.more for word in ("-include", os.path.abspath(it))]
 

@@ -7,6 +7,7 @@ from collections.abc import Iterator
 from .check import FileResult
 from .findings import KINDS, Finding, pretty
 from .lines import SourceFiles
+from .reasons import Reason, words_of
 from .show_gcc import lines_of_one
 from .verdicts import Function, Item, Row
 
@@ -15,7 +16,7 @@ _ENDS = {"null": "null", "fresh": "new memory", "other": "another pointer", "sam
 
 
 def _word(state: str | None) -> str:
-    return "" if state is None else _STATES.get(state) or _ENDS.get(state, state)
+    return "" if state is None else {**_STATES, **_ENDS}.get(state, state)
 
 
 def _result(row: Row) -> str:
@@ -35,7 +36,7 @@ def rows_text(function: Function) -> Iterator[str]:
     """Gives the summary as tables with a column for each parameter of the entry bits."""
     yield f"{function.name}:"
     if function.skip:
-        yield f"  passed over: {function.skip}"
+        yield f"  passed over: {Reason(words_of(function.skip)).text}"
         return
     for item in function.items:
         yield f"  {_title(item)}"

@@ -106,6 +106,32 @@ class Unit:
         is_next = behind < len(self.tokens) and self.tokens[behind].is_word and not self.tokens[behind].text.startswith("__a")
         return behind if is_list and is_next and self.tokens[at - 1].is_word and self.tokens[at - 1].text not in KEYWORDS else None
 
+    def typedefs(self) -> frozenset[str]:
+        """Returns the names that typedefs declare, and not the tags and enumerators in them."""
+        found = set[str]()
+        for segment in self.segments:
+            heads = [it.text for it in self.tokens[segment.first : segment.first + 2]]
+            if "typedef" in heads and not segment.is_function:
+                found |= self._typedef(segment.first + heads.index("typedef") + 1, segment.end)
+        return frozenset(found)
+
+    def _typedef(self, at: int, end: int) -> set[str]:
+        found = set[str]()
+        while at < end:
+            token, behind = self.tokens[at], self.tokens[at + 1].text if at + 1 < end else ""
+            if token.text in _TYPE_HEADS:
+                at = self._behind_head(at, end)
+                continue
+            if token.text in _WITH_BRACKETS and behind == "(":
+                at = self.partner[at + 1] + 1
+                continue
+            if token.text == "(" and behind in ("*", "(") and self.partner[at] > at:
+                found |= {it.text for it in self.tokens[at : self.partner[at]] if it.is_word and it.text not in KEYWORDS}
+            elif token.is_word and token.text not in KEYWORDS and (behind in (";", ",", "[", "(") or behind in _WITH_BRACKETS):
+                found.add(token.text)
+            at = self.partner[at] + 1 if self.partner[at] > at else at + 1
+        return found
+
     def _read(self, first: int, end: int) -> Segment:
         segment = Segment(first, end)
         segment.names = frozenset(it.text for it in self.tokens[first:end] if it.is_word and it.text not in KEYWORDS)
@@ -114,7 +140,9 @@ class Unit:
             self._read_function(segment)
         segment.declares = self._declared(segment)
         heads = range(first, segment.body[0] if segment.is_function else end - 1)
-        segment.mentions = frozenset(self.tokens[i + 1].text for i in heads if self.tokens[i].text in _TYPE_HEADS and self.tokens[i + 1].is_word) - segment.declares
+        segment.mentions = (
+            frozenset(self.tokens[i + 1].text for i in heads if self.tokens[i].text in _TYPE_HEADS and self.tokens[i + 1].is_word) - segment.declares
+        )
         return segment
 
     def _read_function(self, segment: Segment) -> None:
@@ -182,7 +210,9 @@ class Unit:
                 at = self._behind_initialiser(at, end)
             elif token.text == "(" and self.partner[at] > at:
                 # `(*name)(..)` declares a name inside of the brackets, `name(..)` does not
-                is_declarator = self.tokens[at + 1].text in ("*", "(", "^") or self.partner[at] + 1 < end and self.tokens[self.partner[at] + 1].text in ("(", "[")
+                is_declarator = (
+                    self.tokens[at + 1].text in ("*", "(", "^") or self.partner[at] + 1 < end and self.tokens[self.partner[at] + 1].text in ("(", "[")
+                )
                 if is_declarator and not segment.is_function:
                     found |= {it.text for it in self.tokens[at : self.partner[at]] if it.is_word and it.text not in KEYWORDS}
                 at = self.partner[at] + 1

@@ -19,8 +19,7 @@ def lines_of(findings: list[Finding], files: SourceFiles) -> Iterator[str]:
 
 
 def lines_of_one(it: Finding, files: SourceFiles) -> Iterator[str]:
-    unsure = f" (a model of {' and of '.join(it.marks)} is used in '{it.function}', so this may be false)" if it.marks else ""
-    yield f"{it.place}: warning: {it.message}{unsure} [{it.kind}]"
+    yield f"{it.place}: warning: {it.text} [{it.kind}]"
     source = files.line(it.place.file, it.place.line)
     if source:
         yield f"{it.place.line:5} | {decoded(source).expandtabs(8)}"

@@ -9,16 +9,18 @@ from html import escape
 from .check import FileResult
 from .findings import Finding, Path
 from .lines import SourceFiles, decoded
+from .segments import KEYWORDS
+from .tokens import parts_of
 from .totals import summary
 
 _STYLE = """
 body { font: 15px/1.45 system-ui, sans-serif; margin: 2em auto; max-width: 70em; padding: 0 1em; color: #222; background: #fff }
 h1 { font-size: 1.5em } h2 { font-size: 1.2em; margin-top: 2em } h3 { font-size: 1em; margin-bottom: .2em }
 table { border-collapse: collapse } td, th { padding: .15em .8em .15em 0; text-align: left; vertical-align: top }
-pre { background: #f6f6f4; padding: .6em; overflow-x: auto; line-height: 1.5 }
+pre { background: #f6f6f4; padding: .6em; overflow-x: auto; tab-size: 8; line-height: 1.5 }
 .n { color: #999; user-select: none } .at { background: #fff3c4 } .end { background: #ffd9d4 }
 .step { color: #8a4b00; font-family: system-ui, sans-serif; font-size: 13px } .gap { color: #999 }
-details { margin: .4em 0 } summary { cursor: pointer }
+.comment { color: #6a737d } .string, .char { color: #0a5c36 } .number { color: #1a4f8b } .word { color: #7a1f5c }
 """
 # How many lines are shown before and behind a step.
 _AROUND = 2
@@ -41,7 +43,9 @@ def _parts(results: list[FileResult], files: SourceFiles, status: int) -> Iterat
     for number, _, it in numbered:
         yield from _finding(number, it, files)
     for result in results:
-        rest = [f"{name}: {why}" for name, why in result.passed_over.items()] + [f"{name}: no answer in time" for name in result.late]
+        rest = [f"{why.place or result.file}: {name} is passed over: {why.text}" for name, why in result.passed_over.items()] + [
+            f"{name}: no answer in time" for name in result.late
+        ]
         if result.failure or rest:
             yield f"<h2>{escape(result.file)}: what was not analysed</h2>\n"
             yield f"<p>{escape(result.failure)}</p>\n" if result.failure else "<p>" + "<br>".join(map(escape, rest)) + "</p>\n"
@@ -49,7 +53,7 @@ def _parts(results: list[FileResult], files: SourceFiles, status: int) -> Iterat
 
 
 def _finding(number: int, it: Finding, files: SourceFiles) -> Iterator[str]:
-    yield f'<h2 id="f{number}">{number}. {escape(it.message)} [{it.kind}]</h2>\n<p>{escape(str(it.place))}, in function {escape(it.function)}</p>\n'
+    yield f'<h2 id="f{number}">{number}. {escape(it.text)} [{it.kind}]</h2>\n<p>{escape(str(it.place))}, in function {escape(it.function)}</p>\n'
     for path in it.paths:
         if path.head:
             yield f"<h3>{escape(path.head[:1].upper() + path.head[1:])}</h3>\n"
@@ -63,17 +67,29 @@ def _drawn(it: Finding, path: Path, files: SourceFiles) -> Iterator[str]:
         for number, step in enumerate(path.steps, 1):
             if step.place.file == file:
                 notes.setdefault(step.place.line, []).append(f"({number}) {step.text}")
-        count = len(files.lines(file))
-        wanted = sorted({line for at in notes for line in range(max(at - _AROUND, 1), min(at + _AROUND, count) + 1)} | {*notes})
+        lines = coloured(files.lines(file))
+        wanted = sorted({line for at in notes for line in range(max(at - _AROUND, 1), at + _AROUND + 1) if line <= len(lines)})
         last_line = path.steps[-1].place.line
         yield f"<p>{escape(file)}</p>\n<pre>"
-        before = wanted[0]
+        before = min(wanted, default=0)
         for line in wanted:
             if line > before + 1:
                 yield '<span class="gap">      ...</span>\n'
             before = line
-            text = escape(decoded(files.line(file, line)).expandtabs(8)) or " "
+            text = lines[line - 1] or " "
             kind = ' class="end"' if line == last_line and path.steps[-1].place.file == file else ' class="at"' if line in notes else ""
             yield f'<span class="n">{line:5} </span><span{kind}>{text}</span>'
             yield f'   <span class="step">{escape("; ".join(notes[line]))}</span>\n' if line in notes else "\n"
         yield "</pre>\n"
+
+
+def coloured(lines: list[str]) -> list[str]:
+    """Returns the lines of a source as HTML, with comments, keywords, strings and numbers set off."""
+    text, made, at = "\n".join(lines), list[str](), 0
+    for it in parts_of(text):
+        if it.kind == "punct" or it.is_word and it.text not in KEYWORDS:
+            continue
+        made.append(escape(decoded(text[at : it.start])))
+        made.append("\n".join(f'<span class="{it.kind}">{escape(decoded(line))}</span>' for line in it.text.split("\n")))
+        at = it.end
+    return [*"".join([*made, escape(decoded(text[at:]))]).split("\n")]

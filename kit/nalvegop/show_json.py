@@ -7,6 +7,7 @@ from typing import Any
 from .check import FileResult
 from .findings import Finding
 from .lines import Place
+from .reasons import Reason
 from .rows import story
 
 
@@ -20,7 +21,7 @@ def _file(it: FileResult) -> dict[str, Any]:
         "failure": it.failure,
         "models": it.models,
         "analysed": [function.name for function in it.analysed],
-        "passed_over": [{"function": name, "reason": why} for name, why in it.passed_over.items()],
+        "passed_over": [_passed_over(name, why) for name, why in it.passed_over.items()],
         "late": it.late,
         "warnings": it.warnings,
         "hidden": it.hidden,
@@ -28,9 +29,22 @@ def _file(it: FileResult) -> dict[str, Any]:
     }
 
 
+def _passed_over(name: str, why: Reason) -> dict[str, Any]:
+    return {"function": name, "reason": why.words, "text": why.text, **({"place": _place(why.place)} if why.place else {})}
+
+
 def _finding(it: Finding, result: FileResult) -> dict[str, Any]:
     paths = [{"head": path.head, "choice": path.choice, "steps": [{**_place(step.place), "text": step.text} for step in path.steps]} for path in it.paths]
-    return {"kind": it.kind, "function": it.function, **_place(it.place), "message": it.message, "unsure": it.marks, "known_by": it.known_by, "paths": paths, "story": [*story(it, result)]}
+    return {
+        "kind": it.kind,
+        "function": it.function,
+        **_place(it.place),
+        "message": it.message,
+        "unsure": it.marks,
+        "known_by": it.known_by,
+        "paths": paths,
+        "story": [*story(it, result)],
+    }
 
 
 def _place(it: Place) -> dict[str, Any]:

@@ -27,7 +27,7 @@ class _Log:
         run = {
             "tool": {"driver": {"name": "nalvegop", "version": VERSION, "rules": [self._rule(kind, text) for kind, text in KINDS.items()]}},
             "columnKind": "unicodeCodePoints",
-            "originalUriBaseIds": {"SRCROOT": {"uri": f"file://{urllib.parse.quote(os.getcwd())}/"}},
+            "originalUriBaseIds": {"SRCROOT": {"uri": f"file://{urllib.parse.quote(os.fsencode(os.getcwd()))}/"}},
             "invocations": [{"executionSuccessful": status in (0, 1), "exitCode": status, "toolExecutionNotifications": self._notifications(results)}],
             "results": [self._result(it) for result in results for it in result.findings],
         }
@@ -47,7 +47,7 @@ class _Log:
             "ruleId": it.kind,
             "ruleIndex": list(KINDS).index(it.kind),
             "level": "warning",
-            "message": {"text": it.message},
+            "message": {"text": it.text},
             "locations": [{**self._location(it.place), "logicalLocations": [{"name": it.function, "kind": "function"}]}],
             "partialFingerprints": {"nalvegop/v1": it.known_by},
         }
@@ -55,12 +55,14 @@ class _Log:
         return {**made, "codeFlows": flows} if flows else made
 
     def _flow(self, path: Path) -> dict[str, Any]:
-        steps = [{"location": {**self._location(step.place), "message": {"text": step.text}}, "executionOrder": number} for number, step in enumerate(path.steps, 1)]
+        steps = [
+            {"location": {**self._location(step.place), "message": {"text": step.text}}, "executionOrder": number} for number, step in enumerate(path.steps, 1)
+        ]
         flow: dict[str, Any] = {"threadFlows": [{"locations": steps}]}
         return {"message": {"text": path.head}, **flow} if path.head else flow
 
     def _location(self, place: Place) -> dict[str, Any]:
-        name = urllib.parse.quote(place.file)
+        name = urllib.parse.quote(os.fsencode(place.file))
         artifact = {"uri": f"file://{name}"} if os.path.isabs(place.file) else {"uri": name, "uriBaseId": "SRCROOT"}
         region = {"startLine": max(place.line, 1), "startColumn": self._column(place)}
         return {"physicalLocation": {"artifactLocation": artifact, "region": region}}

@@ -4,27 +4,27 @@ from __future__ import annotations
 
 import re
 from collections.abc import Iterator, Sequence
-from dataclasses import dataclass
+from typing import NamedTuple
 
-_TOKEN = re.compile(
-    r"""
-      (?P<space>(?:[ \t\v\f\r\n]|\\\r?\n)+)
+_PARTS = r"""
+    | [ \t\v\f\r]+ | \n+ | \\\r?\n
     | (?P<comment>/\*.*?\*/|//[^\n]*)
     | (?P<string>(?:u8|[LuU])?"(?:\\.|[^"\\\n])*")
     | (?P<char>[LuU]?'(?:\\.|[^'\\\n])*')
     | (?P<word>[A-Za-z_$][A-Za-z0-9_$]*)
     | (?P<number>\.?[0-9](?:[eEpP][+-]|[A-Za-z0-9_.])*)
     | (?P<punct>\.\.\.|<<=|>>=|->|\+\+|--|<<|>>|<=|>=|==|!=|&&|\|\||[-+*/%&|^]=|\#\#|.)
-    """,
-    re.VERBOSE | re.DOTALL,
-)
+    """
+_FLAGS = re.VERBOSE | re.DOTALL | re.MULTILINE
+# (a line of the preprocessor goes on behind a backslash, and in a comment that it begins)
+_TOKEN = re.compile(r"^[ \t]*\#(?:/\*.*?\*/|\\\r?\n|[^\n])*" + _PARTS, _FLAGS)
+_TOKEN_OR_COMMENT = re.compile(r"(?!)" + _PARTS, _FLAGS)
 _DIRECTIVE = re.compile(r"[ \t]*#[^\n]*")
 OPENING, CLOSING = {"(": ")", "[": "]", "{": "}"}, {")", "]", "}"}
 
 
-@dataclass(frozen=True, slots=True)
-class Token:
-    """A token: its text, where it begins in the whole text, and its kind (word, number, string, char or punct)."""
+class Token(NamedTuple):
+    """A token: its text, where it begins in the whole text, and its kind (word, number, string, char, punct; comment)."""
 
     text: str
     start: int
@@ -39,32 +39,24 @@ class Token:
         return self.kind == "word"
 
 
-def tokens_of(text: str, start: int = 0, end: int | None = None) -> Iterator[Token]:
+def tokens_of(text: str) -> Iterator[Token]:
     """Gives the tokens of a text. Comments, white space and lines that begin with # are left out."""
-    at, end, begins_line = start, len(text) if end is None else end, True
-    while at < end:
-        if begins_line and (line := _DIRECTIVE.match(text, at, end)):
-            at = line.end()
-            continue
-        found = _TOKEN.match(text, at, end)
-        assert found and found.lastgroup
-        at = found.end()
-        if found.lastgroup == "space":
-            begins_line = begins_line or "\n" in found[0]
-        elif found.lastgroup != "comment":
-            begins_line = False
+    for found in _TOKEN.finditer(text):
+        kind = found.lastgroup
+        if kind and kind != "comment":
+            yield Token(found[0], found.start(), kind)
+
+
+def parts_of(text: str) -> Iterator[Token]:
+    """Gives tokens and comments of a source, and what stands in lines of the preprocessor too."""
+    for found in _TOKEN_OR_COMMENT.finditer(text):
+        if found.lastgroup:
             yield Token(found[0], found.start(), found.lastgroup)
 
 
 def comments_of(text: str) -> Iterator[tuple[int, str]]:
     """Gives the comments of a text, each with the place where it begins."""
-    at = 0
-    while at < len(text):
-        found = _TOKEN.match(text, at)
-        assert found
-        if found.lastgroup == "comment":
-            yield found.start(), found[0]
-        at = found.end()
+    return ((it.start, it.text) for it in parts_of(text) if it.kind == "comment")
 
 
 def partners(tokens: Sequence[Token]) -> list[int]:

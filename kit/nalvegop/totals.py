@@ -14,14 +14,14 @@ def _some(count: int, word: str) -> str:
 def summary(results: list[FileResult], known: int = 0) -> str:
     """Returns the line."""
     analysed = sum(len(it.analysed) for it in results)
-    reasons = Counter(why for it in results for why in it.passed_over.values())
+    reasons = Counter(why.text for it in results for why in it.passed_over.values())
     late = sum(len(it.late) for it in results)
     failed = sum(it.failure is not None for it in results)
     hidden = sum(it.hidden for it in results)
     found = sum(len(it.findings) for it in results)
     parts = [f"{_some(found, 'finding')}; {_some(analysed, 'function')} analysed in {_some(len(results) - failed, 'file')}"]
     if reasons:
-        parts.append(f"{sum(reasons.values())} passed over ({', '.join(f'{count} {why}' for why, count in reasons.most_common())})")
+        parts.append(f"{sum(reasons.values())} passed over ({', '.join(f'{why}: {count}' for why, count in reasons.most_common())})")
     if late:
         parts.append(f"{late} without an answer in time")
     if failed:

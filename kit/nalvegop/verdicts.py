@@ -31,9 +31,6 @@ class Skip:
     at: At | None = None
     count: int | None = None
 
-    def __str__(self) -> str:
-        return " ".join(it for it in (self.reason if self.reason in ("grammar", "limit") else "", self.kind) if it) or self.reason
-
 
 @dataclass(frozen=True)
 class Row:
@@ -251,15 +248,23 @@ def _json_row(row: dict[str, Any]) -> Row:
 
 
 def _json_event(it: dict[str, Any], location: str) -> Event:
-    words = {
-        "call": lambda: "*" if it["callee"] is None else it["callee"],
-        "if": lambda: str(int(it["holds"])),
-        "loop": lambda: str(int(it["holds"])),
-        "switch": lambda: it["number"],
-        "goto": lambda: it["label"],
-        "error": lambda: location,
-    }
-    return Event(_json_at(it["place"]), it["kind"], words.get(it["kind"], lambda: "")(), it.get("gave"))
+    return Event(_json_at(it["place"]), it["kind"], _json_word(it, location), it.get("gave"))
+
+
+def _json_word(it: dict[str, Any], location: str) -> str:
+    """Returns the word that the text has for an event."""
+    match it["kind"]:
+        case "call":
+            return "*" if it["callee"] is None else str(it["callee"])
+        case "if" | "loop":
+            return str(int(it["holds"]))
+        case "switch":
+            return str(it["number"])
+        case "goto":
+            return str(it["label"])
+        case "error":
+            return location
+    return ""
 
 
 def _json_report(it: dict[str, Any]) -> Report:

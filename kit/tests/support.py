@@ -2,6 +2,7 @@
 
 from __future__ import annotations
 
+import importlib
 import os
 import subprocess
 import sys
@@ -24,10 +25,10 @@ def built_checker() -> str | None:
         return os.environ["NALVEGOP_CHECKER"]
     sys.path.insert(0, os.path.join(TOP, "bin"))
     try:
-        import programs
+        found = importlib.import_module("programs").is_kept("saturn_check")
     finally:
         sys.path.pop(0)
-    return programs.is_kept("saturn_check")
+    return str(found) if found else None
 
 
 needs_checker = unittest.skipUnless(built_checker(), "no saturn_check is built: bin/saturn_check [--unproved] --where builds it")
@@ -56,4 +57,6 @@ def nalvegop(*words: str, at: str, checker: str | None = None) -> "subprocess.Co
     """Runs the command in a folder."""
     env = {**os.environ, "NALVEGOP_CHECKER": checker or built_checker() or "/nonexistent"}
     env.pop("CC", None)
-    return subprocess.run([sys.executable, "-B", COMMAND, *words], cwd=at, env=env, stdin=subprocess.DEVNULL, capture_output=True, text=True, errors="replace", check=False)
+    return subprocess.run(
+        [sys.executable, "-B", COMMAND, *words], cwd=at, env=env, stdin=subprocess.DEVNULL, capture_output=True, text=True, errors="replace", check=False
+    )

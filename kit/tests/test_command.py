@@ -4,23 +4,53 @@ from __future__ import annotations
 
 import json
 import os
+import pty
 import re
+import signal
+import subprocess
+import sys
+import time
 import unittest
+from collections.abc import Callable
+from typing import TypeVar
 
 from nalvegop.check import FileResult
-from nalvegop.findings import Finding, Path, Step
+from nalvegop.findings import Finding, Path, Step, one_of_each_array
 from nalvegop.lines import Place
+from nalvegop.show_html import coloured
 from nalvegop.show_sarif import sarif
-from tests.support import KIT, folder, nalvegop, needs_checker, program
+from tests.support import COMMAND, KIT, folder, nalvegop, needs_checker, program
 
 _EMPTY = "total functions 0 skipped 0 rows 0 reports 0"
 _NOTHING = f'case "$1" in --help) ;; *) echo "{_EMPTY}" ;; esac'
 _LOST = "#include <stdlib.h>\nvoid lost(void)\n{\n\tvoid *p = malloc(1);\n}\n"
 
 
+_Found = TypeVar("_Found")
+
+
+def wait_for(ask: Callable[[], _Found | None]) -> _Found:
+    """Returns the first answer that counts, within half a minute."""
+    end = time.monotonic() + 30
+    while not (found := ask()):
+        if time.monotonic() > end:
+            raise AssertionError("it did not come in time")
+        time.sleep(0.05)
+    return found
+
+
+def lines_of(path: str) -> list[str]:
+    try:
+        with open(path, encoding="utf-8") as it:
+            return it.read().split()
+    except FileNotFoundError:
+        return []
+
+
 class Statuses(unittest.TestCase):
     def test_words(self) -> None:
-        for words in ([], ["check"], ["check", "--depth", "9", "a.c"], ["check", "--format", "xml", "a.c"], ["check", "--update-baseline", "a.c"], ["explain", "a.c"], ["what"]):
+        bad = "", "check", "check --depth 9 a.c", "check --format xml a.c", "check --update-baseline a.c", "explain a.c", "explain 1", "what"
+        for words in (it.split() for it in bad):
             with folder(a__c="int x;\n") as room:
                 said = nalvegop(*words, at=room, checker=program(room, _NOTHING))
                 self.assertEqual((said.returncode, said.stdout), (3, ""), words)
@@ -43,7 +73,12 @@ class Statuses(unittest.TestCase):
             self.assertIn("there is no compiler no-such-cc", said.stderr)
 
     def test_a_program_that_is_refused_memory_or_refuses(self) -> None:
-        for text, why in (("exit 6", "memory was refused"), ('echo "saturn_check: unit.c:1:2: lexical" >&2; exit 2', "unit.c:1:2: lexical"), ("kill -SEGV $$", "signal 11"), ("echo what", "not understood")):
+        for text, why in (
+            ("exit 6", "memory was refused"),
+            ('echo "saturn_check: unit.c:1:2: lexical" >&2; exit 2', "unit.c:1:2: lexical"),
+            ("kill -SEGV $$", "signal 11"),
+            ("echo what", "not understood"),
+        ):
             with folder(a__c="int x;\n") as room:
                 said = nalvegop("check", "a.c", at=room, checker=program(room, text))
                 self.assertEqual(said.returncode, 2, text)
@@ -57,8 +92,64 @@ class Statuses(unittest.TestCase):
             self.assertIn("a.c: no answer in time: slow", said.stderr)
             self.assertNotIn("b.c:", said.stderr)
 
+    def test_a_slow_function_leaves_time_to_the_others(self) -> None:
+        source = "int slow(void) { return 1; }\n" + "".join(f"int f{it}(void) {{ return 1; }}\n" for it in range(3))
+        text = f'case "$1" in --help) exit 0 ;; esac; grep -q slow unit.c && sleep 60; echo "{_EMPTY}"'
+        with folder(a__c=source) as room:
+            said = nalvegop("check", "--seconds", "24", "--format", "json", "a.c", at=room, checker=program(room, text))
+            self.assertEqual(json.loads(said.stdout)["files"][0]["late"], ["slow"])
+
+    def test_a_function_of_which_nothing_is_said_is_named(self) -> None:
+        with folder(a__c="int f(void) { return 1; }\n") as room:
+            said = nalvegop("check", "--verbose", "--strict", "a.c", at=room, checker=program(room, _NOTHING))
+            self.assertEqual(said.returncode, 2)
+            self.assertIn("a.c:1:5: 'f' is passed over: syntax that is not read\n", said.stderr)
+
+    def test_many_functions_without_an_answer_are_not_all_named(self) -> None:
+        source = "".join(f"int f{it}(void) {{ return 1; }}\n" for it in range(9))
+        slow = f'case "$1" in --help) exit 0 ;; esac; sleep 30; echo "{_EMPTY}"'
+        with folder(a__c=source) as room:
+            said = nalvegop("check", "--seconds", "2", "a.c", at=room, checker=program(room, slow))
+            self.assertIn("a.c: no answer in time: f0, f1, f2, f3, f4 and 4 more (--verbose names all)", said.stderr)
+            said = nalvegop("check", "--seconds", "2", "--verbose", "a.c", at=room, checker=program(room, slow))
+            self.assertIn("f7, f8\n", said.stderr)
+            self.assertEqual(nalvegop("explain", "--seconds", "2", "a.c:1", at=room, checker=program(room, slow)).returncode, 2)
+
+    def test_files_side_by_side_are_shown_in_their_order(self) -> None:
+        late = f'case "$1" in --help) exit 0 ;; esac; grep -q first unit.c && sleep 1; echo "note unit.c:1:1 unsupported float"; echo "{_EMPTY}"'
+        with folder(a__c="int first(void) { return 1; }\n", b__c="int x;\n", c__c="int y;\n") as room:
+            said = nalvegop("check", "-j", "3", "--format", "json", "a.c", "b.c", "c.c", at=room, checker=program(room, late))
+            self.assertEqual([it["file"] for it in json.loads(said.stdout)["files"]], ["a.c", "b.c", "c.c"])
+
+    def test_what_runs_is_ended_with_the_command(self) -> None:
+        slow = 'case "$1" in --help) exit 0 ;; esac; echo $$ >>"$PIDS"; exec sleep 300'
+        for number, jobs in ((signal.SIGTERM, "1"), (signal.SIGTERM, "2"), (signal.SIGINT, "2")):
+            with folder(a__c="int f(void) { return 1; }\n", b__c="int f(void) { return 1; }\n") as room:
+                pids = os.path.join(room, "pids")
+                env = {**os.environ, "NALVEGOP_CHECKER": program(room, slow), "PIDS": pids}
+                with subprocess.Popen([sys.executable, "-B", COMMAND, "check", "-j", jobs, "a.c", "b.c"], cwd=room, env=env, stderr=subprocess.DEVNULL) as it:
+                    begun = wait_for(lambda: lines_of(pids) if len(lines_of(pids)) == int(jobs) else None)
+                    it.send_signal(number)
+                    self.assertEqual(it.wait(30), 130)
+                self.assertTrue(wait_for(lambda: not any(os.path.exists(f"/proc/{pid}") for pid in begun)), (number, jobs))
+
+    def test_a_line_on_a_terminal_says_how_many_files_are_done(self) -> None:
+        with folder(a__c="int x;\n", b__c="int y;\n") as room:
+            ours, theirs = pty.openpty()
+            env = {**os.environ, "NALVEGOP_CHECKER": program(room, _NOTHING)}
+            with subprocess.Popen([sys.executable, "-B", COMMAND, "check", "a.c", "b.c"], cwd=room, env=env, stdout=subprocess.DEVNULL, stderr=theirs) as it:
+                os.close(theirs)
+                it.wait(60)
+            shown = os.read(ours, 10_000).decode()
+            os.close(ours)
+            self.assertIn("\rnalvegop: 1 of 2 files", shown)
+            said = nalvegop("check", "a.c", "b.c", at=room, checker=program(room, _NOTHING))
+            self.assertNotIn("of 2 files", said.stderr)
+
     def test_a_database_that_lacks_a_file(self) -> None:
-        with folder(a__c="int x;\n", b__c="int x;\n", compile_commands__json=json.dumps([{"directory": ".", "file": "a.c", "arguments": ["gcc", "a.c"]}])) as room:
+        with folder(
+            a__c="int x;\n", b__c="int x;\n", compile_commands__json=json.dumps([{"directory": ".", "file": "a.c", "arguments": ["gcc", "a.c"]}])
+        ) as room:
             checker = program(room, _NOTHING)
             self.assertEqual(nalvegop("check", "-p", ".", at=room, checker=checker).returncode, 0)
             said = nalvegop("check", "-p", "compile_commands.json", "b.c", at=room, checker=checker)
@@ -69,7 +160,18 @@ class Statuses(unittest.TestCase):
     def test_as_the_checker_of_the_kernels_make(self) -> None:
         echo = 'case "$1" in --help) exit 0 ;; esac; grep -q "int given" unit.c || exit 6; echo "' + _EMPTY + '"'
         with folder(a__c="NAME int f(void) { return given; }\n") as room:
-            said = nalvegop("sparse", "-D__linux__", "-Wbitwise", "-DNAME=extern int given;", "-I.", "a.c", at=room, checker=program(room, echo))
+            said = nalvegop(
+                "sparse",
+                "-D__linux__",
+                "--arch=i386",
+                "-mlittle-endian",
+                "-Wbitwise",
+                "-DNAME=extern int given;",
+                "-I.",
+                "a.c",
+                at=room,
+                checker=program(room, echo),
+            )
             self.assertEqual((said.returncode, said.stdout), (0, ""))
             self.assertNotIn("not analysed", said.stderr)
             self.assertEqual(nalvegop("sparse", "-DX", at=room, checker=program(room, echo)).returncode, 3)
@@ -107,7 +209,10 @@ class Forms(unittest.TestCase):
         run = log["runs"][0]
         self.assertEqual(log["version"], "2.1.0")
         self.assertEqual(run["results"][0]["locations"][0]["physicalLocation"]["artifactLocation"], {"uri": "a%20b/it%27s.c", "uriBaseId": "SRCROOT"})
-        self.assertEqual(run["results"][0]["codeFlows"][0]["threadFlows"][0]["locations"][1]["location"]["physicalLocation"]["artifactLocation"]["uri"], "file:///usr/include/x.h")
+        self.assertEqual(
+            run["results"][0]["codeFlows"][0]["threadFlows"][0]["locations"][1]["location"]["physicalLocation"]["artifactLocation"]["uri"],
+            "file:///usr/include/x.h",
+        )
         self.assertEqual(run["tool"]["driver"]["rules"][run["results"][0]["ruleIndex"]]["id"], "leak")
         self.assertEqual(len(run["invocations"][0]["toolExecutionNotifications"]), 2)
 
@@ -118,7 +223,9 @@ class Forms(unittest.TestCase):
             self.skipTest("there is no jsonschema")
         with open(os.path.join(KIT, "tests", "sarif-part.schema.json"), encoding="utf-8") as it:
             schema = json.load(it)
-        for results in ([], [self.result()], [FileResult("b.c", failure="why"), self.result()]):
+        bare = FileResult("c.c", findings=[Finding("double", "f", Place("c.c", 0, 0), "m", [Path("", [], "none")], "sum")])
+        cases: list[list[FileResult]] = [[], [self.result()], [bare], [FileResult("b.c", failure="why"), self.result()]]
+        for results in cases:
             jsonschema.validate(json.loads(json.dumps(sarif(results, 1))), schema)
 
     @needs_checker
@@ -130,8 +237,34 @@ class Forms(unittest.TestCase):
             self.assertEqual((said.returncode, said.stdout), (1, ""))
             with open(os.path.join(room, "out.html"), encoding="utf-8") as it:
                 page = it.read()
-            self.assertIn("void *p = malloc(1);", page)
+            self.assertIn('<span class="word">void</span> *p = malloc(<span class="number">1</span>);', page)
             self.assertNotRegex(page, r"(src|href)=\"(?!#)")
+
+    def test_all_elements_of_an_array_are_one_finding(self) -> None:
+        def made(about: str, line: int = 1, kind: str = "double") -> Finding:
+            return Finding(kind, "f", Place("a.c", line, 1), about, [], about=about)
+
+        given = [made("a[1]"), made("a[2]"), made("b"), made("b"), made("a[1]", 2), made("a[3]"), made("a[4]", 1, "ambiguous"), made("a[1].b[2]")]
+        self.assertEqual([it.message for it in one_of_each_array(given)], ["a[1]; the same of 2 more elements", "b", "b", "a[1]", "a[4]", "a[1].b[2]"])
+
+    def test_coloured_source(self) -> None:
+        made = coloured(["int a; /* of <two>", 'lines */ char *s = "\u00c3\u00a9 & //";', "#if 1 // rest"])
+        self.assertEqual(made[0], '<span class="word">int</span> a; <span class="comment">/* of &lt;two&gt;</span>')
+        self.assertEqual(
+            made[1], '<span class="comment">lines */</span> <span class="word">char</span> *s = <span class="string">&quot;\u00e9 &amp; //&quot;</span>;'
+        )
+        self.assertEqual(made[2], '#<span class="word">if</span> <span class="number">1</span> <span class="comment">// rest</span>')
+
+    @needs_checker
+    def test_a_name_that_is_no_text(self) -> None:
+        with folder() as room:
+            name = os.fsdecode(b"a\xff 'b'.c")
+            with open(os.path.join(room, name), "w", encoding="utf-8") as it:
+                it.write(_LOST)
+            for form in ("gcc", "json", "html", "sarif"):
+                said = nalvegop("check", "--format", form, name, at=room)
+                self.assertEqual((said.returncode, "Traceback" in said.stderr), (1, False), said.stderr)
+            self.assertIn("a%FF%20%27b%27.c", said.stdout)
 
     @needs_checker
     def test_explain_and_rows(self) -> None:

@@ -13,11 +13,40 @@ from tests.support import folder
 
 class Flags(unittest.TestCase):
     def test_output_warnings_and_dependencies_go(self) -> None:
-        words = "-c -o x.o -Wall -Werror=format -g3 -MD -MF x.d -MT x.o -save-temps -pipe a.c b.o -lm -L /lib -Wl,-z,now".split()
+        words = "-c -o x.o -Wall -Werror=format -g3 -MD -MF x.d -MT x.o -MFy.d -MQy -Wp,-MMD,z.d -save-temps -pipe a.c b.o -lm -L /lib -Wl,-z,now -u f".split()
         self.assertEqual(kept_flags(words), [])
 
+    def test_words_in_a_file(self) -> None:
+        with folder(more__rsp="-DA='b c' -o x.o @other.rsp", other__rsp="-DB @more.rsp", a__c="int x;\n") as room:
+            database = json.dumps([{"directory": room, "file": "a.c", "arguments": ["gcc", "@more.rsp", "@missing", "a.c"]}])
+            with open(os.path.join(room, "db.json"), "w", encoding="utf-8") as it:
+                it.write(database)
+            flags = read_database(os.path.join(room, "db.json"))[0].flags
+            self.assertEqual(flags[:3], ("-DA=b c", "-DB", "-DA=b c"))
+            self.assertEqual({*flags}, {"-DA=b c", "-DB"})
+
     def test_what_changes_the_text_stays(self) -> None:
-        words = ["-I", "a b", "-Ic", "-D", "X=-c", '-DY="a b"', "-UZ", "-isystem", "d", "-include", "e.h", "-std=gnu11", "-m32", "-O2", "-fshort-enums", "-x", "c", "-nostdinc", "-Wp,-DA=1"]
+        words = [
+            "-I",
+            "a b",
+            "-Ic",
+            "-D",
+            "X=-c",
+            '-DY="a b"',
+            "-UZ",
+            "-isystem",
+            "d",
+            "-include",
+            "e.h",
+            "-std=gnu11",
+            "-m32",
+            "-O2",
+            "-fshort-enums",
+            "-x",
+            "c",
+            "-nostdinc",
+            "-Wp,-DA=1",
+        ]
         self.assertEqual(kept_flags([*words, "-c", "f.c"]), words)
 
     def test_the_first_word_may_name_the_compiler(self) -> None:
@@ -33,7 +62,7 @@ class Database(unittest.TestCase):
     def test_arguments_and_commands(self) -> None:
         entries = [
             {"directory": ".", "file": "a.c", "arguments": ["ccache", "gcc", "-DA", "-c", "a.c"]},
-            {"directory": "sub", "file": "../it's.c", "command": "cc '-DX=\"a b\"' -c \"../it's.c\""},
+            {"directory": "sub", "file": "../it's.c", "command": 'cc \'-DX="a b"\' -c "../it\'s.c"'},
             {"directory": ".", "file": "b.cc", "arguments": ["g++", "b.cc"]},
             {"directory": ".", "file": "a.c", "arguments": ["gcc", "-DSECOND", "a.c"]},
         ]
@@ -68,7 +97,8 @@ class Preprocessing(unittest.TestCase):
 
     def test_models_that_fit(self) -> None:
         with folder(k__c="#include <linux/slab.h>\n", u__c="#include <stdio.h>\n#include <linux/if.h>\n", n__c="int x;\n") as room:
-            fits = [fitting_models(of_flags([os.path.join(room, it)], flags)[0]) for it, flags in (("k.c", []), ("u.c", []), ("n.c", []), ("n.c", ["-D__KERNEL__"]))]
+            cases: list[tuple[str, list[str]]] = [("k.c", []), ("u.c", []), ("n.c", []), ("n.c", ["-D__KERNEL__"])]
+            fits = [fitting_models(of_flags([os.path.join(room, it)], flags)[0]) for it, flags in cases]
         self.assertEqual(fits, ["linux", "libc", "libc", "linux"])
 
 

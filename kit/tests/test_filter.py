@@ -4,10 +4,14 @@ from __future__ import annotations
 
 import re
 import subprocess
+import time
 import unittest
+from collections.abc import Callable
 
 from nalvegop.filter import Filter, Filtered
 from nalvegop.lines import LineMap, SourceFiles
+from nalvegop.tokens import tokens_of
+from nalvegop.verdicts import At
 from tests.support import folder
 
 
@@ -21,11 +25,23 @@ def squeezed(text: str) -> str:
     return re.sub(r"\s+", " ", text).strip()
 
 
+# What the filter writes in place of something else.
+_WRITTEN = {",", ")", ";", "sizeof", '""', "abort"}
+
+
+def moved(made: str, before: str) -> list[str]:
+    """Returns the tokens that do not stand where they stood."""
+    if made.count("\n") != before.count("\n"):
+        return ["line feeds"]
+    lines = [*zip(made.split("\n"), before.split("\n"))]
+    return [it.text for new, old in lines for it in tokens_of(new) if not old.startswith(it.text, it.start) and it.text not in _WRITTEN]
+
+
 class Steps(unittest.TestCase):
     def becomes(self, before: str, after: str) -> None:
         made = filtered(before).text
         self.assertEqual(squeezed(made), after)
-        self.assertEqual([len(it) for it in made.split("\n")], [len(it) for it in before.split("\n")])
+        self.assertEqual(moved(made, before), [])
 
     def test_old_parameters(self) -> None:
         self.becomes("int f(a, b)\n int a;\n char *b;\n{ return a; }", "int f( int a, char *b) { return a; }")
@@ -58,7 +74,10 @@ class Steps(unittest.TestCase):
         self.becomes(text, text)
 
     def test_asserts_and_empty_members(self) -> None:
-        self.becomes('struct s { int a; ; int b; _Static_assert(1, "x"); }; int f(struct s *p) { _Static_assert(1, "y"); return p->a; }', "struct s { int a; int b; }; int f(struct s *p) { return p->a; }")
+        self.becomes(
+            'struct s { int a; ; int b; _Static_assert(1, "x"); }; int f(struct s *p) { _Static_assert(1, "y"); return p->a; }',
+            "struct s { int a; int b; }; int f(struct s *p) { return p->a; }",
+        )
 
     def test_initialisers_at_file_scope(self) -> None:
         self.becomes("static int a = 1, b[2] = { 1, 2 }; int f(void) { return a + b[0]; }", "static int a , b[2] ; int f(void) { return a + b[0]; }")
@@ -74,6 +93,51 @@ class Steps(unittest.TestCase):
         self.becomes("void f(void) { g(__func__); }", 'void f(void) { g("" ); }')
         self.becomes("_Atomic int a; int f(void) { return a; }", "int a; int f(void) { return a; }")
         self.becomes("_Atomic(int) a; int f(void) { return a; }", "int a; int f(void) { return a; }")
+
+    def renamed(self, before: str, after: str) -> None:
+        made = filtered(before)
+        self.assertEqual(squeezed(made.text), after)
+        for new, old in made.renamed.items():
+            self.assertEqual((len(new), before.count(new)), (len(old), 0))
+            self.assertEqual(re.sub(rf"\b{new}\b", old, squeezed(made.text)), squeezed(before))
+
+    def test_variables_that_are_named_as_types(self) -> None:
+        types = "typedef struct list { struct list *list; } list; "
+        self.renamed(types + "void f(list *list) { list->list = 0; g(list); }", types + "void f(list *lisA) { lisA->list = 0; g(lisA); }")
+        self.renamed(
+            types + "int f(const list *a, list *const list) { return a == list; }", types + "int f(const list *a, list *const lisA) { return a == lisA; }"
+        )
+        self.renamed(types + "void f(void) { struct list *list; list = h(); }", types + "void f(void) { struct list *lisA; lisA = h(); }")
+        self.renamed(
+            types + "void f(void) { { int a, list[2] = { 1 }; list[0] = a; } list *b = h(); g(b); }",
+            types + "void f(void) { { int a, lisA[2] = { 1 }; lisA[0] = a; } list *b = h(); g(b); }",
+        )
+        self.renamed(
+            types + "void f(void) { for (list *list = h(); list; list = list->list) g(list); }",
+            types + "void f(void) { for (list *lisA = h(); lisA; lisA = lisA->list) g(lisA); }",
+        )
+
+    def test_what_is_not_named_as_a_type_stays(self) -> None:
+        types = "typedef struct list { int tag; } list; typedef int (*call)(list *); "
+        for text in (
+            "list *f(list *a) { list *b = a; return (list *)b; }",
+            "int f(call a, list *b) { return a(b) * sizeof(list); }",
+            "void f(list *tag) { goto list; list: g(tag); }",
+            "int f(int (*a)(const list), list *b) { return a(*b); }",
+        ):
+            self.assertEqual(filtered(types + text).renamed, {}, text)
+
+    def test_a_new_name_stands_nowhere_else(self) -> None:
+        made = filtered("typedef int t; typedef int A; typedef int B; int f(t t) { return t; }")
+        self.assertEqual(made.renamed, {"C": "t"})
+
+    def test_attributes_of_c23(self) -> None:
+        self.becomes(
+            "[[nodiscard]] int f(int a) { switch (a) { case 1: a++; [[fallthrough]]; default: g(a); } return a; }",
+            "int f(int a) { switch (a) { case 1: a++; ; default: g(a); } return a; }",
+        )
+        text = "int f(int *a, int *b) { return a[b[0]]; }"
+        self.becomes(text, text)
 
     def test_line_markers_stay(self) -> None:
         text = '# 1 "a.h" 1\nstruct unused {\n# 3 "a.h"\n int a;\n};\n# 1 "a.c" 2\nint f(void) { return 1; }\n'
@@ -91,7 +155,10 @@ class WhatStays(unittest.TestCase):
 
     def test_functions_of_headers_that_are_reached_stay(self) -> None:
         header = "static inline int one(void) { return 1; } static inline int two(void) { return one(); } static inline int three(void) { return 3; }"
-        self.assertEqual(self.kept(header, "int f(void) { return two(); }"), "static inline int one(void) { return 1; } static inline int two(void) { return one(); } int f(void) { return two(); }")
+        self.assertEqual(
+            self.kept(header, "int f(void) { return two(); }"),
+            "static inline int one(void) { return 1; } static inline int two(void) { return one(); } int f(void) { return two(); }",
+        )
 
     def test_a_used_static_function_below_stays(self) -> None:
         own = "static int later(void); int f(void) { return later(); } static int later(void) { return 2; }"
@@ -106,13 +173,19 @@ class WhatStays(unittest.TestCase):
 
     def test_tags_behind_attributes_stay(self) -> None:
         header = "struct __attribute__((packed)) s { int a; } __attribute__((aligned(4))); struct t { struct s s; } t;"
-        self.assertEqual(self.kept(header, "int f(struct s *s) { return s->a; }"), "struct __attribute__((packed)) s { int a; } __attribute__((aligned(4))); int f(struct s *s) { return s->a; }")
+        self.assertEqual(
+            self.kept(header, "int f(struct s *s) { return s->a; }"),
+            "struct __attribute__((packed)) s { int a; } __attribute__((aligned(4))); int f(struct s *s) { return s->a; }",
+        )
 
     def test_a_function_that_the_file_defines_again(self) -> None:
         self.assertEqual(self.kept("extern inline int f(void) { return 1; }", "int f(void) { return 2; }"), "int f(void) { return 2; }")
 
     def test_bodies_of_built_in_names_go(self) -> None:
-        self.assertEqual(self.kept("static inline void spin_lock(int *l) { deep(l); } static inline void deep(int *l) { *l = 1; }", "void f(int *l) { spin_lock(l); }"), "static inline void spin_lock(int *l) ; void f(int *l) { spin_lock(l); }")
+        self.assertEqual(
+            self.kept("static inline void spin_lock(int *l) { deep(l); } static inline void deep(int *l) { *l = 1; }", "void f(int *l) { spin_lock(l); }"),
+            "static inline void spin_lock(int *l) ; void f(int *l) { spin_lock(l); }",
+        )
 
     def test_what_is_left_compiles_as_before(self) -> None:
         source = "#include <stdio.h>\n#include <stdlib.h>\n#include <string.h>\n#include <pthread.h>\n#include <errno.h>\nstatic pthread_mutex_t m;\nint f(const char *s, FILE *o) { pthread_mutex_lock(&m); errno = 0; fprintf(o, s); return strtol(s, NULL, 0) + strlen(s); }\n"
@@ -120,20 +193,65 @@ class WhatStays(unittest.TestCase):
             text = subprocess.run(["gcc", "-E", "unit.c"], cwd=room, capture_output=True, text=True, check=True).stdout
             line_map = LineMap(text, "unit.c", SourceFiles(room))
             made = Filter(text, line_map.is_own).run().text
-            said = subprocess.run(["gcc", "-fpreprocessed", "-fsyntax-only", "-Werror=implicit-function-declaration", "-x", "cpp-output", "-"], input=made, cwd=room, capture_output=True, text=True, check=False)
+            said = subprocess.run(
+                ["gcc", "-fpreprocessed", "-fsyntax-only", "-Werror=implicit-function-declaration", "-x", "cpp-output", "-"],
+                input=made,
+                cwd=room,
+                capture_output=True,
+                text=True,
+                check=False,
+            )
             self.assertEqual((said.returncode, said.stderr.count("error")), (0, 0), said.stderr)
+            self.assertEqual(moved(made, text), [])
             self.assertLess(len(squeezed(made)), len(squeezed(text)) / 4)
+
+
+class Time(unittest.TestCase):
+    """Four times the text takes four times as long, and not sixteen times."""
+
+    def seconds(self, text: str) -> float:
+        begun = time.process_time()
+        filtered(text)
+        return time.process_time() - begun
+
+    def test_it_is_linear(self) -> None:
+        shapes = [
+            "static int f%d(struct s *p) { do { if (p->a) { g(p); } } while (0); return ({ g(p); p->a; }); }\n",
+            "typedef struct { int a, b[2]; } t%d;\n",
+            "int old%d(a, b) int a; char *b; { return a; }\n",
+            'extern int v%d __asm__("w");      \n\n',
+        ]
+        for shape in shapes:
+            self.is_linear(lambda count: "".join(shape % number for number in range(count)), 400)
+        for block in (
+            "if (a) break; ",
+            "do { if (a) continue; } while (0); ",
+            "while (a) { switch (a) { case 1: break; } } ",
+            "while (a) { break; } ",
+            "({ g(a); a; }); ",
+        ):
+            self.is_linear(lambda count: f"void f(int a) {{ do {{ {block * count} }} while (0); }}", 400)
+        self.is_linear(lambda count: f"int a; {' ' * 100 * count} int b;\n", 1_000)
+
+    def is_linear(self, text: Callable[[int], str], count: int) -> None:
+        small, large = text(count), text(4 * count)
+        times = [(min(self.seconds(small) for _ in range(3)), self.seconds(large)) for _ in range(2)]
+        self.assertLess(min(one / max(other, 0.005) for other, one in times), 9, small[:100])
 
 
 class PassedOver(unittest.TestCase):
     def test_cleanup(self) -> None:
         made = filtered("void f(void) { int *p __attribute__((cleanup(g))) = 0; }\nvoid h(void) { f(); }")
-        self.assertEqual(made.passed_over, {"f": "cleanup"})
+        self.assertEqual(made.passed_over, {"f": ("cleanup", At(1, 23))})
         self.assertEqual(squeezed(made.text), "void f(void) ; void h(void) { f(); }")
 
     def test_a_call_of_the_model_of_cleanup_push(self) -> None:
         made = filtered("void f(void) { nalvegop_cleanup_push((g), (p)); }")
-        self.assertEqual(made.passed_over, {"f": "pthread_cleanup_push"})
+        self.assertEqual(made.passed_over, {"f": ("pthread_cleanup_push", At(1, 16))})
+
+    def test_cleanup_as_an_attribute_of_c23(self) -> None:
+        self.assertEqual([*filtered("void f(void) { [[gnu::cleanup(g)]] int *p = 0; int a[b[0]]; }").passed_over], ["f"])
+        self.assertEqual([*filtered("int b[2]; int f(int cleanup, int *a) { return a[b[cleanup]]; }").passed_over], [])
 
     def test_other_attributes_do_not_count(self) -> None:
         self.assertEqual(filtered("void f(void) { int cleanup __attribute__((unused)) = 0; }").passed_over, {})

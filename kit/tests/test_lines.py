@@ -19,7 +19,7 @@ void f(int   x)
 {
 \tmark_1();   /* a comment */ mark_2(x  +  1);
 \tTWO(x = 1,
-\t    x = 2); mark_3();
+\t    mark_14()); mark_3();
 \tTWO(x = 1, /* of two
 \t\tlines */ x = 2);
 \tmark_4(); NOTHING mark_5();
@@ -43,7 +43,9 @@ class Places(unittest.TestCase):
             words = ["-std=gnu89", "source.c"]
             text = subprocess.run([compiler, "-E", *words], cwd=room, capture_output=True, encoding="latin-1", check=True).stdout
             bytes_of = ["-fdiagnostics-column-unit=byte"] if compiler == "gcc" else []
-            said = subprocess.run([compiler, *bytes_of, "-fsyntax-only", "-Wimplicit-function-declaration", *words], cwd=room, capture_output=True, text=True, check=False).stderr
+            said = subprocess.run(
+                [compiler, *bytes_of, "-fsyntax-only", "-Wimplicit-function-declaration", *words], cwd=room, capture_output=True, text=True, check=False
+            ).stderr
             line_map = LineMap(text, "source.c", SourceFiles(room))
             found = {}
             for number, line in enumerate(text.split("\n"), 1):
@@ -56,7 +58,7 @@ class Places(unittest.TestCase):
 
     def test_places_are_those_of_gcc(self) -> None:
         found, told = self.marks("gcc")
-        self.assertEqual(len(told), 13)
+        self.assertEqual(len(told), 14)
         self.assertEqual(found, told)
 
     def test_places_are_those_of_clang(self) -> None:

@@ -13,7 +13,7 @@ import unittest
 
 from tests.support import PROJECTS, nalvegop, needs_checker
 
-_WORDS = {"machine": ["--machine", "file_handle.machine"], "header": ["--headers"]}
+_WORDS = {"machine": ["--machine", "file_handle.machine"], "rcu": ["--machine", "rcu"], "header": ["--headers"]}
 
 
 def said_of(name: str) -> str:

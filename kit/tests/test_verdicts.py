@@ -6,6 +6,7 @@ import json
 import unittest
 from typing import Any
 
+from nalvegop.reasons import Reason, words_of
 from nalvegop.verdicts import At, NotVerdicts, Verdicts, read_json, read_text
 
 TEXT = """\
@@ -67,7 +68,11 @@ _ENTER = {
     "bits": 1,
     "items": [
         {"item": "end", "rows": [_row([True], None, "none", None)]},
-        {"item": "state", "path": _path("*lock"), "rows": [_row([True], {"state": "U"}, "none", {"state": "L"}), _row([True], {"state": "L"}, "none", "error")]},
+        {
+            "item": "state",
+            "path": _path("*lock"),
+            "rows": [_row([True], {"state": "U"}, "none", {"state": "L"}), _row([True], {"state": "L"}, "none", "error")],
+        },
     ],
     "writes": [],
     "reports": [],
@@ -124,7 +129,7 @@ class Reading(unittest.TestCase):
     def test_what_the_text_says(self) -> None:
         found = read_text(TEXT)
         self.assertEqual([it.name for it in found.functions], ["enter", "odd", "many", "serve"])
-        self.assertEqual(str(found.functions[1].skip), "float")
+        self.assertEqual([Reason(words_of(it.skip)).text for it in found.functions if it.skip], ["floating point", "too large"])
         self.assertEqual(found.functions[3].reports[0].at, At(13, 24))
         self.assertEqual(found.functions[3].reports[0].runs[0].events[2].word, "-3")
 

@@ -14,8 +14,8 @@ static inline void nalvegop_cond_wait(pthread_mutex_t *mutex)
 #define pthread_cond_broadcast(c) ((void)(c), 0)
 #define pthread_mutex_init(m, a) ((void)(m), (void)(a), 0)
 #define pthread_mutex_destroy(m) ((void)(m), 0)
-/* Readers share, so read and write locks are not followed; examples/machines/pthread_rwlock.machine does. */
-#ifndef NALVEGOP_RWLOCK
+/* Readers share, so read and write locks are not followed, but by a machine (examples/machines/pthread_rwlock.machine). */
+#ifndef NALVEGOP_MACHINE
 #define pthread_rwlock_rdlock(l) ((void)(l), 0)
 #define pthread_rwlock_wrlock(l) ((void)(l), 0)
 #define pthread_rwlock_unlock(l) ((void)(l), 0)

@@ -28,6 +28,12 @@
 #define perror(...) ((void)(__VA_ARGS__))
 #define snprintf(...) ((void)(__VA_ARGS__), nalvegop_int())
 #define sprintf(...) ((void)(__VA_ARGS__), nalvegop_int())
+#undef fgets
+#undef fread
+#undef fwrite
+#define fgets(s, ...) ((void)(__VA_ARGS__), nalvegop_more() ? (s) : 0)
+#define fread(...) ((void)(__VA_ARGS__), nalvegop_ulong())
+#define fwrite(...) ((void)(__VA_ARGS__), nalvegop_ulong())
 static inline int nalvegop_asprintf(char **p)
 {
 	char *made = malloc(1);

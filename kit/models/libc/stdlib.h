@@ -15,4 +15,13 @@ static inline int nalvegop_memalign(void **p, unsigned long n)
 	return 0;
 }
 #define posix_memalign(p, a, n) nalvegop_memalign((p), ((void)(a), (n)))
+/* Numbers: where a text stops to be one is not followed. */
+#undef atoi
+#define atoi(...) ((void)(__VA_ARGS__), nalvegop_int())
+#undef atol
+#define atol(...) ((void)(__VA_ARGS__), nalvegop_long())
+#undef strtol
+#define strtol(...) ((void)(__VA_ARGS__), nalvegop_long())
+#undef strtoul
+#define strtoul(...) ((void)(__VA_ARGS__), nalvegop_ulong())
 #endif
