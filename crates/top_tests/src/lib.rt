@@ -1,6 +1,6 @@
-//! The tests of the top call: whole runs over files and sinks in memory. `rows` runs the rows of `locks`, `memory`,
-//! `skips`, `options` and `refusals`; `faults` has files and sinks that fail, words and limits; `workers` has runs with
-//! workers.
+//! The tests of the top call: whole runs over files and sinks in memory. `rows` runs the rows of `locks`, `numbers`,
+//! `memory`, `skips`, `options` and `refusals`; `faults` has files and sinks that fail, words and limits; `workers` has
+//! runs with workers.
 //!
 //! They stand in a crate of their own, so that the top call is proved once, without tests.
 #![tactic(auto)]
@@ -11,6 +11,8 @@ mod faults;
 mod locks;
 #[cfg(test)]
 mod memory;
+#[cfg(test)]
+mod numbers;
 #[cfg(test)]
 mod options;
 #[cfg(test)]

@@ -3,7 +3,7 @@
 use crate::rows::Row;
 use saturn_top::Status;
 
-pub static MEMORY: [Row; 3] = [
+pub static MEMORY: [Row; 4] = [
     Row {
         name: "parameter freed",
         words: &["saturn_check", "a.c"],
@@ -58,6 +58,39 @@ function m at a.c:1:6
     11 -> - null
   writes *o
 total functions 1 skipped 0 rows 5 reports 0
+",
+        err: "",
+    },
+    Row {
+        name: "leak of an out parameter",
+        words: &["saturn_check", "a.c"],
+        files: &[(
+            "a.c",
+            "\
+void mk(char**o){*o=kmalloc(4,0);}
+void use(_Bool c){char*p;mk(&p);if(c)kfree(p);}",
+        )],
+        status: Status::Reports,
+        out: "\
+function mk at a.c:1:6
+  entry o
+  exits
+    1 -> -
+  out o
+    1 -> - null
+    1 -> - fresh
+  writes *o
+function use at a.c:2:6
+  entry c
+  exits
+    0 -> -
+    1 -> -
+  report leak 2:26
+    choice 200
+    2:26 call mk
+    2:33 if 0
+    2:47 end
+total functions 2 skipped 0 rows 5 reports 1
 ",
         err: "",
     },

@@ -3,6 +3,7 @@
 
 use crate::locks::LOCKS;
 use crate::memory::MEMORY;
+use crate::numbers::NUMBERS;
 use crate::options::OPTIONS;
 use crate::refusals::REFUSALS;
 use crate::skips::SKIPS;
@@ -82,6 +83,14 @@ fn is_as_worked_out(alloc: Global, row: &Row) -> Result<bool, OutOfMemory> {
 #[test]
 fn locks_have_the_rows_of_their_runs(rt: HostRuntime) -> Result<(), Fail> {
     for row in &LOCKS {
+        assert!(rt; is_as_worked_out(rt.alloc(), row)?, "{}", row.name);
+    }
+    Ok(())
+}
+
+#[test]
+fn numbers_take_all_values_of_their_widths(rt: HostRuntime) -> Result<(), Fail> {
+    for row in &NUMBERS {
         assert!(rt; is_as_worked_out(rt.alloc(), row)?, "{}", row.name);
     }
     Ok(())
