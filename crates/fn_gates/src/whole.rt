@@ -12,12 +12,14 @@ ghost use Rattle.layout_base.specs.Seen as laid;
 ghost use Rattle.run_world.specs.Seen.{env};
 ghost use Rattle.sc_flow.specs.Seen as seen;
 ghost use Rattle.flow_gates.specs.Graph.{CanEncode};
-ghost use Rattle.flow_gates.specs.Steps.{AllHaveGates};
+ghost use Rattle.flow_whole.specs.Whole.{AllHaveGates};
 
 use bit_net::Net;
 use flow_ends::Encoded;
+use flow_fills::Laid;
 use flow_fits::can_encode;
-use flow_gates::{Graph, Steps, encode};
+use flow_gates::{Graph, Steps};
+use flow_whole::encode;
 use gate_entry::entered;
 use gl_store::{Val, blank};
 use layout_base::{Ground, Places};
@@ -57,24 +59,27 @@ fn nothing_given(here: &Here, net: &Net) -> Result<Val, bit_net::OutOfMemory>
 
 // The gates of all runs of the function at hand, whose graph has gates.
 #[tactic(auto, unfolding(run_world::specs::Seen::env))]
-fn encoded<S: Steps>(
-    here: &Here,
+fn encoded<'a, 'p, 'm, 'f, S: Steps>(
+    here: &'a Here<'p, 'm, 'f>,
+    layout: &'a Lookup<'p, 'f>,
     graph: &Graph<S>,
     net: &mut Net,
 ) -> Result<Encoded, bit_net::OutOfMemory>
     requires source { S.source graph.now.steps.now ≡ (env here.now).source }
     requires layout { S.layout graph.now.steps.now ≡ (env here.now).layout }
+    requires same { laid.layout_of layout.now.places.now ≡ (env here.now).layout }
     requires few { length (env here.now).layout.locations < 2 ^ 32 }
     requires unrolled { seen.flow (env here.now).source.structs graph.now.flow.now ≡ graph_of (env here.now).source }
     requires inputs { input_count net.old ≡ (env here.now).layout.bits }
     requires can { CanEncode (env here.now).source (env here.now).layout }
-    requires have { AllHaveGates (S.takes graph.now.steps.now) (S.makes graph.now.steps.now) (S.source graph.now.steps.now).structs graph.now.flow.now.nodes }
+    requires have { AllHaveGates (S.takes graph.now.steps.now) (S.makes graph.now.steps.now) graph.now.flow.now.nodes }
     ensures grown { Grown net.old net.new }
     ensures ok { IfOk result (λ r. IsEncoded (env here.now).source (env here.now).layout net.new r) }
 {
     let entry = entered(here, net)?;
     let nothing = nothing_given(here, net)?;
-    let encoded = encode(graph, net, entry, nothing, here.places.count())?;
+    let laid = Laid { here, layout };
+    let encoded = encode(graph, &laid, net, entry, nothing, here.places.count())?;
     Ok(encoded)
 }
 
@@ -102,7 +107,7 @@ fn of_few<'p, 'm, 'f>(
         steps: &steps,
         flow: &flow,
     };
-    let made = encoded(here, &graph, &mut net);
+    let made = encoded(here, &lookup, &graph, &mut net);
     let Graph {
         steps: _steps,
         flow: _flow,

@@ -1,12 +1,10 @@
--- Expressions over kept operands: their temps, their constants and their types.
+-- Expressions over kept operands: their temps and their constants.
 use Rattle.std.proofs.Common.{◌≡◌, ℕ, Bool, true, false, if◌then◌else◌, ◌&&◌, List, [], ◌∷◌, ◌++◌, refl, sym, ap}
 use Rattle.std.proofs.lemmas.Bool.{true≢false}
 use Rattle.run_laws.specs.Fits.{is_scalar}
-use Rattle.sc_tree.specs.declared.ctype.IntKind.TheVariants as kind
-use Rattle.sc_world.specs.Tree.{Ty, Int, is_array, Exp, Assign, Binary, Cast, Unary, PreInc, PostInc, SizeofExpr, Index, Field, Convert, type_of}
+use Rattle.sc_world.specs.Tree.{is_array, Exp, Assign, Binary, Cast, Unary, PreInc, PostInc, SizeofExpr, Index, Field, Convert, type_of}
 use Rattle.sc_world.specs.Source.{Source}
 use Rattle.flow_graph.specs.Conditions.{temps_of}
-use Rattle.flow_graph.specs.Expressions.{as_scalar}
 use Rattle.sc_flow.specs.Over.{over, value, object}
 use Rattle.expr_fits.specs.declared.operands.Arity.{Arity}
 use Rattle.expr_fits.specs.declared.operands.Arity.TheVariants as arity
@@ -113,17 +111,3 @@ constants_over s (PostInc d u t) x y some = refl
 constants_over s (Field u n true t) x y some = refl
 constants_over s (Field u n false t) x y some = refl
 constants_over s _ x y some = absurd (true≢false (sym some))
-
--- Types.
-
-pub type_over : (e : Exp) (x y : ℕ) → type_of (over e x y) ≡ type_of e
-type_over (Field u n true t) x y = refl
-type_over (Field u n false t) x y = refl
-type_over _ x y = refl
-
-scalar_if : (b : Bool) (t : Ty) → is_scalar t ≡ b → is_scalar (if b then t else Int kind.Int) ≡ true
-scalar_if true t is = is
-scalar_if false t is = refl
-
-pub former_scalar : (t : Ty) → is_scalar (as_scalar t) ≡ true
-former_scalar t = scalar_if (is_scalar t) t refl

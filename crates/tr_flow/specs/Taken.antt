@@ -1,10 +1,10 @@
 -- Which expressions, calls and nodes have gates, as a test at run time.
-use Rattle.std.specs.Prelude.{ℕ, Bool, true, false, ◌&&◌, List, [], ◌∷◌}
+use Rattle.std.specs.Prelude.{ℕ, Bool, true, false, not, ◌&&◌, List, [], ◌∷◌}
 use Rattle.std.specs.List.{list_all}
-use Rattle.run_laws.specs.Fits.{is_scalar}
-use Rattle.sc_world.specs.Tree.{Exp, SizeofExpr, type_of}
+use Rattle.sc_world.specs.Tree.{Exp, SizeofExpr}
 use Rattle.sc_world.specs.Source.{Source, Struct}
 use Rattle.sc_world.specs.Layout.{Layout}
+use Rattle.sc_world.specs.Eval.{is_logical}
 use Rattle.sc_world.specs.View.{exp}
 use Rattle.flow_graph.specs.Conditions.{is_plain, temps_of}
 use Rattle.expr_fits.specs.Fits.{constants_fit}
@@ -50,13 +50,19 @@ makes s p c = has_gates s (calling s.structs c).result (effect_of p (calling s.s
 
 -- Nodes.
 
--- whether a node has gates: those that need more have none here
+-- the expression has its type with it, as all have that give a value to a local
+abbrev pub has_type : Expression → Bool
+has_type expr.Nothing = false
+has_type (expr.Former n t) = false
+has_type _ = true
+
+-- Whether a node has gates: initialisers in braces have none here. The operator of an assignment is no `&&` and no `||`.
 abbrev pub node_has : Source → Layout → Node → Bool
 node_has s p (code.Keep want temp e next) = takes s e
 node_has s p (code.KeepCells slot e next) = false
 node_has s p (code.Call c args temp next) = makes s p c
-node_has s p (code.Update u want place former right temp next) = false
-node_has s p (code.Set n e next) = takes s e && is_scalar (type_of (expression s.structs e))
+node_has s p (code.Update u want place former right temp next) = not (is_logical u.op)
+node_has s p (code.Set n e next) = takes s e && has_type e
 node_has s p (code.Fill n xs slots next) = false
 node_has s p _ = true
 

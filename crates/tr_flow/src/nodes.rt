@@ -1,29 +1,29 @@
 //! Which nodes have gates.
 
 ghost use Rattle.std.specs.Prelude.{◌≡◌, true};
-ghost use Rattle.flow_gates.specs.Steps.{AllHaveGates};
+ghost use Rattle.flow_whole.specs.Whole.{AllHaveGates};
 ghost use Rattle.expr_fits.specs.Around as walk;
 ghost use Rattle.tr_flow.specs.Seen.{source_of, layout_of};
 ghost use Rattle.tr_flow.specs.Taken as spec;
 
 use crate::stepping::Stepping;
-use crate::taken::{is_scalar, takes};
+use crate::taken::{has_type, takes};
 use expr_fits::Around;
+use run_values::is_logical;
 use run_world::Here;
 use sc_flow::{Flow, Node};
 use tr_call::can_call;
 
-// Whether a node has gates: those that need more have none here.
+// Whether a node has gates: initialisers in braces have none here.
 fn has_gates(around: &Around, node: &Node) -> bool
     ensures { result ≡ spec.node_has (walk.source_of around.now) (walk.looked_in around.now) node.now }
 {
     match node {
         Node::Keep { expression, .. } => takes(around, expression),
-        Node::Set { expression, .. } => {
-            takes(around, expression) && is_scalar(around, expression)
-        }
+        Node::Set { expression, .. } => takes(around, expression) && has_type(expression),
+        Node::Update { updating, .. } => !is_logical(updating.op),
         Node::Call { calling, .. } => can_call(around.here, around.layout, calling),
-        Node::KeepCells { .. } | Node::Update { .. } | Node::Fill { .. } => false,
+        Node::KeepCells { .. } | Node::Fill { .. } => false,
         Node::Branch { .. } | Node::Choose { .. } => true,
         Node::Mark { .. } | Node::MarkSwitch { .. } => true,
         Node::Exit { .. } | Node::SetAside { .. } => true,
@@ -56,7 +56,7 @@ fn all_pass(steps: &Stepping, flow: &Flow) -> bool
 pub fn all_have_gates(steps: &Stepping, flow: &Flow) -> bool
     ensures exactly { result ≡ spec.all_have (source_of steps.now) (layout_of steps.now) flow.now.nodes }
     ensures gates { result ≡ true → AllHaveGates (spec.takes (source_of steps.now)) (spec.makes (source_of steps.now) (layout_of steps.now))
-        (source_of steps.now).structs flow.now.nodes }
+        flow.now.nodes }
 {
     all_pass(steps, flow)
 }

@@ -1,17 +1,14 @@
 // Which expressions of nodes have gates.
 
 ghost use Rattle.std.specs.Prelude.{◌≡◌, ℕ};
-ghost use Rattle.run_laws.specs.Fits as laws;
 ghost use Rattle.sc_flow.specs.Over.{over};
 ghost use Rattle.sc_flow.specs.Seen.{expression, truth};
-ghost use Rattle.sc_world.specs.Tree as tree;
 ghost use Rattle.sc_world.specs.View.{type};
 ghost use Rattle.expr_fits.specs.Around.{exp_of, source_of};
 ghost use Rattle.expr_fits.specs.Fits as fits;
 ghost use Rattle.tr_flow.specs.Taken as spec;
 
-use expr_fits::{Arity, Around, arity_of, type_of};
-use layout_base::is_cell;
+use expr_fits::{Arity, Around, arity_of};
 use run_entry::integer_bits;
 use run_exprs::character;
 use run_values::is_logical;
@@ -143,17 +140,13 @@ pub fn takes(around: &Around, e: &Expression) -> bool
     names_temps(around, e) && node_constants_fit(around, e)
 }
 
-/// Whether the expression of a node has the type of a number or of a pointer.
-#[tactic(auto, using(crate::proofs::Over::type_over, crate::proofs::Over::former_scalar))]
-pub fn is_scalar(around: &Around, e: &Expression) -> bool
-    ensures { result ≡ laws.is_scalar (tree.type_of (expression (source_of around.now).structs e.now)) }
+/// Whether the expression of a node has its type with it.
+pub fn has_type(e: &Expression) -> bool
+    ensures { result ≡ spec.has_type e.now }
 {
     match e {
-        Expression::Source(e) | Expression::Over(e, _, _) => is_cell(type_of(around, e)),
-        Expression::Temp(_, t) | Expression::TempPlace(_, t) | Expression::Truth(_, t) => {
-            is_cell(t)
-        }
-        Expression::Former(_, _) => true,
-        Expression::Nothing => false,
+        Expression::Source(_) | Expression::Over(_, _, _) => true,
+        Expression::Temp(_, _) | Expression::TempPlace(_, _) | Expression::Truth(_, _) => true,
+        Expression::Former(_, _) | Expression::Nothing => false,
     }
 }

@@ -1,0 +1,4 @@
+mod Types
+mod Reading
+mod Objects
+mod Assigning
