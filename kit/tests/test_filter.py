@@ -26,7 +26,7 @@ def squeezed(text: str) -> str:
 
 
 # What the filter writes in place of something else.
-_WRITTEN = {",", ")", ";", "sizeof", '""', "abort"}
+_WRITTEN = {",", ")", "(", ";", "sizeof", '""', "abort", "nv_part"}
 
 
 def moved(made: str, before: str) -> list[str]:
@@ -100,6 +100,23 @@ class Steps(unittest.TestCase):
         for new, old in made.renamed.items():
             self.assertEqual((len(new), before.count(new)), (len(old), 0))
             self.assertEqual(re.sub(rf"\b{new}\b", old, squeezed(made.text)), squeezed(before))
+
+    def test_the_object_round_a_member(self) -> None:
+        part = "void *nv_part(const void *); struct s { int a, b; }; "
+        cases = {
+            "struct s *f(int *p) { return ((struct s *)((char *)p - __builtin_offsetof(struct s, b))); }": "struct s *f(int *p) { return ((struct s *)(nv_part(p ) )); }",
+            "struct s *f(int *p) { return (struct s *)((const char *)(&p[1]) - __builtin_offsetof (struct s, b)); }": "struct s *f(int *p) { return (struct s *)(nv_part( (&p[1]) ) ); }",
+            "struct s *f(struct s *p) { return (void *)((char *)p->q[2].r - __builtin_offsetof(struct s, b)); }": "struct s *f(struct s *p) { return (void *)(nv_part(p->q[2].r ) ); }",
+        }
+        for before, after in cases.items():
+            self.becomes(part + before, part + after)
+            self.becomes("struct s { int a, b; }; " + before, "struct s { int a, b; }; " + before)
+        for text in (
+            "long f(long p) { return p - __builtin_offsetof(struct s, b); }",
+            "char *f(char *p) { return (char *)p + 1 - __builtin_offsetof(struct s, b); }",
+            "int f(int *p) { return (int)p - __builtin_offsetof(struct s, b); }",
+        ):
+            self.becomes(part + text, part + text)
 
     def test_variables_that_are_named_as_types(self) -> None:
         types = "typedef struct list { struct list *list; } list; "
