@@ -135,6 +135,7 @@ class Filter:
             self._file_asserts(segment)
             self._initialisers(segment)
             self._words(segment.first, segment.end)
+            self._rename_shadows(segment)
             self._empty_members(segment.first, segment.end)
             return
         self._old_parameters(segment)

@@ -134,6 +134,20 @@ class Steps(unittest.TestCase):
             types + "void f(void) { for (list *lisA = h(); lisA; lisA = lisA->list) g(lisA); }",
         )
 
+    def test_parameters_of_declarations_that_are_named_as_types(self) -> None:
+        types = "typedef struct list { int a; } list; "
+        self.renamed(
+            types + "int g(list *list, int a); int f(struct list *b) { return g(b, 1); }",
+            types + "int g(list *lisA, int a); int f(struct list *b) { return g(b, 1); }",
+        )
+        self.renamed(
+            types + "struct c { list *list; void (*go)(list *list); }; int f(struct c *p) { p->go(p->list); return 1; }",
+            types + "struct c { list *list; void (*go)(list *lisA); }; int f(struct c *p) { p->go(p->list); return 1; }",
+        )
+        self.renamed(
+            types + "int f(int (*list)(int), struct list *b) { return list(b->a); }", types + "int f(int (*lisA)(int), struct list *b) { return lisA(b->a); }"
+        )
+
     def test_what_is_not_named_as_a_type_stays(self) -> None:
         types = "typedef struct list { int tag; } list; typedef int (*call)(list *); "
         for text in (
