@@ -8,7 +8,7 @@ from dataclasses import dataclass, field
 
 from .checker import Checker, NotChecked, OutOfMemory, OutOfTime
 from .compilations import Compilation
-from .filter import Filter, Filtered
+from .filter import OFFSET, Filter, Filtered
 from .findings import Finding, Step, Teller, one_of_each_array
 from .lines import LineMap, Place, SourceFiles
 from .machines import operations
@@ -24,7 +24,8 @@ _EFFECTS = {
     *"pthread_mutex_lock pthread_mutex_unlock pthread_mutex_trylock".split(),
 }
 # Functions of the models that give an object without saying which: where one is called a finding may be false.
-_UNSURE = {"nalvegop_object": "container_of gives another object each time", "nalvegop_entry": "which entries a list has is not known"}
+_CONTAINER = "container_of gives another object each time"
+_UNSURE = {"nalvegop_object": _CONTAINER, OFFSET: _CONTAINER, "nalvegop_entry": "which entries a list has is not known"}
 
 
 @dataclass(frozen=True)
@@ -154,7 +155,7 @@ class FileCheck:
                 self.result.passed_over[function.name] = Reason(words_of(function.skip), self._shown(teller.place(at)) if at else None)
             names = segments[function.name].names if function.name in segments else frozenset[str]()
             for finding in one_of_each_array([teller.finding(function, report) for report in function.reports]):
-                finding.marks += sorted(why for name, why in _UNSURE.items() if name in names)
+                finding.marks += sorted({why for name, why in _UNSURE.items() if name in names})
                 if comments.hides(finding, place.line):
                     self.result.hidden += 1
                     continue

@@ -30,6 +30,9 @@ BUILT_IN = {
 }
 # A call of it stands for pthread_cleanup_push: models/libc/pthread.h makes it of that macro.
 CLEANUP_CALL = "nalvegop_cleanup_push"
+# The function of the models that stands for the object round a member, and what the macro offsetof gives.
+PART, OFFSET = "nv_part", "__builtin_offsetof"
+_BYTES = {*"char unsigned signed const void uint8_t int8_t u8".split()}
 
 
 @dataclass
@@ -62,6 +65,8 @@ class Filter:
         self._is_own = is_own
         self.counts: dict[str, int] = {}
         self._renamed: dict[str, str] = {}
+        # (nv_part is declared by the models; without them there is none)
+        self._has_part = any(PART in it.declares for it in self.unit.segments)
         self._shadows = Shadows(self.tokens, self.partner, self.unit.typedefs())
         self.passed_over: dict[str, tuple[str, At]] = {}
 
@@ -112,6 +117,7 @@ class Filter:
             kept.add(id(segment))
             is_cut = segment.function in without or segment.function in self._fixed
             names = self._head_names(segment) if is_cut and id(segment) not in keeps_whole else segment.names
+            names = names | {PART} if OFFSET in names else names
             for name in names:
                 work += [it for it in by_name.get(name, []) if id(it) not in kept]
         return kept
@@ -129,6 +135,7 @@ class Filter:
             self._file_asserts(segment)
             self._initialisers(segment)
             self._words(segment.first, segment.end)
+            self._rename_shadows(segment)
             self._empty_members(segment.first, segment.end)
             return
         self._old_parameters(segment)
@@ -141,10 +148,50 @@ class Filter:
             return
         self._words(segment.first, segment.end)
         self._rename_shadows(segment)
+        if self._has_part and OFFSET in segment.names:
+            self._containers(segment)
         self._asserts(segment.body[0], segment.end)
         self._asm_statements(segment.body[0], segment.end)
         self._once_loops(segment.body[0], segment.end)
         self._statement_expressions(segment.body[0], segment.end)
+
+    def _containers(self, segment: Segment) -> None:
+        """`(char *)p - offsetof(T, m)` becomes `nv_part( p )`, an object that is not known: so the models do with
+        container_of. Else it is arithmetic on pointers, and the function is passed over."""
+        for at in range(segment.body[0] + 5, segment.end):
+            if self.tokens[at].text != OFFSET or self.tokens[at - 1].text != "-" or self.partner[at + 1] < 0:
+                continue
+            start = self._cast_before(at - 1, segment.body[0])
+            if start is None:
+                continue
+            self._blank(start, self.partner[start] + 1)
+            self.sheet.put(self.tokens[start].start, f"{PART}(")
+            self._put(self.tokens[at - 1], ")")
+            self._blank(at, self.partner[at + 1] + 1)
+            self._count("containers")
+
+    def _cast_before(self, at: int, first: int) -> int | None:
+        """Returns where the cast to a pointer to bytes begins whose operand ends before a token, where there is room for the name."""
+        operand = at - 1
+        while operand > first:
+            token = self.tokens[operand]
+            if token.text in (")", "]") and self.partner[operand] > first and not self._is_byte_pointer(operand):
+                operand = self.partner[operand] - 1
+            elif token.is_word and token.text not in KEYWORDS or token.text in (".", "->"):
+                operand -= 1
+            else:
+                break
+        if operand == at - 1 or self.tokens[operand].text != ")" or not self._is_byte_pointer(operand):
+            return None
+        start = self.partner[operand]
+        room = self._text[self.tokens[start].start : self.tokens[operand].end]
+        return start if len(room) > len(PART) and "\n" not in room else None
+
+    def _is_byte_pointer(self, closing: int) -> bool:
+        """Returns whether the bracket that ends here holds a type as `char *`."""
+        opening = self.partner[closing]
+        texts = [it.text for it in self.tokens[opening + 1 : closing]]
+        return len(texts) > 1 and texts[-1] == "*" and all(it in _BYTES for it in texts[:-1])
 
     def _rename_shadows(self, segment: Segment) -> None:
         """Gives a variable with the name of a typedef another name of the same length, which stands nowhere else."""

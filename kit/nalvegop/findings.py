@@ -62,6 +62,8 @@ class Finding:
         return self.message + (f" (this may be false: {' and '.join(self.marks)})" if self.marks else "")
 
 
+# A condition with this is of what a variable leads to, or of what a call gives.
+_LOOKS_BEHIND = re.compile(r"[*.\[&]|->|\w\s*\(")
 _ELEMENT = re.compile(r"\[\d+\]")
 
 
@@ -101,7 +103,18 @@ class Teller:
         made.known_by, made.about = self._known_by(function, report), report.about
         if _ELEMENT.search(report.about):
             made.marks.append("which element of an array an index means is not told apart")
+        made.marks += [f"it depends on the value of '{name}', which callers know" for name in self._deciding(function, report)]
         return made
+
+    def _deciding(self, function: Function, report: Report) -> list[str]:
+        """Returns the parameters by whose values the two runs of a report part: rows only say of each whether it is 0."""
+        if report.kind == "leak" or len(report.runs) != 2:
+            return []
+        ways = [{it.at: it.word for it in reversed(run.events) if it.kind in ("if", "switch")} for run in report.runs]
+        parts = [at for at, word in ways[0].items() if ways[1].get(at, word) != word]
+        texts = [it for it in map(self._condition_text, parts) if not _LOOKS_BEHIND.search(it.replace("&&", ""))]
+        names = [{*re.findall(r"[A-Za-z_]\w*", it)} for it in texts]
+        return sorted({name for one in names if one <= {*function.entry} for name in one})
 
     def _main_place(self, function: Function, report: Report) -> Place:
         if report.kind == "leak" and report.at:
@@ -254,6 +267,10 @@ class Teller:
         return f"'{function.name}' {ends}" + (": the memory is lost here" if report.kind == "leak" else "")
 
     def _condition(self, at: At) -> str:
+        inside = self._condition_text(at)
+        return f"'{inside}'" if inside else "the condition"
+
+    def _condition_text(self, at: At) -> str:
         """Returns the text of the condition in the brackets behind `if`, `while`, `switch` or `for`, as the source has it."""
         place = self.place(at)
         source = self.files.line(place.file, place.line)
@@ -263,8 +280,7 @@ class Teller:
         lines = self.files.lines(place.file)[place.line - 1 : place.line + 20] if starts else self.lines[at.line - 1 : at.line + 20]
         column = place.column if starts else at.column
         text = "\n".join([lines[0][column - 1 :], *lines[1:]]) if lines else ""
-        inside = _bracketed(text, word[0] if word else "")
-        return f"'{decoded(inside)}'" if inside else "the condition"
+        return decoded(_bracketed(text, word[0] if word else ""))
 
     # ---- what it is known by
 

@@ -36,16 +36,30 @@ class Shadows:
         self.tokens, self.partner, self.types = tokens, partner, types
 
     def of(self, segment: Segment) -> Iterator[Shadow]:
-        opening, closing = segment.parameters
-        brace, end = segment.body
+        """Gives those in a function, and the parameters of such names in any declaration."""
         if not self.types & segment.names:
             return
-        yield from (Shadow(self.tokens[at].text, at, end) for at in self._parameters(opening, closing))
-        yield from (Shadow(self.tokens[at].text, at, end) for at in self._declared(closing + 1, brace))
+        brace, end = segment.body if segment.is_function else (segment.end, segment.end)
+        for opening in self._lists(segment.first, brace):
+            is_own = opening == segment.parameters[0]
+            for at in self._parameters(opening, self.partner[opening]):
+                yield Shadow(self.tokens[at].text, at, end if is_own else self.partner[opening])
+        if segment.is_function:
+            yield from (Shadow(self.tokens[at].text, at, end) for at in self._declared(segment.parameters[1] + 1, brace))
+            yield from self._locals(brace, end)
+
+    def _locals(self, brace: int, end: int) -> Iterator[Shadow]:
         for at in range(brace, end):
             begins = self.tokens[at].text in _STARTS or self.tokens[at].text == "(" and self.tokens[at - 1].text == "for"
             for name_at in self._declared(at + 1, end, just_one=True) if begins else ():
                 yield Shadow(self.tokens[name_at].text, name_at, self._block_end(name_at, brace, end))
+
+    def _lists(self, first: int, end: int) -> Iterator[int]:
+        """Gives the brackets that may begin a list of parameters: those behind a name, or behind a declarator's bracket."""
+        for at in range(first + 1, end):
+            before = self.tokens[at - 1]
+            if self.tokens[at].text == "(" and self.partner[at] > at and (before.text == ")" or before.is_word and before.text not in KEYWORDS):
+                yield at
 
     def uses(self, it: Shadow) -> Iterator[int]:
         """Gives the tokens that mean the variable: no members, tags or labels."""
@@ -64,6 +78,11 @@ class Shadows:
             token = self.tokens[at]
             if token.text == ",":
                 has_type = False
+            elif token.text == "(" and has_type and self.tokens[at + 1].text == "*":
+                # (a pointer to a function or to an array)
+                name_at = self._name(at, closing)
+                if name_at is not None and self.tokens[name_at].text in self.types:
+                    yield name_at
             elif token.is_word and token.text not in _STORAGE:
                 if has_type and token.text in self.types and self.tokens[at - 1].text not in _TAGS:
                     yield at

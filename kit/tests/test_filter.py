@@ -26,7 +26,7 @@ def squeezed(text: str) -> str:
 
 
 # What the filter writes in place of something else.
-_WRITTEN = {",", ")", ";", "sizeof", '""', "abort"}
+_WRITTEN = {",", ")", "(", ";", "sizeof", '""', "abort", "nv_part"}
 
 
 def moved(made: str, before: str) -> list[str]:
@@ -101,6 +101,23 @@ class Steps(unittest.TestCase):
             self.assertEqual((len(new), before.count(new)), (len(old), 0))
             self.assertEqual(re.sub(rf"\b{new}\b", old, squeezed(made.text)), squeezed(before))
 
+    def test_the_object_round_a_member(self) -> None:
+        part = "void *nv_part(const void *); struct s { int a, b; }; "
+        cases = {
+            "struct s *f(int *p) { return ((struct s *)((char *)p - __builtin_offsetof(struct s, b))); }": "struct s *f(int *p) { return ((struct s *)(nv_part(p ) )); }",
+            "struct s *f(int *p) { return (struct s *)((const char *)(&p[1]) - __builtin_offsetof (struct s, b)); }": "struct s *f(int *p) { return (struct s *)(nv_part( (&p[1]) ) ); }",
+            "struct s *f(struct s *p) { return (void *)((char *)p->q[2].r - __builtin_offsetof(struct s, b)); }": "struct s *f(struct s *p) { return (void *)(nv_part(p->q[2].r ) ); }",
+        }
+        for before, after in cases.items():
+            self.becomes(part + before, part + after)
+            self.becomes("struct s { int a, b; }; " + before, "struct s { int a, b; }; " + before)
+        for text in (
+            "long f(long p) { return p - __builtin_offsetof(struct s, b); }",
+            "char *f(char *p) { return (char *)p + 1 - __builtin_offsetof(struct s, b); }",
+            "int f(int *p) { return (int)p - __builtin_offsetof(struct s, b); }",
+        ):
+            self.becomes(part + text, part + text)
+
     def test_variables_that_are_named_as_types(self) -> None:
         types = "typedef struct list { struct list *list; } list; "
         self.renamed(types + "void f(list *list) { list->list = 0; g(list); }", types + "void f(list *lisA) { lisA->list = 0; g(lisA); }")
@@ -115,6 +132,20 @@ class Steps(unittest.TestCase):
         self.renamed(
             types + "void f(void) { for (list *list = h(); list; list = list->list) g(list); }",
             types + "void f(void) { for (list *lisA = h(); lisA; lisA = lisA->list) g(lisA); }",
+        )
+
+    def test_parameters_of_declarations_that_are_named_as_types(self) -> None:
+        types = "typedef struct list { int a; } list; "
+        self.renamed(
+            types + "int g(list *list, int a); int f(struct list *b) { return g(b, 1); }",
+            types + "int g(list *lisA, int a); int f(struct list *b) { return g(b, 1); }",
+        )
+        self.renamed(
+            types + "struct c { list *list; void (*go)(list *list); }; int f(struct c *p) { p->go(p->list); return 1; }",
+            types + "struct c { list *list; void (*go)(list *lisA); }; int f(struct c *p) { p->go(p->list); return 1; }",
+        )
+        self.renamed(
+            types + "int f(int (*list)(int), struct list *b) { return list(b->a); }", types + "int f(int (*lisA)(int), struct list *b) { return lisA(b->a); }"
         )
 
     def test_what_is_not_named_as_a_type_stays(self) -> None:

@@ -5,12 +5,12 @@ struct queue {
 	_Bool full;
 };
 
-struct queue *queue_of(int number);
+struct queue *queue_of(_Bool first);
 
 /* wrong: a full queue is locked twice; no caller knows which queue it is */
-void queue_empty(int number)
+void queue_empty(_Bool first)
 {
-	struct queue *q = queue_of(number);
+	struct queue *q = queue_of(first);
 
 	pthread_mutex_lock(&q->mutex);
 	if (q->full)
@@ -20,9 +20,9 @@ void queue_empty(int number)
 }
 
 /* right */
-void queue_fill(int number)
+void queue_fill(_Bool first)
 {
-	struct queue *q = queue_of(number);
+	struct queue *q = queue_of(first);
 
 	pthread_mutex_lock(&q->mutex);
 	q->full = 1;
