@@ -70,7 +70,8 @@ class Checker:
             said = _ran([*words, "unit.c"], room, seconds)
         if said.returncode not in (0, 1):
             raise NotChecked(_why(said))
-        return (read_json if is_json else read_text)(said.stdout.decode("latin-1"))
+        # (JSON is UTF-8; the text has the bytes of names as they are)
+        return read_json(said.stdout.decode("utf-8", errors="replace")) if is_json else read_text(said.stdout.decode("latin-1"))
 
 
 def _ran(words: Sequence[str], folder: str, seconds: float) -> subprocess.CompletedProcess[bytes]:

@@ -103,6 +103,26 @@ fn the_order_is_that_of_the_words(rt: HostRuntime) {
     assert!(rt; told.used == 63);
 }
 
+/// The line of the source that line 2 of each file comes from.
+fn second_lines(alloc: Global) -> Option<List<u64>> {
+    let held = [("a.c", "# 7 \"b.h\"\nint x;"), ("c.c", "int y;\nint z;")];
+    let mut files = files_of(alloc, &held, &[]).ok()?;
+    let input = input_of(alloc, &mut files, None, &["a.c", "c.c", "a.c"])?;
+    let mut lines = List::new(alloc);
+    for marks in input.marks.as_slice() {
+        lines.push(marks.source(b"own", 2).line).ok()?;
+    }
+    Some(lines)
+}
+
+#[test]
+fn line_marks_stand_in_order(rt: HostRuntime) {
+    let Some(lines) = second_lines(rt.alloc()) else {
+        panic!(rt; "there is no input")
+    };
+    assert!(rt; lines.as_slice() == [7, 2, 7].as_slice());
+}
+
 #[test]
 fn a_file_may_have_the_name_of_a_word(rt: HostRuntime) {
     let Some(told) = told(

@@ -3,7 +3,7 @@
 
 use crate::given::owned;
 use saturn_words::{
-    BenchWords, CheckWords, NoWords, RunWords, bench_words, check_words, run_words,
+    BenchWords, CheckWords, Format, NoWords, RunWords, bench_words, check_words, run_words,
 };
 use sc_base::OutOfMemory;
 use sc_tree::ctype::Widths;
@@ -77,6 +77,7 @@ fn has_defaults(asked: &CheckWords) -> bool {
         && asked.options.files.len() == 1
         && asked.options.files[0] == "a.c"
         && asked.jobs == 1
+        && asked.format == Format::Text
 }
 
 fn defaults(alloc: Global) -> Option<bool> {
@@ -101,6 +102,8 @@ const CHECK: &[&str] = &[
     "b.c",
     "--machine",
     "m",
+    "--format",
+    "json",
     "--jobs",
     "64",
     "a.c",
@@ -112,6 +115,7 @@ fn has_options(asked: &CheckWords) -> bool {
         && asked.options.widths == Widths::Lp64
         && is_word(asked.options.machine, "m")
         && asked.jobs == 64
+        && asked.format == Format::Json
 }
 
 fn has_files(asked: &CheckWords) -> bool {
@@ -232,6 +236,8 @@ const BAD_CHECKS: &[&[&str]] = &[
     &["saturn_check", "a.c", "--fast"],
     &["saturn_check", "--depth", "2", "--depth", "2", "a.c"],
     &["saturn_check", "--model", "lp32", "a.c"],
+    &["saturn_check", "--format", "xml", "a.c"],
+    &["saturn_check", "--format", "a.c"],
     &["saturn_check", "--function", "f", "a.c"],
     &["saturn_check", "-d", "2", "a.c"],
 ];

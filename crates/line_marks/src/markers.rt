@@ -11,7 +11,7 @@ use sc_base::{List, OutOfMemory};
 use std::alloc::Global;
 
 /// What a marker says of the next line: its number in the source, and the name of the source.
-#[derive(Drop)]
+#[derive(Debug, Drop)]
 pub struct Marker {
     pub line: u32,
     pub name: List<u8>,

@@ -10,14 +10,14 @@ use std::alloc::Global;
 use std::marker::Model;
 
 /// A marker, and the number of the line that it is.
-#[derive(Drop)]
+#[derive(Debug, Drop)]
 pub struct Mark {
     pub at: u64,
     pub marker: Marker,
 }
 
 /// The markers of a file. Contracts see the list of them, in the order of their lines.
-#[derive(Drop)]
+#[derive(Debug, Drop)]
 pub struct LineMarks {
     pub(crate) marks: Vec<Mark>,
 }

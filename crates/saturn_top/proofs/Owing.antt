@@ -23,7 +23,7 @@ module _ (words : List (List ℕ)) (outside : Outside) where
   owing_said (Twice name) = refusal _
   owing_said (Beyond kind count) = refusal _
 
-  owing_found : (asked : CheckWords) → Ask words asked → (due : Due) → IsFound asked.options outside due → Owed (wording words) outside due
+  owing_found : (asked : CheckWords) → Ask words asked → (due : Due) → IsFound asked outside due → Owed (wording words) outside due
   owing_found asked ask due (refused why d refuses is) =
       by_refusal (wording words) outside (machine_of asked.options) (files_of asked.options) (λ name one. (asked, ask, one)) (codes "saturn_check") why due
       refuses is

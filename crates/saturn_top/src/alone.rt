@@ -1,29 +1,45 @@
 // The call of `saturn_check` that works on the calling thread.
 
 ghost use Rattle.std.specs.Prelude.{◌≡◌, map, string_bytes, codes, IfOk};
-ghost use Rattle.whole_checks.specs.Said.{said, HasWholeMachine};
+ghost use Rattle.whole_checks.specs.Said.{HasWholeMachine};
+ghost use Rattle.whole_checks.specs.Seen as whole;
 ghost use Rattle.top_answers.specs.Promises.{around, change, Promises};
 ghost use Rattle.top_answers.specs.Seen.{seen};
-ghost use Rattle.saturn_top.specs.Checks.{due_of_said, sources_of, IsDue, IsFound, wording};
+ghost use Rattle.saturn_top.specs.Checks.{due_of_said, said_as, said_of, IsDue, IsFound, wording};
 
 use crate::found::{answer_of, unasked};
 use fsm_spec::whole_machines;
-use saturn_words::{Options, check_words};
+use saturn_words::{CheckWords, Format, check_words};
 use sc_base::{Files, OutOfMemory, Sink};
 use sc_input::{Input, read_input};
 use std::alloc::Global;
 use top_answers::{Answer, Status, give, refused};
-use whole_checks::{Sources, say};
+use whole_checks::{Said, Sources, say};
+use whole_json::{MarkedSources, say_json};
+
+// What is said in the form that the words name.
+fn say_as(alloc: Global, asked: &CheckWords, marked: MarkedSources<'_>) -> Result<Said, OutOfMemory>
+    requires whole { HasWholeMachine marked.sources.machine }
+    ensures { IfOk result (λ s. whole.said s ≡ said_as asked.now.format (whole.sources marked.entry.sources) marked.entry.marks.now
+        asked.now.options.depth asked.now.options.reach) }
+{
+    let options = &asked.options;
+    match asked.format {
+        Format::Text => say(alloc, marked.sources, options.depth, options.reach),
+        Format::Json => say_json(alloc, marked, options.depth, options.reach),
+    }
+}
 
 // What is due for the input.
-fn answer_for(alloc: Global, options: &Options, input: Input) -> Result<Answer, OutOfMemory>
+fn answer_for(alloc: Global, asked: &CheckWords, input: Input) -> Result<Answer, OutOfMemory>
     requires whole { HasWholeMachine input.machine }
-    ensures { IfOk result (λ answer. seen answer ≡ due_of_said (codes "saturn_check") (said (sources_of options.now input) options.now.depth options.now.reach)) }
+    ensures { IfOk result (λ answer. seen answer ≡ due_of_said (codes "saturn_check") (said_of asked.now input)) }
 {
     let Input {
         names,
         files,
         units,
+        marks,
         machine,
         ..
     } = input;
@@ -31,24 +47,29 @@ fn answer_for(alloc: Global, options: &Options, input: Input) -> Result<Answer, 
         names,
         files,
         units: units.as_slice(),
-        widths: options.widths,
+        widths: asked.options.widths,
         machine,
     };
-    let said = say(alloc, sources, options.depth, options.reach)?;
+    let marked = MarkedSources {
+        sources,
+        marks: marks.as_slice(),
+    };
+    let said = say_as(alloc, asked, marked)?;
     answer_of(alloc, b"saturn_check", said)
 }
 
-/// What is due for the files that these options name.
+/// What is due for the files that these words name, whatever number of workers they name.
 pub fn find<F: Files>(
     alloc: Global,
-    options: &Options,
+    asked: &CheckWords,
     files: &mut F,
 ) -> Result<Answer, OutOfMemory>
-    ensures { IfOk result (λ answer. IsFound options.now (around (F.held files.old) (F.firm files.old) (F.faults files.old) (F.faults files.new)) (seen answer)) }
+    ensures { IfOk result (λ answer. IsFound asked.now (around (F.held files.old) (F.firm files.old) (F.faults files.old) (F.faults files.new)) (seen answer)) }
 {
     whole_machines();
+    let options = &asked.options;
     match read_input(alloc, files, options.machine, options.files.as_slice()) {
-        Ok(input) => answer_for(alloc, options, input),
+        Ok(input) => answer_for(alloc, asked, input),
         Err(why) => refused(alloc, b"saturn_check", why),
     }
 }
@@ -62,7 +83,7 @@ fn answer<F: Files>(
     ensures { IfOk result (λ answer. IsDue (map string_bytes words.now.items) (around (F.held files.old) (F.firm files.old) (F.faults files.old) (F.faults files.new)) (seen answer)) }
 {
     match check_words(alloc, words.as_slice()) {
-        Ok(asked) => find(alloc, &asked.options, files),
+        Ok(asked) => find(alloc, &asked, files),
         Err(why) => unasked(why),
     }
 }
@@ -70,7 +91,7 @@ fn answer<F: Files>(
 /// Checks files on the calling thread, whatever number of workers the words name. `words` are the program's name and
 /// the words of `saturn_check`. It always returns.
 ///
-/// The text of the check, or that of help, goes to `out`; the line that says why there is none goes to `err`. Either is
+/// The text or the JSON of the check, or the text of help, goes to `out`; the line that says why there is none goes to `err`. Either is
 /// made whole before its first byte is written.
 pub fn check_alone<F: Files, O: Sink, E: Sink>(
     alloc: Global,

@@ -116,8 +116,12 @@ fn with_options<'a>(
 }
 
 /// The command of `saturn_check`.
-pub fn check_command<'a>(alloc: Global, models: &'a [&'a str]) -> Result<Command<'a>, AllocError>
-    ensures { IfOk result (λ made. app_of made ≡ check_command models.entry) }
+pub fn check_command<'a>(
+    alloc: Global,
+    models: &'a [&'a str],
+    formats: &'a [&'a str],
+) -> Result<Command<'a>, AllocError>
+    ensures { IfOk result (λ made. app_of made ≡ check_command models.entry formats.entry) }
 {
     with_options(alloc, "saturn_check", models)?
         .arg(number_option(
@@ -126,6 +130,12 @@ pub fn check_command<'a>(alloc: Global, models: &'a [&'a str]) -> Result<Command
             1,
             64,
             "how many workers there are, from 1 to 64 (1)",
+        ))?
+        .arg(word_option(
+            alloc,
+            "format",
+            formats,
+            "in which form the check is written (text)",
         ))?
         .arg(files_argument(alloc))
 }

@@ -31,7 +31,8 @@ fn has_report(verdict: &Verdict) -> bool
     }
 }
 
-fn any_report(verdicts: &[Arc<Verdict>]) -> bool
+/// Whether one of these verdicts has a report.
+pub fn any_report(verdicts: &[Arc<Verdict>]) -> bool
     ensures { result ≡ list_any has_report (map arc_value verdicts.now) }
 {
     for verdict in verdicts {

@@ -14,7 +14,7 @@ mod sources;
 mod verdicts;
 
 pub use analysis::Analysis;
-pub use checked::{say, say_by};
+pub use checked::{any_report, say, say_by};
 pub use planning::{NoPlan, planned};
 pub use said::Said;
 pub use sources::Sources;
