@@ -7,5 +7,6 @@ mod nodes;
 mod steps;
 mod whole;
 
+pub use nodes::{Calls, Keeping, Setting, call, keep, set};
 pub use steps::{Graph, Steps};
 pub use whole::encode;

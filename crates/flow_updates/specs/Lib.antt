@@ -1,0 +1,3 @@
+pub mod Widths
+pub mod Can
+pub mod Combined
