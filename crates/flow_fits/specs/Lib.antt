@@ -1,0 +1,4 @@
+pub mod Voids
+pub mod Encodable
+pub mod Marks
+pub mod Text
