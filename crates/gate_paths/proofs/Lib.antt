@@ -1,0 +1,6 @@
+mod Moving
+mod Following
+mod Leading
+mod Gathering
+mod Meeting
+mod Writing

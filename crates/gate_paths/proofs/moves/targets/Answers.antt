@@ -1,0 +1,21 @@
+use Rattle.layout_base.specs.Seen as laid
+use Rattle.gate_places.proofs.Membering.{mapped_none, mapped_step, mapped_whole}
+use Rattle.gate_paths.specs.Targets.{gone}
+use Rattle.gate_paths.proofs.moves.targets.Goals as goal
+
+pub loop-pair-init : goal.loop-pair-init
+loop-pair-init c =
+    record { so_far = mapped_none (λ t. gone (laid.layout_of c.args.layout.now.places.now) c.args.by t) c.args.pairs.now _ c.new-made.ensures.items }
+
+pub loop-pair-preserved : goal.loop-pair-preserved
+loop-pair-preserved c =
+    record {
+      so_far =
+          mapped_step (λ t. gone (laid.layout_of c.args.layout.now.places.now) c.args.by t) c.args.pairs.now c.loop-pair.pair-index _ _ _ c.in_ok-target.target
+          c.loop-pair-test.true c.in_ok-push.ensures.items c.in_ok-target.ensures c.loop-pair.invariant.so_far;
+    }
+
+pub returns : goal.returns
+returns c =
+    mapped_whole (λ t. gone (laid.layout_of c.args.layout.now.places.now) c.args.by t) c.args.pairs.now c.loop-pair.pair-index _ c.loop-pair-test.false
+    c.loop-pair.invariant.so_far

@@ -1,0 +1,5 @@
+pub mod Targets
+pub mod Paths
+pub mod Gathered
+pub mod Alias
+pub mod Cells

@@ -1,0 +1,4 @@
+pub mod Entering
+pub mod Seeking
+pub mod Rows
+pub mod Giving
