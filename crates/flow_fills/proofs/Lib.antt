@@ -1,2 +1,5 @@
 mod Merging
+mod KeptCells
+mod Celled
 mod Locals
+mod Fills

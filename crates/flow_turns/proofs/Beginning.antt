@@ -3,6 +3,9 @@ use Rattle.std.proofs.Common.{◌≡◌, ℕ, zero, suc, ◌<◌, ◌≤◌, nat
 use Rattle.bit_net.specs.declared.nodes.Gate.{Gate}
 use Rattle.bit_net.specs.declared.nodes.Node.{Node as Gates}
 use Rattle.bit_net.specs.Runs.{Runs, Always}
+use Rattle.gate_copies.specs.declared.readings.Reading.{Reading}
+use Rattle.gate_copies.specs.Readings.{readings_top}
+use Rattle.gate_inits.specs.Inits.{HaveCells}
 use Rattle.gate_runs.specs.Stands.{told, gates_top}
 use Rattle.gl_store.specs.declared.stores.Store.{Store}
 use Rattle.gl_store.specs.declared.values.Val.{Val}
@@ -22,7 +25,7 @@ use Rattle.flow_ends.specs.Fates.{NoFates}
 use Rattle.flow_stages.specs.Stage.{At}
 use Rattle.flow_turns.specs.declared.temps.Slot.{Slot}
 use Rattle.flow_turns.specs.declared.temps.Temps.{Temps}
-use Rattle.flow_turns.specs.Kept.{is_kept, cells_at, vals_top, slots_top, HaveSome, MeetCells}
+use Rattle.flow_turns.specs.Kept.{is_kept, cells_at, vals_top, slots_top, HaveSome}
 use Rattle.flow_turns.specs.Ends.{AreBlank, AreUnkept, Begins}
 
 -- Lists that are made.
@@ -91,7 +94,7 @@ some_none : (v : ℕ → Bool) (p : Layout) (kinds : List flow.Kind) (ns : List 
 some_none v p kinds ns choice temps slots t r h = record {
   meets = λ m. subst (λ (x : Val). Meets v x Nothing) (sym (h.vals m)) tt;
   place = λ m u is sure. absurd (two_sides (told v t.sure.items m) (h.sure choice v r m) sure);
-  cells = λ m. subst (λ (cs : List Val). MeetCells v cs (slot nothing_kept m)) (sym (no_cells t.slots.items m h.blank)) tt;
+  cells = λ m. subst (λ (cs : List Reading). HaveCells v cs (slot nothing_kept m)) (sym (no_cells t.slots.items m h.blank)) (tt, omega arith);
 }
 
 pub begun : (ns : List Gates) (store : Store) (b given : Val) (locations temps slots : ℕ) (w : Ways) (f : Fates) (t : Temps)
@@ -137,6 +140,6 @@ begun ns store b given locations temps slots w f t ways fates unkept same = reco
 }
 
 pub blank_top : (xs : List Slot) → AreBlank xs → slots_top xs ≡ 0
-unfolding slots_top vals_top
+unfolding slots_top readings_top
 blank_top [] h = refl
-blank_top (x ∷ xs) h = (let rest = blank_top xs h.1 in let first = ap vals_top h.0 in omega arith)
+blank_top (x ∷ xs) h = (let rest = blank_top xs h.1 in let first = ap readings_top h.0 in omega arith)

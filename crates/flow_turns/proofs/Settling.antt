@@ -7,6 +7,7 @@ use Rattle.bit_net.specs.Runs.{Runs}
 use Rattle.gl_store.specs.declared.stores.Location.{Location}
 use Rattle.gl_store.specs.declared.values.Val.{Val}
 use Rattle.gl_store.specs.Meets.{Meets, MeetsAll}
+use Rattle.gate_inits.specs.Inits.{HaveCells}
 use Rattle.gate_runs.specs.declared.ends.Ends.{Ends}
 use Rattle.gate_runs.specs.Standing.{Standing, On, Over, stand, is_bad}
 use Rattle.gate_runs.specs.Stands.{Stands, Does, HasBegun, told}
@@ -24,7 +25,7 @@ use Rattle.flow_stages.specs.Laws as law
 use Rattle.flow_turns.specs.declared.steps.Made.{Made}
 use Rattle.flow_turns.specs.declared.temps.Slot.{Slot}
 use Rattle.flow_turns.specs.declared.temps.Temps.{Temps}
-use Rattle.flow_turns.specs.Kept.{val_at, is_kept, is_filled, HasKept, HasCells, HaveKept, HaveSome, HasKind, is_for_void, cells_at, MeetCells}
+use Rattle.flow_turns.specs.Kept.{val_at, is_kept, is_filled, HasKept, HasCells, HaveKept, HaveSome, HasKind, is_for_void, cells_at}
 use Rattle.flow_turns.specs.Turns.{Keeps}
 use Rattle.flow_turns.specs.Steps.{IsGood}
 use Rattle.flow_turns.proofs.Past.{meets_kind, put_same}
@@ -185,7 +186,7 @@ module _ (s : Source) (p : Layout) (kinds : flow.Kinds) (ns : List Gates) (choic
   cells_same : (j : ℕ) (k : Kept) → HasCells v old k j → HasCells v new k j
   cells_same j k h = record {
     kept = ap (λ (xs : List Slot). is_filled xs j) slots_same ∙ h.kept;
-    meets = subst (λ (xs : List Slot). MeetCells v (cells_at xs j) (slot k j)) (sym slots_same) h.meets;
+    meets = subst (λ (xs : List Slot). HaveCells v (cells_at xs j) (slot k j)) (sym slots_same) h.meets;
   }
     where
       slots_same : new.slots.items ≡ old.slots.items
@@ -260,7 +261,7 @@ module _ (s : Source) (p : Layout) (kinds : flow.Kinds) (ns : List Gates) (choic
   some_after k y h good = record {
     meets = λ j. meets_by j (nat_eq m j) refl;
     place = λ j u is sure. place_by j u is sure (nat_eq m j) refl;
-    cells = λ j. subst (λ (xs : List Slot). MeetCells v (cells_at xs j) (slot k j)) (sym (ap (λ xs. xs.items) keeps.slots)) (h.cells j);
+    cells = λ j. subst (λ (xs : List Slot). HaveCells v (cells_at xs j) (slot k j)) (sym (ap (λ xs. xs.items) keeps.slots)) (h.cells j);
   }
     where
       c : Cell

@@ -5,7 +5,10 @@ use Rattle.gl_store.specs.declared.values.Val.{Val}
 use Rattle.gl_store.specs.declared.values.Val.TheVariants as val
 use Rattle.gl_store.specs.Meets.{Meets, val_kind, val_top}
 use Rattle.gate_runs.specs.Stands.{told, gates_top}
-use Rattle.run_store.specs.Concrete.{Cell, Kind, Pointers}
+use Rattle.gate_copies.specs.declared.readings.Reading.{Reading}
+use Rattle.gate_copies.specs.Readings.{readings_top}
+use Rattle.gate_inits.specs.Inits.{HaveCells}
+use Rattle.run_store.specs.Concrete.{Kind, Pointers}
 use Rattle.run_laws.specs.Fits.{is_scalar, IsPlaceOf}
 use Rattle.sc_world.specs.Tree.{Ty, is_void}
 use Rattle.sc_world.specs.Source.{Source}
@@ -25,7 +28,7 @@ abbrev pub is_kept : Temps → ℕ → Bool
 is_kept t m = slice_index_or t.kept.items m false
 
 -- the cells of a slot, and whether some node has kept them
-abbrev pub cells_at : List Slot → ℕ → List Val
+abbrev pub cells_at : List Slot → ℕ → List Reading
 cells_at [] m = []
 cells_at (x ∷ xs) zero = x.cells.items
 cells_at (x ∷ xs) (suc m) = cells_at xs m
@@ -42,13 +45,7 @@ vals_top (x ∷ xs) = max (val_top x) (vals_top xs)
 
 unfoldable pub slots_top : List Slot → ℕ
 slots_top [] = 0
-slots_top (x ∷ xs) = max (vals_top x.cells.items) (slots_top xs)
-
--- the values are these cells
-abbrev pub MeetCells : (v : ℕ → Bool) → List Val → List Cell → Type 0
-MeetCells v [] [] = Unit {0}
-MeetCells v (x ∷ xs) (c ∷ cs) = Meets v x c × MeetCells v xs cs
-MeetCells v _ _ = ⊥
+slots_top (x ∷ xs) = max (readings_top x.cells.items) (slots_top xs)
 
 -- What was kept in a run.
 
@@ -61,7 +58,7 @@ pub record HasKept (v : ℕ → Bool) (p : Layout) (kinds : List flow.Kind) (t :
 
 pub record HasCells (v : ℕ → Bool) (t : Temps) (k : Kept) (m : ℕ) : Type 0 where
   pub kept : is_filled t.slots.items m ≡ true
-  pub meets : MeetCells v (cells_at t.slots.items m) (slot k m)
+  pub meets : HaveCells v (cells_at t.slots.items m) (slot k m)
 
 -- whether a temp is for values of type `void`
 abbrev pub is_for_void : Option flow.Kind → Bool
@@ -86,7 +83,7 @@ pub record HaveKept (v : ℕ → Bool) (p : Layout) (kinds : List flow.Kind) (t 
 pub record HaveSome (v : ℕ → Bool) (p : Layout) (kinds : List flow.Kind) (t : Temps) (k : Kept) : Type 0 where
   pub meets : (m : ℕ) → Meets v (val_at t m) (temp k m)
   pub place : (m : ℕ) (u : Ty) → slice_get kinds m ≡ Some (flow.PlaceOf u) → told v t.sure.items m ≡ true → IsPlaceOf p u (temp k m)
-  pub cells : (m : ℕ) → MeetCells v (cells_at t.slots.items m) (slot k m)
+  pub cells : (m : ℕ) → HaveCells v (cells_at t.slots.items m) (slot k m)
 
 -- Gates of temps.
 

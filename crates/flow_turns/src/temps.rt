@@ -11,12 +11,13 @@ ghost use Rattle.flow_turns.specs.Kept.{AreTemps, is_kept, vals_top};
 ghost use Rattle.flow_turns.specs.Turns.{Keeps};
 
 use bit_net::{Gate, Net, OutOfMemory};
+use gate_copies::Reading;
 use gl_store::{Val, overwrite};
 
-/// The cells of a value, each as a value.
+/// The cells of a value, as they were read of the objects to which its place may lead.
 #[derive(Drop)]
 pub struct Slot {
-    pub cells: Vec<Val>,
+    pub cells: Vec<Reading>,
 
     /// Whether some node has kept them.
     pub kept: bool,

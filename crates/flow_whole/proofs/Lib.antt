@@ -1,4 +1,5 @@
 mod Types
 mod Reading
 mod Objects
+mod Initialised
 mod Assigning

@@ -23,15 +23,15 @@ HasType expr.Nothing = ⊥
 HasType (expr.Former n t) = ⊥
 HasType _ = Unit {0}
 
--- Which nodes have gates: initialisers in braces have none here. The operator of an assignment is no `&&` and no `||`.
+-- Which nodes have gates. The operator of an assignment is no `&&` and no `||`.
 module _ (takes : Expression → Bool) (makes : Calling → Bool) where
   abbrev pub HasGates : Node → Type 0
   HasGates (code.Keep want temp e next) = takes e ≡ true
-  HasGates (code.KeepCells slot e next) = ⊥
+  HasGates (code.KeepCells slot e next) = (takes e ≡ true) × HasType e
   HasGates (code.Call c args temp next) = makes c ≡ true
   HasGates (code.Update u want place former right temp next) = is_logical u.op ≡ false
   HasGates (code.Set n e next) = (takes e ≡ true) × HasType e
-  HasGates (code.Fill n xs slots next) = ⊥
+  HasGates (code.Fill n xs slots next) = Unit {0}
   HasGates (code.Branch from hit miss) = Unit {0}
   HasGates (code.Choose from number hit miss) = Unit {0}
   HasGates (code.Mark pos event next) = Unit {0}
@@ -50,7 +50,9 @@ MakesStep (code.Call c args temp next) = Unit {0}
 MakesStep (code.Set n e next) = Unit {0}
 MakesStep _ = ⊥
 
--- the node assigns by an operator
+-- the node keeps cells, sets an object to kept cells, or assigns by an operator
 abbrev pub Assigns : Node → Type 0
 Assigns (code.Update u want place former right temp next) = Unit {0}
+Assigns (code.KeepCells slot e next) = Unit {0}
+Assigns (code.Fill n xs slots next) = Unit {0}
 Assigns _ = ⊥

@@ -17,6 +17,7 @@ ghost use Rattle.sc_flow.specs.declared.node.Expression.{Expression as Expressio
 ghost use Rattle.flow_gates.specs.Graph.{CanEncode, IsSmall, IsThere, nodes_of};
 ghost use Rattle.flow_whole.specs.Whole.{AllHaveGates, Assigns, HasGates, IsOf, MakesStep};
 
+use crate::braces::{Giving, Parts, fill, keep_cells};
 use crate::locals::set;
 use crate::updates::{Updates, update};
 use bit_net::{Net, OutOfMemory};
@@ -124,7 +125,7 @@ fn step<S: Steps>(
     }
 }
 
-// What a node does that assigns by an operator.
+// What a node does that keeps cells, sets an object to kept cells, or assigns by an operator.
 fn change<S: Steps>(
     graph: &Graph<S>,
     laid: &Laid,
@@ -168,6 +169,34 @@ fn change<S: Steps>(
             update(graph, laid, before, net, here, at, &updates)?;
             Ok(())
         }
+        Node::KeepCells {
+            slot,
+            expression,
+            next,
+        } => {
+            let giving = Giving {
+                slot,
+                expression,
+                next,
+            };
+            keep_cells(graph, laid, before, net, here, at, &giving)?;
+            Ok(())
+        }
+        Node::Fill {
+            local,
+            items,
+            slots,
+            next,
+        } => {
+            let parts = Parts {
+                local,
+                items,
+                slots,
+                next,
+            };
+            fill(graph, laid, before, net, here, at, &parts)?;
+            Ok(())
+        }
         Node::Keep { .. } => unreachable!(),
         Node::Set { .. } => unreachable!(),
         Node::Call { .. } => unreachable!(),
@@ -177,8 +206,6 @@ fn change<S: Steps>(
         Node::MarkSwitch { .. } => unreachable!(),
         Node::Exit { .. } => unreachable!(),
         Node::SetAside { .. } => unreachable!(),
-        Node::KeepCells { .. } => unreachable!(),
-        Node::Fill { .. } => unreachable!(),
     }
 }
 
@@ -257,8 +284,14 @@ fn act<S: Steps>(
             before.set_aside(net, here)?;
             Ok(())
         }
-        Node::KeepCells { .. } => unreachable!(),
-        Node::Fill { .. } => unreachable!(),
+        Node::KeepCells { .. } => {
+            change(graph, laid, before, net, here, at, node)?;
+            Ok(())
+        }
+        Node::Fill { .. } => {
+            change(graph, laid, before, net, here, at, node)?;
+            Ok(())
+        }
     }
 }
 

@@ -27,13 +27,15 @@ typed expr.Nothing h = absurd (true≢false (sym h))
 module _ (s : Source) (p : Layout) where
   has_gates : (n : Node) → node_has s p n ≡ true → HasGates (takes s) (makes s p) n
   has_gates (code.Keep want temp e next) h = h
-  has_gates (code.KeepCells slot e next) h = absurd (true≢false (sym h))
+  has_gates (code.KeepCells slot e next) h =
+      let parts = and_parts (takes s e) (has_type e) h in
+      (parts.0, typed e parts.1)
   has_gates (code.Call c args temp next) h = h
   has_gates (code.Update u want place former right temp next) h = not_so (is_logical u.op) h
   has_gates (code.Set n e next) h =
       let parts = and_parts (takes s e) (has_type e) h in
       (parts.0, typed e parts.1)
-  has_gates (code.Fill n xs slots next) h = absurd (true≢false (sym h))
+  has_gates (code.Fill n xs slots next) h = tt
   has_gates (code.Branch from hit miss) h = tt
   has_gates (code.Choose from number hit miss) h = tt
   has_gates (code.Mark pos event next) h = tt

@@ -56,14 +56,13 @@ has_type expr.Nothing = false
 has_type (expr.Former n t) = false
 has_type _ = true
 
--- Whether a node has gates: initialisers in braces have none here. The operator of an assignment is no `&&` and no `||`.
+-- Whether a node has gates. The operator of an assignment is no `&&` and no `||`.
 abbrev pub node_has : Source → Layout → Node → Bool
 node_has s p (code.Keep want temp e next) = takes s e
-node_has s p (code.KeepCells slot e next) = false
+node_has s p (code.KeepCells slot e next) = takes s e && has_type e
 node_has s p (code.Call c args temp next) = makes s p c
 node_has s p (code.Update u want place former right temp next) = not (is_logical u.op)
 node_has s p (code.Set n e next) = takes s e && has_type e
-node_has s p (code.Fill n xs slots next) = false
 node_has s p _ = true
 
 abbrev pub all_have : Source → Layout → List Node → Bool

@@ -14,17 +14,18 @@ use run_world::Here;
 use sc_flow::{Flow, Node};
 use tr_call::can_call;
 
-// Whether a node has gates: initialisers in braces have none here.
+// Whether a node has gates.
 fn has_gates(around: &Around, node: &Node) -> bool
     ensures { result ≡ spec.node_has (walk.source_of around.now) (walk.looked_in around.now) node.now }
 {
     match node {
         Node::Keep { expression, .. } => takes(around, expression),
-        Node::Set { expression, .. } => takes(around, expression) && has_type(expression),
+        Node::KeepCells { expression, .. } | Node::Set { expression, .. } => {
+            takes(around, expression) && has_type(expression)
+        }
         Node::Update { updating, .. } => !is_logical(updating.op),
         Node::Call { calling, .. } => can_call(around.here, around.layout, calling),
-        Node::KeepCells { .. } | Node::Fill { .. } => false,
-        Node::Branch { .. } | Node::Choose { .. } => true,
+        Node::Fill { .. } | Node::Branch { .. } | Node::Choose { .. } => true,
         Node::Mark { .. } | Node::MarkSwitch { .. } => true,
         Node::Exit { .. } | Node::SetAside { .. } => true,
     }

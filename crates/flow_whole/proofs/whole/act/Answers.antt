@@ -36,6 +36,22 @@ change-requires-clause-have g c =
     let f = c.args.graph.now.flow.now in
     c.node_at-node.ensures.gates (g.S.Steps.takes x) (g.S.Steps.makes x) c.requires.have
 
+pub change-requires-in-KeepCells-clause-have : goal.change-requires-in-KeepCells-clause-have
+change-requires-in-KeepCells-clause-have g c =
+    let x = c.args.graph.now.steps.now in
+    let s = g.S.Steps.source x in
+    let p = g.S.Steps.layout x in
+    let f = c.args.graph.now.flow.now in
+    c.node_at-node.ensures.gates (g.S.Steps.takes x) (g.S.Steps.makes x) c.requires.have
+
+pub change-requires-in-Fill-clause-have : goal.change-requires-in-Fill-clause-have
+change-requires-in-Fill-clause-have g c =
+    let x = c.args.graph.now.steps.now in
+    let s = g.S.Steps.source x in
+    let p = g.S.Steps.layout x in
+    let f = c.args.graph.now.flow.now in
+    c.node_at-node.ensures.gates (g.S.Steps.takes x) (g.S.Steps.makes x) c.requires.have
+
 pub step-requires-clause-at : goal.step-requires-clause-at
 step-requires-clause-at g c =
     let x = c.args.graph.now.steps.now in
@@ -51,22 +67,6 @@ change-requires-clause-at g c =
     let p = g.S.Steps.layout x in
     let f = c.args.graph.now.flow.now in
     there_at s p f c.args.at _ _ _ _ c.requires.small c.requires.gates c.requires.here (c.node_at-node.ensures.is s.structs) c.requires.at
-
-pub unreachable-requires : goal.unreachable-requires
-unreachable-requires g c =
-    let x = c.args.graph.now.steps.now in
-    let s = g.S.Steps.source x in
-    let p = g.S.Steps.layout x in
-    let f = c.args.graph.now.flow.now in
-    c.in-KeepCells.ensures.gates (g.S.Steps.takes x) (g.S.Steps.makes x) c.requires.have
-
-pub unreachable-requires-in-Fill : goal.unreachable-requires-in-Fill
-unreachable-requires-in-Fill g c =
-    let x = c.args.graph.now.steps.now in
-    let s = g.S.Steps.source x in
-    let p = g.S.Steps.layout x in
-    let f = c.args.graph.now.flow.now in
-    c.in-Fill.ensures.gates (g.S.Steps.takes x) (g.S.Steps.makes x) c.requires.have
 
 pub returns-in_ok-branch-in-Branch-clause-ok : goal.returns-in_ok-branch-in-Branch-clause-ok
 returns-in_ok-branch-in-Branch-clause-ok g c =
