@@ -130,12 +130,12 @@ pub celled_from : (ns1 ns2 : List Gates) (m next : ℕ) (here : Arrival) (y : Be
 celled_from ns1 ns2 m next here y given f t w g2 gate splits each_end each_touched each_bad tells vals sure flags keeps comes = record {
   past = λ s p nodes node n is ns g1 old wrote h d.
       (let from : (o : Before) → state old.store y.temps y.ways y.fates y.result y.blank ≡ o → (h : IsAt s p nodes node ns o here)
-          → DoesGivings s p h.kinds.temps nodes node ns1 n m next here o y.store.locations.items given
-          → IsBefore s p nodes (node + 1) ns2 (record y { temps = t; fates = f; ways = w }) =
-          λ o e. subst
-          (λ (o : Before). (h : IsAt s p nodes node ns o here) → DoesGivings s p h.kinds.temps nodes node ns1 n m next here o y.store.locations.items given
-          → IsBefore s p nodes (node + 1) ns2 (record y { temps = t; fates = f; ways = w })) e
-          (celled s p nodes node n is ns ns1 ns2 m next here (state old.store y.temps y.ways y.fates y.result y.blank) y.store given f t w
-          g1 g2 gate splits each_end each_touched each_bad tells vals sure flags keeps comes) in
+      → DoesGivings s p h.kinds.temps nodes node ns1 n m next here o y.store.locations.items given
+      → IsBefore s p nodes (node + 1) ns2 (record y { temps = t; fates = f; ways = w }) =
+      λ o e. subst
+      (λ (o : Before). (h : IsAt s p nodes node ns o here) → DoesGivings s p h.kinds.temps nodes node ns1 n m next here o y.store.locations.items given
+      → IsBefore s p nodes (node + 1) ns2 (record y { temps = t; fates = f; ways = w })) e
+      (celled s p nodes node n is ns ns1 ns2 m next here (state old.store y.temps y.ways y.fates y.result y.blank) y.store given f t w
+      g1 g2 gate splits each_end each_touched each_bad tells vals sure flags keeps comes) in
       from old (wrote_is old y wrote) h d);
 }

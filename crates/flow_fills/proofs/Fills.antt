@@ -223,15 +223,19 @@ module _ (s : Source) (p : Layout) (ns ns1 ns2 ns' : List Gates) (location : ℕ
                 };
                 narrow = λ off. off;
                 wide = λ k kept here_on. here_on;
-                does = λ k kept. at_local bits v runs runs1 m there k
-                    (numbers_of k, λ i c e.
-                    (let f = slot_in k first count i c e in
-                    subst (HaveCells v (cells_at old.temps.slots.items (first + i))) (sym f.0)
-                    ((kept.slots (first + i) (reads_are_asked nodes node n (InSlot (first + i)) (nodes_are_at nodes node n is) (slot_among first count i f.1))).meets)));
-                some = λ k some. at_local bits v runs runs1 m there k
-                    (numbers_of k, λ i c e.
-                    (let f = slot_in k first count i c e in
-                    subst (HaveCells v (cells_at old.temps.slots.items (first + i))) (sym f.0) (some.cells (first + i))));
+                does = λ k kept. at_local bits v runs runs1 m there k (
+                  numbers_of k,
+                  λ i c e.
+                      (let f = slot_in k first count i c e in
+                      subst (HaveCells v (cells_at old.temps.slots.items (first + i))) (sym f.0)
+                      ((kept.slots (first + i) (reads_are_asked nodes node n (InSlot (first + i)) (nodes_are_at nodes node n is) (slot_among first count i f.1))).meets)),
+                );
+                some = λ k some. at_local bits v runs runs1 m there k (
+                  numbers_of k,
+                  λ i c e.
+                      (let f = slot_in k first count i c e in
+                      subst (HaveCells v (cells_at old.temps.slots.items (first + i))) (sym f.0) (some.cells (first + i))),
+                );
               });
         }));
   }

@@ -111,7 +111,6 @@ kept_again ns when m cells made old new some merged many filled are =
 
 module _ (v : ℕ → Bool) (p : Layout) (kinds : List flow.Kind) (ns : List Gates) (choice : ℕ → Bool) (runs : Runs ns choice v) (when m : ℕ) (cells : List Reading) (old new : Temps)
     (vals : new.vals ≡ old.vals) (sure : new.sure ≡ old.sure) (flags : new.kept ≡ old.kept) (keeps : KeepsIn ns when m cells old.slots.items new.slots.items) where
-
   val_same : (j : ℕ) → val_at new j ≡ val_at old j
   val_same j = ap (λ xs. slice_index_or xs.items j val.Unit) vals
 
