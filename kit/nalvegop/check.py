@@ -4,7 +4,9 @@ from __future__ import annotations
 
 import os
 import time
+from collections.abc import Mapping
 from dataclasses import dataclass, field
+from functools import cached_property
 
 from .checker import Checker, NotChecked, OutOfMemory, OutOfTime
 from .compilations import Compilation
@@ -16,15 +18,17 @@ from .noise import Comments
 from .preprocess import Models, NotPreprocessed, fitting_models, preprocessed, width_model
 from .reasons import Reason, words_of
 from .segments import Segment
-from .verdicts import At, Function, NotVerdicts, Verdicts
+from .verdicts import At, Function, NotVerdicts, Report, Verdicts
 
-# Calls that change a lock or an object: who calls a function with one of them, of which nothing is known, may miss rows.
-_EFFECTS = {
-    *"spin_lock spin_unlock spin_trylock mutex_lock mutex_unlock mutex_trylock malloc calloc kmalloc kzalloc free kfree".split(),
+# Calls that change a lock, or an object: who calls a function with one of them, of which nothing is known, may miss rows.
+_ON_LOCKS = {
+    *"spin_lock spin_unlock spin_trylock mutex_lock mutex_unlock mutex_trylock".split(),
     *"pthread_mutex_lock pthread_mutex_unlock pthread_mutex_trylock".split(),
 }
+_EFFECTS = _ON_LOCKS | {*"malloc calloc kmalloc kzalloc free kfree".split()}
 # Functions of the models that give an object without saying which: where one is called a finding may be false.
 _CONTAINER = "container_of gives another object each time"
+MODEL_HEAD = "nalvegop_"
 _UNSURE = {"nalvegop_object": _CONTAINER, OFFSET: _CONTAINER, "nalvegop_entry": "which entries a list has is not known"}
 
 
@@ -52,6 +56,8 @@ class FileResult:
     places: dict[str, Place] = field(default_factory=dict)
     passed_over: dict[str, Reason] = field(default_factory=dict)
     late: list[str] = field(default_factory=list)
+    # Functions that had an answer in time only with nothing known of those that they call, and which those are.
+    without_calls: dict[str, list[str]] = field(default_factory=dict)
     warnings: list[str] = field(default_factory=list)
     text: str = ""
 
@@ -102,7 +108,7 @@ class FileCheck:
 
     def _verdicts(self, filtered: Filtered, model: str) -> Verdicts:
         """Checks the whole file in a third of the time. Where that does not end, each function is checked for itself,
-        with those that it calls; one that has no answer in time is unknown to the others from there on."""
+        callees first; one without a whole answer in time is unknown to the others from there on."""
         try:
             return self.options.checker.check(filtered.text, model, max(self._left() / 3, 1), self.renamed)
         except (OutOfTime, OutOfMemory):
@@ -111,24 +117,41 @@ class FileCheck:
             names = callees_first(one_by_one.own_functions())
             if not names:
                 raise
-        found, late = Verdicts(), list[str]()
+        found, unknown = Verdicts(), set[str]()
         for number, name in enumerate(names):
-            verdicts = self._alone(one_by_one.run(only=[name], without=late).text, model, len(names) - number)
-            if verdicts:
-                found.functions += [it for it in verdicts.functions if it.name == name]
-            else:
-                late.append(name)
+            verdicts = self._of_one(one_by_one, name, unknown, model, len(names) - number)
+            found.functions += [it for it in verdicts.functions if it.name == name] if verdicts else []
+            if not verdicts:
+                self.result.late.append(name)
         order = {name: number for number, name in enumerate(filtered.functions)}
         found.functions.sort(key=lambda it: order.get(it.name, 0))
-        self.result.late = sorted(late, key=lambda it: order.get(it, 0))
+        self.result.late.sort(key=lambda it: order.get(it, 0))
         return found
 
-    def _alone(self, text: str, model: str, waiting: int) -> Verdicts | None:
-        """Returns the verdicts of a text with one function, or None where there are none in its time or memory."""
+    def _of_one(self, one_by_one: Filter, name: str, unknown: set[str], model: str, waiting: int) -> Verdicts | None:
+        """Returns the verdicts of a text with one function and all that it calls; where there is no answer in time, of
+        it with prototypes of these, and then it joins the unknown ones. The lesser answer comes first: it is quick."""
+        called = one_by_one.called(name)
+        alone = self._answer(one_by_one.run(only=[name], without=called), model, waiting)
+        if alone and any(it.name == name and it.skip for it in alone.functions):
+            return alone
+        whole = alone
+        if alone and called - unknown:
+            whole = self._answer(one_by_one.run(only=[name], without=unknown), model, waiting)
+        lost = called & unknown if whole else called
+        if alone and lost:
+            # (the models' own functions have the name of their macro, and a head; none of them leaves a lock in another state)
+            self.result.without_calls[name] = sorted(it.removeprefix(MODEL_HEAD) for it in lost)
+        if not whole:
+            unknown.add(name)
+        return whole or alone
+
+    def _answer(self, filtered: Filtered, model: str, waiting: int) -> Verdicts | None:
+        """Returns the verdicts of a text, or None where there are none in its time or memory."""
         if time.monotonic() >= self.end:
             return None
         try:
-            return self.options.checker.check(text, model, self._share(waiting), self.renamed)
+            return self.options.checker.check(filtered.text, model, self._share(waiting), self.renamed)
         except (OutOfTime, OutOfMemory):
             return None
 
@@ -141,7 +164,6 @@ class FileCheck:
     def _tell(self, verdicts: Verdicts, teller: Teller, line_map: LineMap) -> None:
         comments = Comments(self.files)
         self._name_lost(verdicts)
-        segments = {it.function: it for it in self.filter.unit.segments if it.is_function}
         for function in verdicts.functions:
             if function.name in self.result.passed_over:
                 continue
@@ -153,8 +175,9 @@ class FileCheck:
             if function.skip:
                 at = function.skip.at
                 self.result.passed_over[function.name] = Reason(words_of(function.skip), self._shown(teller.place(at)) if at else None)
-            names = segments[function.name].names if function.name in segments else frozenset[str]()
-            for finding in one_of_each_array([teller.finding(function, report) for report in function.reports]):
+            names = self._segments[function.name].names if function.name in self._segments else frozenset[str]()
+            lost = self._lost_calls(function.name, names, verdicts) if function.reports else {}
+            for finding in one_of_each_array([self._finding(teller, function, report, lost) for report in function.reports]):
                 finding.marks += sorted({why for name, why in _UNSURE.items() if name in names})
                 if comments.hides(finding, place.line):
                     self.result.hidden += 1
@@ -170,17 +193,43 @@ class FileCheck:
             if it.function and it.function not in known:
                 self.result.passed_over[it.function] = Reason("grammar", self._place(self.filter.at(it.name_at)))
 
-    def _warn(self, verdicts: Verdicts) -> None:
-        """Notes who calls a function that was passed over, or had no answer, and that has an effect by its text."""
-        segments = {it.function: it for it in self.filter.unit.segments if it.function}
+    def _finding(self, teller: Teller, function: Function, report: Report, lost: Mapping[str, frozenset[str]]) -> Finding:
+        """Tells a report. One on a lock may be false where a call on its path may lock or unlock, and is not followed."""
+        made = teller.finding(function, report)
+        calls = {it.word for run in report.runs for it in run.events if it.kind == "call"}
+        on_path = sorted(name for name in calls & lost.keys() if lost[name] & (self.operations or _ON_LOCKS))
+        if on_path and report.kind != "leak":
+            made.marks.append(f"what {' and '.join(map(repr, on_path))} {'does' if len(on_path) == 1 else 'do'} is not followed")
+        return made
+
+    def _lost_calls(self, name: str, names: frozenset[str], verdicts: Verdicts) -> dict[str, frozenset[str]]:
+        """Returns the functions with bodies that a function calls and of which nothing is known, each with all names that
+        stand in its text or in those of functions that it calls."""
         unknown = {it.name for it in verdicts.functions if it.skip} | {*self.result.passed_over} | {*self.result.late}
-        effects = {name for name in unknown if name in segments and segments[name].names & _EFFECTS}
+        found = (names & unknown | {*self.result.without_calls.get(name, [])}) - {name}
+        return {it: self._reached_names(it) for it in found if it in self._segments}
+
+    def _reached_names(self, name: str) -> frozenset[str]:
+        found, work = set[str](), [name]
+        while work:
+            new = self._segments[work.pop()].names - found
+            found |= new
+            work += [it for it in new if it in self._segments]
+        return frozenset(found)
+
+    @cached_property
+    def _segments(self) -> dict[str, Segment]:
+        return {it.function: it for it in self.filter.unit.segments if it.function}
+
+    def _warn(self, verdicts: Verdicts) -> None:
+        """Notes who calls a function of which nothing is known, and that has an effect by its text, or that of what it calls."""
         for function in self.result.analysed:
-            names = segments[function.name].names if function.name in segments else frozenset[str]()
-            for name in sorted(names & effects - {function.name}):
-                self.result.warnings.append(
-                    f"'{function.name}' calls '{name}', of which nothing is known: what it does to locks and memory is not in the answer"
-                )
+            names = self._segments[function.name].names if function.name in self._segments else frozenset[str]()
+            for name, reached in sorted(self._lost_calls(function.name, names, verdicts).items()):
+                if reached & (_EFFECTS | self.operations):
+                    self.result.warnings.append(
+                        f"'{function.name}' calls '{name}', of which nothing is known: what it does to locks and memory is not in the answer"
+                    )
 
     def _place(self, at: At) -> Place:
         return self._shown(self.line_map.place(at.line, at.column))

@@ -72,7 +72,7 @@ def parser() -> argparse.ArgumentParser:
     check.add_argument("--only", action="append", choices=[*KINDS], default=[], help="show findings of this kind alone; may be given again")
     check.add_argument("--baseline", metavar="FILE", help="do not show the findings in this file")
     check.add_argument("--update-baseline", action="store_true", help="write the findings to the file of --baseline, and end with status 0")
-    check.add_argument("--strict", action="store_true", help="status 2 also where a function was passed over")
+    check.add_argument("--strict", action="store_true", help="status 2 also where a function was passed over, or answered without what it calls")
     check.add_argument("--verbose", action="store_true", help="name each function that was passed over, and what is unknown to its callers")
     check.add_argument("--keep-texts", metavar="FOLDER", help="write the texts that were checked into this folder")
     explain = verbs.add_parser("explain", help="tell the whole story of the findings at a line, or of one by its number")
@@ -249,6 +249,8 @@ def _name_failures(results: list[FileResult], is_verbose: bool) -> None:
             print(f"nalvegop: {it.file}: not analysed: {it.failure}", file=sys.stderr)
         if it.late:
             print(f"nalvegop: {it.file}: no answer in time: {_listed(it.late, is_verbose)}", file=sys.stderr)
+        if it.without_calls:
+            print(f"nalvegop: {it.file}: without what they call, for want of time: {_listed([*it.without_calls], is_verbose)}", file=sys.stderr)
         if is_verbose:
             for name, why in it.passed_over.items():
                 print(f"nalvegop: {why.place or it.places.get(name) or it.file}: '{name}' is passed over: {why.text}", file=sys.stderr)
@@ -264,7 +266,7 @@ def _listed(names: list[str], is_verbose: bool) -> str:
 
 
 def _status(results: list[FileResult], is_strict: bool) -> int:
-    lacks = any(it.failure or it.late or (is_strict and it.passed_over) for it in results)
+    lacks = any(it.failure or it.late or (is_strict and (it.passed_over or it.without_calls)) for it in results)
     return Status.NOT_ALL if lacks else Status.FOUND if any(it.findings for it in results) else Status.CLEAN
 
 
@@ -353,7 +355,7 @@ def _rows(it: argparse.Namespace, flags: list[str]) -> int:
     functions = [one for one in result.functions if it.function in (None, one.name)]
     if not functions:
         raise Trouble(f"{it.file} has no function {it.function} of which something is known", Status.NOT_ALL)
-    _print(text for one in functions for text in rows_text(one))
+    _print(text for one in functions for text in rows_text(one, result.without_calls.get(one.name, [])))
     return Status.CLEAN
 
 

@@ -75,6 +75,11 @@ class Filter:
     def own_functions(self) -> list[Segment]:
         return [it for it in self.unit.segments if it.is_function and self._is_own(self._line(it.name_at))]
 
+    def called(self, name: str) -> set[str]:
+        """Returns the other functions with bodies, of headers too, that a function calls, by names."""
+        names = frozenset[str]().union(*(it.names for it in self.own_functions() if it.function == name))
+        return {it.function for it in self.unit.segments if it.function in names and it.function not in self._fixed | {name}}
+
     def _line(self, at: int) -> int:
         return self._lines.line(self.tokens[at].start)
 
@@ -98,17 +103,6 @@ class Filter:
 
     def _needed(self, roots: list[Segment], without: set[str]) -> set[int]:
         """Returns the segments that the roots need, by names and transitively."""
-        twice = {it.function for it in self.own_functions()}
-        by_name: dict[str, list[Segment]] = {}
-        for segment in self.unit.segments:
-            if segment.is_function and segment.function in twice and not self._is_own(self._line(segment.name_at)):
-                # the file defines this function of a header again
-                continue
-            for name in segment.declares:
-                by_name.setdefault(name, []).append(segment)
-        for segment in self.unit.segments:
-            for name in segment.mentions:
-                by_name.setdefault(name, [segment])
         kept, work, keeps_whole = set[int](), [*roots], {id(it) for it in roots if it.function not in without}
         while work:
             segment = work.pop()
@@ -119,8 +113,24 @@ class Filter:
             names = self._head_names(segment) if is_cut and id(segment) not in keeps_whole else segment.names
             names = names | {PART} if OFFSET in names else names
             for name in names:
-                work += [it for it in by_name.get(name, []) if id(it) not in kept]
+                work += [it for it in self._by_name.get(name, []) if id(it) not in kept]
         return kept
+
+    @cached_property
+    def _by_name(self) -> dict[str, list[Segment]]:
+        """The segments that declare a name, and else the one that mentions it first."""
+        twice = {it.function for it in self.own_functions()}
+        found: dict[str, list[Segment]] = {}
+        for segment in self.unit.segments:
+            if segment.is_function and segment.function in twice and not self._is_own(self._line(segment.name_at)):
+                # the file defines this function of a header again
+                continue
+            for name in segment.declares:
+                found.setdefault(name, []).append(segment)
+        for segment in self.unit.segments:
+            for name in segment.mentions:
+                found.setdefault(name, [segment])
+        return found
 
     def _head_names(self, segment: Segment) -> frozenset[str]:
         """Returns the names outside of a function's body."""

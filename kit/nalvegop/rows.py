@@ -2,7 +2,7 @@
 
 from __future__ import annotations
 
-from collections.abc import Iterator
+from collections.abc import Iterator, Sequence
 
 from .check import FileResult
 from .findings import KINDS, Finding, pretty
@@ -32,9 +32,11 @@ def _title(item: Item) -> str:
     }[item.what]
 
 
-def rows_text(function: Function) -> Iterator[str]:
-    """Gives the summary as tables with a column for each parameter of the entry bits."""
+def rows_text(function: Function, lost: Sequence[str] = ()) -> Iterator[str]:
+    """Gives the summary as tables with a column for each parameter of the entry bits; `lost`: calls that are not in it."""
     yield f"{function.name}:"
+    if lost:
+        yield f"  without what {', '.join(lost)} does, for want of time"
     if function.skip:
         yield f"  passed over: {Reason(words_of(function.skip)).text}"
         return

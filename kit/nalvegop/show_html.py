@@ -43,8 +43,10 @@ def _parts(results: list[FileResult], files: SourceFiles, status: int) -> Iterat
     for number, _, it in numbered:
         yield from _finding(number, it, files)
     for result in results:
-        rest = [f"{why.place or result.file}: {name} is passed over: {why.text}" for name, why in result.passed_over.items()] + [
-            f"{name}: no answer in time" for name in result.late
+        rest = [
+            *(f"{why.place or result.file}: {name} is passed over: {why.text}" for name, why in result.passed_over.items()),
+            *(f"{name}: no answer in time" for name in result.late),
+            *(f"{name}: without what {', '.join(calls)} does, for want of time" for name, calls in result.without_calls.items()),
         ]
         if result.failure or rest:
             yield f"<h2>{escape(result.file)}: what was not analysed</h2>\n"

@@ -23,6 +23,7 @@ def _file(it: FileResult) -> dict[str, Any]:
         "analysed": [function.name for function in it.analysed],
         "passed_over": [_passed_over(name, why) for name, why in it.passed_over.items()],
         "late": it.late,
+        "without_calls": [{"function": name, "calls": calls} for name, calls in it.without_calls.items()],
         "warnings": it.warnings,
         "hidden": it.hidden,
         "findings": [_finding(finding, it) for finding in it.findings],

@@ -40,6 +40,11 @@ class _Log:
         """Says what was not analysed."""
         found = [("error", Place(it.file, 1, 1), f"{it.file}: {it.failure}") for it in results if it.failure]
         found += [("warning", it.places.get(name, Place(it.file, 1, 1)), f"{it.file}: '{name}' had no answer in time") for it in results for name in it.late]
+        found += [
+            ("note", it.places.get(name, Place(it.file, 1, 1)), f"{it.file}: '{name}' is answered without what {', '.join(calls)} does, for want of time")
+            for it in results
+            for name, calls in it.without_calls.items()
+        ]
         return [{"level": level, "message": {"text": text}, "locations": [self._location(place)]} for level, place, text in found]
 
     def _result(self, it: Finding) -> dict[str, Any]:

@@ -86,15 +86,20 @@ class Sheet:
         self.put(start, "\n".join(it if number and _DIRECTIVE.fullmatch(it) else " " * len(it) for number, it in enumerate(lines)))
 
     def put(self, start: int, text: str) -> None:
-        """Writes a text over what stands there. What stood there has its line feeds at the same places."""
-        self._pieces.append((start, start + len(text), text))
+        """Writes a text over what stands there, which has its line feeds at the same places."""
+        end = start + len(text)
+        assert "\n" not in text and self.was.find("\n", start, end) < 0 or _breaks(text) == _breaks(self.was[start:end])
+        self._pieces.append((start, end, text))
 
     def text(self) -> str:
         """Returns the text with all that was written over it; of two writings over one place the later one counts."""
-        made = list(self.was)
+        # (a character is a byte, so slices of bytes are set: a list of characters takes ten times as long)
+        made = bytearray(self.was, "latin-1")
         for start, end, text in self._pieces:
-            made[start:end] = text
-        done = "".join(made)
-        assert len(done) == len(self.was)
-        assert [i for i, it in enumerate(done) if it == "\n"] == [i for i, it in enumerate(self.was) if it == "\n"]
-        return done
+            made[start:end] = text.encode("latin-1")
+        assert len(made) == len(self.was)
+        return made.decode("latin-1")
+
+
+def _breaks(text: str) -> list[int]:
+    return [at for at, it in enumerate(text) if it == "\n"]

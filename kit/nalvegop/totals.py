@@ -20,6 +20,9 @@ def summary(results: list[FileResult], known: int = 0) -> str:
     hidden = sum(it.hidden for it in results)
     found = sum(len(it.findings) for it in results)
     parts = [f"{_some(found, 'finding')}; {_some(analysed, 'function')} analysed in {_some(len(results) - failed, 'file')}"]
+    without = sum(len(it.without_calls) for it in results)
+    if without:
+        parts.append(f"{without} of them without what they call, for want of time")
     if reasons:
         parts.append(f"{sum(reasons.values())} passed over ({', '.join(f'{why}: {count}' for why, count in reasons.most_common())})")
     if late:

@@ -30,8 +30,8 @@ _Found = TypeVar("_Found")
 
 
 def wait_for(ask: Callable[[], _Found | None]) -> _Found:
-    """Returns the first answer that counts, within half a minute."""
-    end = time.monotonic() + 30
+    """Returns the first answer that counts, within five minutes: the machine may be slow."""
+    end = time.monotonic() + 300
     while not (found := ask()):
         if time.monotonic() > end:
             raise AssertionError("it did not come in time")
@@ -99,6 +99,32 @@ class Statuses(unittest.TestCase):
             said = nalvegop("check", "--seconds", "24", "--format", "json", "a.c", at=room, checker=program(room, text))
             self.assertEqual(json.loads(said.stdout)["files"][0]["late"], ["slow"])
 
+    def test_a_function_that_is_slow_with_what_it_calls_is_answered_without(self) -> None:
+        source = "int m;\nint helper(int n) { spin_unlock(&m); return n; }\nint caller(int n)\n{ spin_lock(&m);\n  helper(n);\n  spin_lock(&m); return 0; }\n"
+        # (stands for the checker: it never ends on a text with both bodies; lines are counted from that of `int m;`)
+        text = f"""case "$1" in --help) exit 0 ;; esac
+            at=$(grep -n '^int m;' unit.c | cut -d: -f1)
+            grep -q '^int helper(int n) {{' unit.c && helper=1
+            if grep -q '^{{' unit.c; then
+              [ "$helper" ] && sleep 300
+              printf 'function caller at unit.c:%d:5\\n  entry n\\n  lock m\\n    1 U -> - !\\n  report double m\\n' $((at + 2))
+              printf '    choice 0\\n    %d:3 call spin_lock\\n    %d:3 call helper\\n' $((at + 3)) $((at + 4))
+              printf '    %d:3 call spin_lock\\n    %d:3 error m\\n' $((at + 5)) $((at + 5))
+            fi
+            [ "$helper" ] && printf 'function helper at unit.c:%d:5\\n  entry n\\n' $((at + 1))
+            echo '{_EMPTY}'"""
+        with folder(a__c=source) as room:
+            words = "check", "--seconds", "12", "--models", "none", "a.c"
+            said = nalvegop("check", "--format", "json", *words[1:], at=room, checker=program(room, text))
+            file = json.loads(said.stdout)["files"][0]
+            self.assertEqual((said.returncode, file["late"], file["analysed"]), (1, [], ["helper", "caller"]))
+            self.assertEqual(file["without_calls"], [{"function": "caller", "calls": ["helper"]}])
+            self.assertEqual(file["findings"][0]["unsure"], ["what 'helper' does is not followed"])
+            said = nalvegop(*words, "--strict", at=room, checker=program(room, text))
+            self.assertEqual(said.returncode, 2)
+            self.assertIn("a.c: without what they call, for want of time: caller\n", said.stderr)
+            self.assertIn("2 functions analysed in 1 file, 1 of them without what they call, for want of time", said.stderr)
+
     def test_a_function_of_which_nothing_is_said_is_named(self) -> None:
         with folder(a__c="int f(void) { return 1; }\n") as room:
             said = nalvegop("check", "--verbose", "--strict", "a.c", at=room, checker=program(room, _NOTHING))
@@ -130,7 +156,7 @@ class Statuses(unittest.TestCase):
                 with subprocess.Popen([sys.executable, "-B", COMMAND, "check", "-j", jobs, "a.c", "b.c"], cwd=room, env=env, stderr=subprocess.DEVNULL) as it:
                     begun = wait_for(lambda: lines_of(pids) if len(lines_of(pids)) == int(jobs) else None)
                     it.send_signal(number)
-                    self.assertEqual(it.wait(30), 130)
+                    self.assertEqual(it.wait(300), 130)
                 self.assertTrue(wait_for(lambda: not any(os.path.exists(f"/proc/{pid}") for pid in begun)), (number, jobs))
 
     def test_a_line_on_a_terminal_says_how_many_files_are_done(self) -> None:

@@ -15,7 +15,7 @@ use Rattle.sc_world.specs.Layout.{location_of, part, site_at}
 use Rattle.sc_world.specs.World.{Run, ◌>>=◌, done, Env, pointer_to, is_true, number_of, load, store}
 use Rattle.sc_world.specs.Eval.{Want, Value, Place', scalar_at, wanted, place_of, kept_place, convert, not_taken, operated, signed_as, truth_cell, one_step, counted, cells_of, load_all, store_all, copy, part_or, member, element_or, element, first_element, assign_value, assign_struct, combined, needs_right, is_logical, Evaluator, convert_of, assign_by, callee, is_name, eval, eval_all}
 use Rattle.error_laws.proofs.Steps.{Whatever, Leads, chain, gives, stops, either, requires, loads, stores, dereferences}
-use Rattle.error_laws.proofs.Calls.{MayErr, calls}
+use Rattle.error_laws.proofs.Calls.{MayErr, calls, may_do}
 
 -- Lists of cells.
 
@@ -166,7 +166,7 @@ module _ (env : Env) where
           (λ at _. chain env.layout (requires env.layout (nat_eq (number_of k) 0) reason.Index) (λ _ _. wants want y at)))))
       evaluates (Call x f es y) want =
           chain env.layout (calls_callee (is_name f) (eval f) (λ w. evaluates f w))
-          (λ _ _. chain env.layout (evaluates_all es) (λ vs _. calls env x f y (site_at env.layout x.token) vs may))
+          (λ _ _. chain env.layout (evaluates_all es) (λ vs _. calls env x f y (site_at env.layout x.token) vs (may_do env.source env.layout x.token may)))
       evaluates (Field a n true y) want =
           chain env.layout (evaluates a Value)
           (λ q _. chain env.layout (dereferences env (target_or_void (type_of a)) q)

@@ -1,5 +1,5 @@
 -- Calls that act by a summary.
-use Rattle.std.proofs.Common.{◌≡◌, ℕ, zero, suc, ◌+◌, ◌<◌, Bool, true, false, not, ◌&&◌, ◌||◌, List, [], ◌∷◌, map, length, refl, subst, true≢false, arith}
+use Rattle.std.proofs.Common.{◌≡◌, ℕ, zero, suc, ◌+◌, ◌<◌, ◌⊎◌, inl, inr, Bool, true, false, not, ◌&&◌, ◌||◌, List, [], ◌∷◌, map, length, refl, subst, true≢false, arith}
 use Rattle.std.specs.Prelude.{Option, Some, None, slice_index_or, if◌then◌else◌}
 use Rattle.std.specs.List.{AllByRecursion, list_all}
 use Rattle.run_store.specs.declared.Flag.TheVariants as flag
@@ -26,6 +26,7 @@ use Rattle.sc_world.specs.Layout.{Layout, Location, Occurrence, location, locati
 use Rattle.sc_world.specs.Occurrences.{is_out_path}
 use Rattle.sc_world.specs.World.{Run, Env, bit_at, number_at, null, target_of, root_of}
 use Rattle.sc_world.specs.Known.{usable, Come, At, Holds, pointed, stepped, at_end, onwards, follow, begin, follow_path, Locked, with_locked, locked_item, is_lock, is_param, is_out_item, spot_behind, locks, count_items, Outed, with_out, pointer_cell_if, out_item, outs, Written, with_written, writes, meet_twice, Given, given_by, given_number, state_after, from_state, lock_stands, locks_stand, params_stand, param_spot, out_stands, exit_rows, stands, row, set_states, mark_if, out_state, out_cell, set_out_as, set_outs, written_cell, set_written, set_writes, free_at, free, may_free, escape_at, escape, param_state, param_effect, param_acts, params_act, first_error, error_stands, Acting, effects, rows_stand, acts_as, Failing, errs, acts_unless, acts, known}
+use Rattle.error_laws.specs.Errors.{is_param as of_param, is_of_param, is_of_params}
 use Rattle.error_laws.proofs.Steps.{Whatever, Leads, chain, gives, stops, either, either_as, requires, loads, stores, marks, asks, state_asked, state_set, within}
 
 -- Places.
@@ -77,7 +78,28 @@ escapes_at env (suc at) = marks env.layout (root_of env at) flag.Escaped
 pub escapes : (env : Env) (c : Cell) → Leads env.layout Whatever (escape env c)
 escapes env c = escapes_at env (target_of c)
 
-module _ (env : Env) (some : 0 < length env.layout.locations) where
+-- What may be followed: all of a layout that has a location; else what does not begin at a global.
+
+abbrev pub May : Layout → Bool → Type 0
+May p b = (0 < length p.locations) ⊎ (b ≡ true)
+
+pub both_left : (a b : Bool) → (a && b) ≡ true → a ≡ true
+both_left true b h = refl
+both_left false b h = absurd (true≢false (cc))
+
+pub both_right : (a b : Bool) → (a && b) ≡ true → b ≡ true
+both_right true b h = h
+both_right false b h = absurd (true≢false (cc))
+
+may_left : (p : Layout) (a b : Bool) → May p (a && b) → May p a
+may_left p a b (inl some) = inl some
+may_left p a b (inr h) = inr (both_left a b h)
+
+may_right : (p : Layout) (a b : Bool) → May p (a && b) → May p b
+may_right p a b (inl some) = inl some
+may_right p a b (inr h) = inr (both_right a b h)
+
+module _ (env : Env) where
   abbrev Marks : Run (Unit {0}) → Type 0
   Marks m = Leads env.layout Whatever m
 
@@ -133,33 +155,46 @@ module _ (env : Env) (some : 0 < length env.layout.locations) where
   follows [] c h = gives env.layout {a = at_end c} (ends_there c h)
   follows (s ∷ ss) c h = chain env.layout (steps s c) (λ to hto. goes_onwards to (follow env ss) hto (λ d hd. follows ss d hd))
 
-  begins : (vs : List Cell) (r : Root) → ComesThere (begin env vs r)
-  begins vs (root.Param n) = tt
-  begins vs (root.Global n) = origin_there env.layout (origin.Global n) some
+  begins : (vs : List Cell) (r : Root) → May env.layout (of_param r) → ComesThere (begin env vs r)
+  begins vs (root.Param n) may = tt
+  begins vs (root.Global n) (inl some) = origin_there env.layout (origin.Global n) some
+  begins vs (root.Global n) (inr h) = absurd (true≢false (cc))
 
-  finds : (vs : List Cell) (x : Path) → Leads env.layout IfThere (follow_path env vs x)
-  finds vs x = follows x.steps (begin env vs x.root) (begins vs x.root)
+  finds : (vs : List Cell) (x : Path) → May env.layout (of_param x.root) → Leads env.layout IfThere (follow_path env vs x)
+  finds vs x may = follows x.steps (begin env vs x.root) (begins vs x.root may)
+
+  -- a path that is followed to wherever it leads
+  wanders_on : (o : Option ℕ) (f : Come → Run (Option ℕ)) → ((c : Come) → Leads env.layout Whatever (f c)) → Leads env.layout Whatever (onwards o f)
+  wanders_on None f hf = gives env.layout {a = None} tt
+  wanders_on (Some at) f hf = hf (At at)
+
+  wanders : (ss : List Step) (c : Come) → Leads env.layout Whatever (follow env ss c)
+  wanders [] c = gives env.layout {a = at_end c} tt
+  wanders (s ∷ ss) c = chain env.layout (steps s c) (λ to _. wanders_on to (follow env ss) (λ d. wanders ss d))
 
   -- Items.
 
   abbrev AreThere : List Locked → Type 0
   AreThere ls = AllByRecursion (λ l. l.at < length env.layout.locations) ls
 
-  finds_item : (vs : List Cell) (k : ℕ) (x : Item) → Leads env.layout IfThere (locked_item env vs k x)
-  finds_item vs k (item.Lock x) = finds vs x
-  finds_item vs k item.Exit = gives env.layout {a = None} tt
-  finds_item vs k (item.Param n) = gives env.layout {a = None} tt
-  finds_item vs k (item.Out n) = gives env.layout {a = None} tt
+  finds_item : (vs : List Cell) (k : ℕ) (x : Item) → May env.layout (is_of_param x) → Leads env.layout IfThere (locked_item env vs k x)
+  finds_item vs k (item.Lock x) may = finds vs x may
+  finds_item vs k item.Exit may = gives env.layout {a = None} tt
+  finds_item vs k (item.Param n) may = gives env.layout {a = None} tt
+  finds_item vs k (item.Out n) may = gives env.layout {a = None} tt
 
   with_item : (rows : List Row) (bit : ℕ) (o : Option ℕ) (ls : List Locked) → IfThere o → AreThere ls → AreThere (with_locked rows bit o ls)
   with_item rows bit None ls h hs = hs
   with_item rows bit (Some at) ls h hs = (h, hs)
 
-  finds_locks : (vs : List Cell) (k : ℕ) (xs : List ItemRows) → Leads env.layout AreThere (locks env vs k xs)
-  finds_locks vs k [] = gives env.layout {a = []} tt
-  finds_locks vs k (x ∷ xs) =
-      chain env.layout (finds_item vs k x.item)
-      (λ o ho. chain env.layout (finds_locks vs (spot_behind (is_lock x.item) k) xs)
+  abbrev AreOfParams : List ItemRows → Bool
+  AreOfParams xs = list_all (λ (x : ItemRows). is_of_param x.item) xs
+
+  finds_locks : (vs : List Cell) (k : ℕ) (xs : List ItemRows) → May env.layout (AreOfParams xs) → Leads env.layout AreThere (locks env vs k xs)
+  finds_locks vs k [] may = gives env.layout {a = []} tt
+  finds_locks vs k (x ∷ xs) may =
+      chain env.layout (finds_item vs k x.item (may_left env.layout (is_of_param x.item) (AreOfParams xs) may))
+      (λ o ho. chain env.layout (finds_locks vs (spot_behind (is_lock x.item) k) xs (may_right env.layout (is_of_param x.item) (AreOfParams xs) may))
       (λ ls hs. gives env.layout {a = with_locked x.rows (spot_at env.layout k).bit o ls} (with_item x.rows (spot_at env.layout k).bit o ls ho hs)))
 
   finds_out : (vs : List Cell) (x : Item) → Leads env.layout Whatever (out_item env vs x)
@@ -180,7 +215,7 @@ module _ (env : Env) (some : 0 < length env.layout.locations) where
   finds_writes vs items k [] = gives env.layout {a = []} tt
   finds_writes vs items k (x ∷ xs) =
       either env.layout (is_out_path items x.path) (finds_writes vs items k xs)
-      (chain env.layout (finds vs x.path)
+      (chain env.layout (wanders x.path.steps (begin env vs x.path.root))
       (λ o _. chain env.layout (finds_writes vs items (k + 1) xs)
       (λ ws _. gives env.layout {a = with_written x.width (spot_at env.layout k) o ws} tt)))
 
@@ -303,9 +338,10 @@ module _ (env : Env) (some : 0 < length env.layout.locations) where
         chain env.layout (requires env.layout (not (meet_twice (map (λ l. l.at) a.locks) || meet_twice (map (λ o. o.at) a.outs))) reason.Alias)
         (λ _ _. acts_or_errs y a (first_error env a.locks) (first_there a.locks h))
 
-    pub knows : (o : Occurrence) (y : Ty) (sum : Summary) (vs : List Cell) → Leads env.layout Whatever (known env f o y sum vs)
-    knows o y sum vs =
-        chain env.layout (finds_locks vs o.spot sum.items)
+    pub knows : (o : Occurrence) (y : Ty) (sum : Summary) (vs : List Cell) → May env.layout (is_of_params (Some sum))
+        → Leads env.layout Whatever (known env f o y sum vs)
+    knows o y sum vs may =
+        chain env.layout (finds_locks vs o.spot sum.items may)
         (λ ls hs. chain env.layout (finds_outs vs (o.spot + (count_items is_lock sum.items + count_items is_param sum.items)) sum.items)
         (λ os _. chain env.layout
         (finds_writes vs sum.items

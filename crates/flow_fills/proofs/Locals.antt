@@ -121,10 +121,10 @@ module _ (s : Source) (p : Layout) (ns ns1 ns' : List Gates) (t : Ty) (at next :
                 acts = λ go k w. refl;
                 begun = ev.begun;
                 began = began_grown ns ns1 made.on.at ev.begun g ev.began;
-                narrow = narrow s p before.kinds nodes node n ns (if_scalar (type_of e)) e here old mid.store.locations.items made is refl before.fit fits.1 ev on bits v runs0;
-                wide = wide s p before.kinds nodes node n ns (if_scalar (type_of e)) e here old mid.store.locations.items made is refl before.fit fits.1 ev on bits v runs0;
-                does = λ k kept. goes k (does_kept s p before.kinds nodes node n ns (if_scalar (type_of e)) e here old mid.store.locations.items made is refl before.fit fits.1 ev on bits v runs0 k kept);
-                some = λ k some. goes k (does_some s p before.kinds nodes node n ns (if_scalar (type_of e)) e here old mid.store.locations.items made is refl before.fit fits.1 ev on bits v runs0 k some);
+                narrow = narrow s p before.kinds nodes node n ns (if_scalar (type_of e)) e here old mid.store.locations.items made is refl refl before.fit fits.1 ev on bits v runs0;
+                wide = wide s p before.kinds nodes node n ns (if_scalar (type_of e)) e here old mid.store.locations.items made is refl refl before.fit fits.1 ev on bits v runs0;
+                does = λ k kept. goes k (does_kept s p before.kinds nodes node n ns (if_scalar (type_of e)) e here old mid.store.locations.items made is refl refl before.fit fits.1 ev on bits v runs0 k kept);
+                some = λ k some. goes k (does_some s p before.kinds nodes node n ns (if_scalar (type_of e)) e here old mid.store.locations.items made is refl refl before.fit fits.1 ev on bits v runs0 k some);
               });
         }));
   }
@@ -163,11 +163,11 @@ module _ (s : Source) (p : Layout) (ns ns1 ns' : List Gates) (t : Ty) (slot next
                 begun = ev.begun;
                 began = subst (λ g'. HasBegun ns1 g'.at ev.begun) (sym same_on) (began_grown ns ns1 made.on.at ev.begun g ev.began);
                 narrow = λ off. ap (λ g'. v g'.at) same_on
-                    ∙ narrow s p before.kinds nodes node n ns (if_scalar (type_of e)) e here old mid.store.locations.items made is refl before.fit fits.0 ev on bits v runs0 off;
+                    ∙ narrow s p before.kinds nodes node n ns (if_scalar (type_of e)) e here old mid.store.locations.items made is refl refl before.fit fits.0 ev on bits v runs0 off;
                 wide = λ k kept here_on. ap (λ g'. v g'.at) same_on
-                    ∙ wide s p before.kinds nodes node n ns (if_scalar (type_of e)) e here old mid.store.locations.items made is refl before.fit fits.0 ev on bits v runs0 k kept here_on;
-                does = λ k kept. goes k (does_kept s p before.kinds nodes node n ns (if_scalar (type_of e)) e here old mid.store.locations.items made is refl before.fit fits.0 ev on bits v runs0 k kept);
-                some = λ k some. goes k (does_some s p before.kinds nodes node n ns (if_scalar (type_of e)) e here old mid.store.locations.items made is refl before.fit fits.0 ev on bits v runs0 k some);
+                    ∙ wide s p before.kinds nodes node n ns (if_scalar (type_of e)) e here old mid.store.locations.items made is refl refl before.fit fits.0 ev on bits v runs0 k kept here_on;
+                does = λ k kept. goes k (does_kept s p before.kinds nodes node n ns (if_scalar (type_of e)) e here old mid.store.locations.items made is refl refl before.fit fits.0 ev on bits v runs0 k kept);
+                some = λ k some. goes k (does_some s p before.kinds nodes node n ns (if_scalar (type_of e)) e here old mid.store.locations.items made is refl refl before.fit fits.0 ev on bits v runs0 k some);
               });
         }));
   }

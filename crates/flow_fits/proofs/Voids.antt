@@ -1,5 +1,5 @@
 -- A graph that passes the test reads no temp for values of type `void`.
-use Rattle.std.proofs.Common.{inl, inr, ◌≡◌, ℕ, zero, suc, nat_eq, Bool, true, false, ◌&&◌, List, [], ◌∷◌, slice_get, refl, sym, ◌∙◌, ap, subst}
+use Rattle.std.proofs.Common.{inl, inr, ◌≡◌, ℕ, zero, suc, nat_eq, Bool, true, false, ◌&&◌, ◌||◌, List, [], ◌∷◌, slice_get, refl, sym, ◌∙◌, ap, subst}
 use Rattle.std.specs.Prelude.{◌<◌, Some, None, if◌then◌else◌}
 use Rattle.std.proofs.lemmas.Bool.{and_parts, or_cases, eqb-true, true≢false}
 use Rattle.sc_world.specs.Tree.{Ty, Void, Bool', Int, Ptr, Array, Struct, Union, Func, Opaque, is_void, is_integer, is_pointer, type_of}
@@ -11,8 +11,8 @@ use Rattle.flow_graph.specs.Conditions.{Held, InTemp, InSlot, among, read_by, Ar
 use Rattle.flow_types.specs.Kinds.{ValueOf, PlaceOf, Kinds, IsKept, IsFor}
 use Rattle.flow_types.specs.Nodes.{NodeFits, AllFit}
 use Rattle.flow_turns.specs.Kept.{is_for_void}
-use Rattle.flow_turns.specs.Before.{ReadsNoVoid}
-use Rattle.flow_fits.specs.Voids.{filled_by, is_that, is_filled, each_temp, each_read, reads_no_void}
+use Rattle.flow_turns.specs.Before.{ReadsNoVoid, drops}
+use Rattle.flow_fits.specs.Voids.{filled_by, is_that, is_filled, each_temp, each_read, node_reads, reads_no_void}
 
 -- Tests of lists.
 
@@ -28,7 +28,7 @@ agree f g temps slots (InSlot m ∷ hs) e h = agree f g temps slots hs e h.1
 pub all_agree : (f g : ℕ → Bool) (temps slots : ℕ) (ns : List Node) → ((m : ℕ) → m < temps → f m ≡ g m) → AllFine temps slots ns → each_read f ns ≡ each_read g ns
 all_agree f g temps slots [] e h = refl
 all_agree f g temps slots (n ∷ ns) e h =
-    ap (λ b. b && each_read f ns) (agree f g temps slots (read_by n) e h.0.reads) ∙ ap (λ b. each_temp g (read_by n) && b) (all_agree f g temps slots ns e h.1)
+    ap (λ b. (drops n || b) && each_read f ns) (agree f g temps slots (read_by n) e h.0.reads) ∙ ap (λ b. node_reads g n && b) (all_agree f g temps slots ns e h.1)
 
 -- one of the temps passes
 one_passes : (test : ℕ → Bool) (m : ℕ) (hs : List Held) → each_temp test hs ≡ true → among (InTemp m) hs ≡ true → test m ≡ true
@@ -41,12 +41,17 @@ one_passes test m (InTemp k ∷ hs) h a =
       | inr e ↦ one_passes test m hs x.1 e
     ]
 
-node_passes : (test : ℕ → Bool) (ns : List Node) (at : ℕ) (n : Node) → each_read test ns ≡ true → slice_get ns at ≡ Some n → each_temp test (read_by n) ≡ true
-node_passes test [] at n h e = absurd (cc)
-node_passes test (x ∷ ns) zero n h e =
+unless_dropped : (a b : Bool) → a ≡ false → (a || b) ≡ true → b ≡ true
+unless_dropped true b other h = absurd (cc)
+unless_dropped false b other h = h
+
+node_passes : (test : ℕ → Bool) (ns : List Node) (at : ℕ) (n : Node) → each_read test ns ≡ true → slice_get ns at ≡ Some n → drops n ≡ false → each_temp test (read_by n) ≡ true
+node_passes test [] at n h e other = absurd (cc)
+node_passes test (x ∷ ns) zero n h e other =
     let same : x ≡ n = cc in
-    subst (λ y. each_temp test (read_by y) ≡ true) same (and_parts (each_temp test (read_by x)) (each_read test ns) h).0
-node_passes test (x ∷ ns) (suc at) n h e = node_passes test ns at n (and_parts (each_temp test (read_by x)) (each_read test ns) h).1 e
+    unless_dropped (drops n) (each_temp test (read_by n)) other
+    (subst (λ y. node_reads test y ≡ true) same (and_parts (node_reads test x) (each_read test ns) h).0)
+node_passes test (x ∷ ns) (suc at) n h e other = node_passes test ns at n (and_parts (node_reads test x) (each_read test ns) h).1 e other
 
 -- What temps are for.
 
@@ -121,5 +126,5 @@ module _ (s : Source) (p : Layout) (k : Kinds) where
   ]
 
   pub no_void : (ns : List Node) → AllFit s p k ns → reads_no_void ns ≡ true → ReadsNoVoid k ns
-  no_void ns fits h at m n there read =
-      some_thing m ns fits (one_passes (is_filled ns) m (read_by n) (node_passes (is_filled ns) ns at n h there) read)
+  no_void ns fits h at m n there other read =
+      some_thing m ns fits (one_passes (is_filled ns) m (read_by n) (node_passes (is_filled ns) ns at n h there other) read)

@@ -8,6 +8,7 @@ ghost use Rattle.flow_fits.specs.Voids as spec;
 
 use crate::marks::marked;
 use crate::text::names_marked;
+use flow_gates::drops;
 use sc_flow::{Expression, Node, Numbers};
 use sc_gather::Context;
 
@@ -31,12 +32,16 @@ fn numbers_are_marked(flags: &[bool], numbers: Numbers) -> bool
     true
 }
 
-// Whether each temp is marked that a node reads.
+// Whether each temp is marked that a node reads, if it does not drop what it reads.
 fn reads_marked(flags: &[bool], here: &Context, node: &Node) -> bool
-    ensures { result ≡ spec.each_temp (marks.marked flags.now) (read_by (seen.node (seen.structs_of here.now) node.now)) }
+    ensures { result ≡ spec.node_reads (marks.marked flags.now) (seen.node (seen.structs_of here.now) node.now) }
 {
     match node {
-        Node::Keep { expression, .. } => expression_reads_marked(flags, here, expression),
+        Node::Keep {
+            want,
+            expression,
+            ..
+        } => drops(*want, expression) || expression_reads_marked(flags, here, expression),
         Node::KeepCells { expression, .. } => expression_reads_marked(flags, here, expression),
         Node::Set { expression, .. } => expression_reads_marked(flags, here, expression),
         Node::Call { arguments, .. } => numbers_are_marked(flags, *arguments),

@@ -89,9 +89,9 @@ fn reads_no_void(alloc: Global, here: &Context, flow: &Flow) -> Result<bool, Out
     Ok(each_reads_marked(&flags, here, nodes))
 }
 
-/// Whether the function at hand has gates: it fits its layout, none of its nodes reads a value of type `void`, and if it
-/// gives a value, that is a number or a pointer. `flow` is its graph. Besides the test of its text this takes time that is
-/// linear in the text of all nodes.
+/// Whether the function at hand has gates: it fits its layout, none of its nodes reads a value of type `void` but to drop it, and
+/// if it gives a value, that is a number or a pointer. `flow` is its graph. Besides the test of its text this takes time that
+/// is linear in the text of all nodes.
 #[tactic(auto, unfolding(layout_base::specs::Seen::ground_of))]
 pub fn can_encode<'p, 'm, 'f>(
     alloc: Global,

@@ -1,3 +1,2 @@
+pub mod Casting
 pub mod Stepping
-pub mod Reading
-pub mod Beginning

@@ -9,7 +9,7 @@ use Rattle.flow_graph.specs.Unrolled.{flow}
 use Rattle.flow_types.specs.Nodes.{AreOfOneType}
 use Rattle.flow_turns.specs.declared.before.Before.{Before}
 use Rattle.flow_turns.specs.declared.before.Arrival.{Arrival}
-use Rattle.flow_turns.specs.Before.{AreGates, IsAt, IsHere, ReadsNoVoid, GivesScalars}
+use Rattle.flow_turns.specs.Before.{AreGates, IsAt, IsBefore, IsHere, ReadsNoVoid, GivesScalars}
 use Rattle.sc_flow.specs.declared.flow.Flow.{Flow}
 use Rattle.sc_flow.specs.Seen.{node}
 
@@ -21,6 +21,10 @@ pub record IsSmall (p : Layout) (ns : List Gates) : Type 0 where
   pub few : length p.locations < 2 ^ 32
   pub inputs : p.bits ≤ input_count ns
 
+-- the gates tell each walk that comes to the node with that number
+abbrev pub IsBeforeNode : Source → Layout → Flow → ℕ → List Gates → Before → Type 0
+IsBeforeNode s p f at ns x = IsBefore s p (nodes_of s f) at ns x
+
 -- The gates are at a node.
 pub record IsThere (s : Source) (p : Layout) (f : Flow) (at : ℕ) (n : graph.Node) (ns : List Gates) (x : Before) (here : Arrival) : Type 0 where
   pub small : IsSmall p ns
@@ -29,8 +33,8 @@ pub record IsThere (s : Source) (p : Layout) (f : Flow) (at : ℕ) (n : graph.No
   pub node : slice_get (nodes_of s f) at ≡ Some n
   pub stands : IsAt s p (nodes_of s f) at ns x here
 
--- Each temp of the graph has one kind by which all nodes fit. No node reads a temp for values of type `void`, and a function that gives a
--- value gives a number or a pointer.
+-- Each temp of the graph has one kind by which all nodes fit. No node reads a temp for values of type `void` but to drop it, and a
+-- function that gives a value gives a number or a pointer.
 pub record CanEncode (s : Source) (p : Layout) : Type 0 where
   pub types : AreOfOneType s p
   pub void : ReadsNoVoid types.kinds (flow s).nodes

@@ -1,4 +1,4 @@
--- What is asked of who makes the gates of steps, and which nodes have gates.
+-- What is asked of who makes the gates of steps.
 use Rattle.std.specs.Prelude.{◌≡◌, ℕ, ◌≤◌, Bool, true, Some, List, [], ◌∷◌, length, map, slice_get}
 use Rattle.bit_net.specs.declared.nodes.Gate.{Gate}
 use Rattle.bit_net.specs.declared.nodes.Node.{Node as Gates}
@@ -53,31 +53,3 @@ pub record CanCall (s : Source) (p : Layout) (t : Temps) (c : graph.Calling) (ar
   pub next : ℕ
   pub fits : NodeFits s p kinds (graph.CallOf c args temp next)
   pub have : HaveTheirKinds s kinds t args
-
--- Which nodes have gates: initialisers in braces, locals that are set to an object, and assignments by an operator to kept places have none
--- here.
-module _ (takes : Expression → Bool) (makes : Calling → Bool) (structs : List Struct) where
-  abbrev pub HasGates : Node → Type 0
-  HasGates (code.Keep want temp e next) = takes e ≡ true
-  HasGates (code.KeepCells slot e next) = ⊥
-  HasGates (code.Call c args temp next) = makes c ≡ true
-  HasGates (code.Update u want place former right temp next) = ⊥
-  HasGates (code.Set n e next) = (takes e ≡ true) × (is_scalar (type_of (expression structs e)) ≡ true)
-  HasGates (code.Fill n xs slots next) = ⊥
-  HasGates (code.Branch from hit miss) = Unit {0}
-  HasGates (code.Choose from number hit miss) = Unit {0}
-  HasGates (code.Mark pos event next) = Unit {0}
-  HasGates (code.MarkSwitch pos t from next) = Unit {0}
-  HasGates (code.Exit from) = Unit {0}
-  HasGates (code.SetAside reason) = Unit {0}
-
-  abbrev pub AllHaveGates : List Node → Type 0
-  AllHaveGates [] = Unit {0}
-  AllHaveGates (n ∷ ns) = HasGates n × AllHaveGates ns
-
--- the node evaluates an expression or makes a call
-abbrev pub MakesStep : Node → Type 0
-MakesStep (code.Keep want temp e next) = Unit {0}
-MakesStep (code.Call c args temp next) = Unit {0}
-MakesStep (code.Set n e next) = Unit {0}
-MakesStep _ = ⊥

@@ -1,12 +1,12 @@
-//! The gates of a whole function, node by node of its graph, over whoever makes the gates of single steps.
+//! The nodes of a function's graph that make a step, as gates, over whoever makes the gates of single expressions and calls.
 //!
-//! `steps` has the trait of who makes them, `nodes` what is done at the nodes that make a step, `whole` the way over all nodes.
+//! `steps` has the trait of who makes them, `nodes` what is done at the nodes that make a step, and `dropping` which of them do nothing.
 #![tactic(auto)]
 
+mod dropping;
 mod nodes;
 mod steps;
-mod whole;
 
+pub use dropping::drops;
 pub use nodes::{Calls, Keeping, Setting, call, keep, set};
 pub use steps::{Graph, Steps};
-pub use whole::encode;

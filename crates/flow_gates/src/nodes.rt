@@ -7,11 +7,12 @@ ghost use Rattle.sc_world.specs.Tree.{type_of};
 ghost use Rattle.flow_graph.specs.Conditions.{temps_of};
 ghost use Rattle.flow_graph.specs.Nodes as unrolled;
 ghost use Rattle.flow_keeps.specs.Reads.{AllKept, IsNamed, named as temps_in};
-ghost use Rattle.flow_turns.specs.Before.{AreGates, IsBefore};
+ghost use Rattle.flow_turns.specs.Before.{AreGates, drops as is_dropped};
 ghost use Rattle.flow_turns.specs.Kept.{is_kept};
 ghost use Rattle.sc_flow.specs.Seen as seen;
-ghost use Rattle.flow_gates.specs.Graph.{IsThere, nodes_of};
+ghost use Rattle.flow_gates.specs.Graph.{IsBeforeNode, IsThere};
 
+use crate::dropping::drops;
 use crate::steps::{Graph, Steps};
 use bit_net::{Net, OutOfMemory};
 use flow_keeps::{Reads, keep as keep_value, set as set_value, surely, unkept, was_kept};
@@ -46,11 +47,18 @@ pub fn keep<S: Steps>(
 ) -> Result<(), OutOfMemory>
     requires takes { S.takes graph.now.steps.now keeping.now.expression ≡ true }
     requires at { IsThere (S.source graph.now.steps.now) (S.layout graph.now.steps.now) graph.now.flow.now at
-        (unrolled.Keep (seen.want_of keeping.now.want) keeping.now.temp (seen.expression (S.source graph.now.steps.now).structs keeping.now.expression) keeping.now.next) net.old before.old here }
+        (unrolled.Keep (seen.want_of keeping.now.want) keeping.now.temp
+        (seen.expression (S.source graph.now.steps.now).structs keeping.now.expression) keeping.now.next)
+        net.old before.old here }
     ensures grown { Grown net.old net.new }
     ensures gates { OnOk result (AreGates net.new before.new) }
-    ensures ok { OnOk result (IsBefore (S.source graph.now.steps.now) (S.layout graph.now.steps.now) (nodes_of (S.source graph.now.steps.now) graph.now.flow.now) (at + 1) net.new before.new) }
+    ensures ok { OnOk result (IsBeforeNode (S.source graph.now.steps.now) (S.layout graph.now.steps.now) graph.now.flow.now
+        (at + 1) net.new before.new) }
 {
+    if drops(keeping.want, &keeping.expression) {
+        before.skip(net, here, keeping.next as usize)?;
+        return Ok(());
+    }
     let names = graph.steps.reads(&keeping.expression);
     match unkept(&before.temps, names) {
         Some(temp) => {
@@ -74,14 +82,19 @@ fn keep_read<S: Steps>(
     keeping: &Keeping,
     names: Reads,
 ) -> Result<(), OutOfMemory>
+    requires goes { is_dropped (unrolled.Keep (seen.want_of keeping.now.want) keeping.now.temp
+        (seen.expression (S.source graph.now.steps.now).structs keeping.now.expression) keeping.now.next) ≡ false }
     requires takes { S.takes graph.now.steps.now keeping.now.expression ≡ true }
     requires at { IsThere (S.source graph.now.steps.now) (S.layout graph.now.steps.now) graph.now.flow.now at
-        (unrolled.Keep (seen.want_of keeping.now.want) keeping.now.temp (seen.expression (S.source graph.now.steps.now).structs keeping.now.expression) keeping.now.next) net.old before.old here }
+        (unrolled.Keep (seen.want_of keeping.now.want) keeping.now.temp
+        (seen.expression (S.source graph.now.steps.now).structs keeping.now.expression) keeping.now.next)
+        net.old before.old here }
     requires names { temps_in names ≡ temps_of (seen.expression (S.source graph.now.steps.now).structs keeping.now.expression) }
     requires kept { AllKept before.old.temps (temps_in names) }
     ensures grown { Grown net.old net.new }
     ensures gates { OnOk result (AreGates net.new before.new) }
-    ensures ok { OnOk result (IsBefore (S.source graph.now.steps.now) (S.layout graph.now.steps.now) (nodes_of (S.source graph.now.steps.now) graph.now.flow.now) (at + 1) net.new before.new) }
+    ensures ok { OnOk result (IsBeforeNode (S.source graph.now.steps.now) (S.layout graph.now.steps.now) graph.now.flow.now
+        (at + 1) net.new before.new) }
 {
     let on = surely(net, &before.temps, here.gate, names)?;
     let steps = graph.steps;
@@ -110,10 +123,12 @@ pub fn set<S: Steps>(
     requires takes { S.takes graph.now.steps.now setting.now.expression ≡ true }
     requires scalar { is_scalar (type_of (seen.expression (S.source graph.now.steps.now).structs setting.now.expression)) ≡ true }
     requires at { IsThere (S.source graph.now.steps.now) (S.layout graph.now.steps.now) graph.now.flow.now at
-        (unrolled.Set setting.now.local (seen.expression (S.source graph.now.steps.now).structs setting.now.expression) setting.now.next) net.old before.old here }
+        (unrolled.Set setting.now.local (seen.expression (S.source graph.now.steps.now).structs setting.now.expression) setting.now.next)
+        net.old before.old here }
     ensures grown { Grown net.old net.new }
     ensures gates { OnOk result (AreGates net.new before.new) }
-    ensures ok { OnOk result (IsBefore (S.source graph.now.steps.now) (S.layout graph.now.steps.now) (nodes_of (S.source graph.now.steps.now) graph.now.flow.now) (at + 1) net.new before.new) }
+    ensures ok { OnOk result (IsBeforeNode (S.source graph.now.steps.now) (S.layout graph.now.steps.now) graph.now.flow.now
+        (at + 1) net.new before.new) }
 {
     let names = graph.steps.reads(&setting.expression);
     match unkept(&before.temps, names) {
@@ -141,12 +156,14 @@ fn set_read<S: Steps>(
     requires takes { S.takes graph.now.steps.now setting.now.expression ≡ true }
     requires scalar { is_scalar (type_of (seen.expression (S.source graph.now.steps.now).structs setting.now.expression)) ≡ true }
     requires at { IsThere (S.source graph.now.steps.now) (S.layout graph.now.steps.now) graph.now.flow.now at
-        (unrolled.Set setting.now.local (seen.expression (S.source graph.now.steps.now).structs setting.now.expression) setting.now.next) net.old before.old here }
+        (unrolled.Set setting.now.local (seen.expression (S.source graph.now.steps.now).structs setting.now.expression) setting.now.next)
+        net.old before.old here }
     requires names { temps_in names ≡ temps_of (seen.expression (S.source graph.now.steps.now).structs setting.now.expression) }
     requires kept { AllKept before.old.temps (temps_in names) }
     ensures grown { Grown net.old net.new }
     ensures gates { OnOk result (AreGates net.new before.new) }
-    ensures ok { OnOk result (IsBefore (S.source graph.now.steps.now) (S.layout graph.now.steps.now) (nodes_of (S.source graph.now.steps.now) graph.now.flow.now) (at + 1) net.new before.new) }
+    ensures ok { OnOk result (IsBeforeNode (S.source graph.now.steps.now) (S.layout graph.now.steps.now) graph.now.flow.now
+        (at + 1) net.new before.new) }
 {
     let on = surely(net, &before.temps, here.gate, names)?;
     let steps = graph.steps;
@@ -190,10 +207,13 @@ pub fn call<S: Steps>(
 ) -> Result<(), OutOfMemory>
     requires makes { S.makes graph.now.steps.now calls.now.calling ≡ true }
     requires at { IsThere (S.source graph.now.steps.now) (S.layout graph.now.steps.now) graph.now.flow.now at
-        (unrolled.CallOf (seen.calling (S.source graph.now.steps.now).structs calls.now.calling) (seen.all_of calls.now.arguments) calls.now.temp calls.now.next) net.old before.old here }
+        (unrolled.CallOf (seen.calling (S.source graph.now.steps.now).structs calls.now.calling)
+        (seen.all_of calls.now.arguments) calls.now.temp calls.now.next)
+        net.old before.old here }
     ensures grown { Grown net.old net.new }
     ensures gates { OnOk result (AreGates net.new before.new) }
-    ensures ok { OnOk result (IsBefore (S.source graph.now.steps.now) (S.layout graph.now.steps.now) (nodes_of (S.source graph.now.steps.now) graph.now.flow.now) (at + 1) net.new before.new) }
+    ensures ok { OnOk result (IsBeforeNode (S.source graph.now.steps.now) (S.layout graph.now.steps.now) graph.now.flow.now
+        (at + 1) net.new before.new) }
 {
     match unkept_among(&before.temps, calls.arguments) {
         Some(temp) => {
@@ -218,11 +238,14 @@ fn call_read<S: Steps>(
 ) -> Result<(), OutOfMemory>
     requires makes { S.makes graph.now.steps.now calls.now.calling ≡ true }
     requires at { IsThere (S.source graph.now.steps.now) (S.layout graph.now.steps.now) graph.now.flow.now at
-        (unrolled.CallOf (seen.calling (S.source graph.now.steps.now).structs calls.now.calling) (seen.all_of calls.now.arguments) calls.now.temp calls.now.next) net.old before.old here }
+        (unrolled.CallOf (seen.calling (S.source graph.now.steps.now).structs calls.now.calling)
+        (seen.all_of calls.now.arguments) calls.now.temp calls.now.next)
+        net.old before.old here }
     requires kept { AllKept before.old.temps (seen.all_of calls.now.arguments) }
     ensures grown { Grown net.old net.new }
     ensures gates { OnOk result (AreGates net.new before.new) }
-    ensures ok { OnOk result (IsBefore (S.source graph.now.steps.now) (S.layout graph.now.steps.now) (nodes_of (S.source graph.now.steps.now) graph.now.flow.now) (at + 1) net.new before.new) }
+    ensures ok { OnOk result (IsBeforeNode (S.source graph.now.steps.now) (S.layout graph.now.steps.now) graph.now.flow.now
+        (at + 1) net.new before.new) }
 {
     let steps = graph.steps;
     let gate = here.gate;

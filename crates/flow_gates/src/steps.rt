@@ -67,7 +67,8 @@ pub trait Steps {
         requires can { CanEvaluate (source self.now) (layout self.now) temps.now (seen.want_of want) (seen.expression (source self.now).structs e.now) }
         ensures grown { Grown net.old net.new }
         ensures made { IfOk result (λ made. IsStepMade (layout self.now) net.new on store.new made) }
-        ensures ok { IfOk result (λ made. Evaluates (source self.now) (layout self.now) temps.now net.new (seen.want_of want) (seen.expression (source self.now).structs e.now) store.old.locations.items store.new.locations.items made) };
+        ensures ok { IfOk result (λ made. Evaluates (source self.now) (layout self.now) temps.now net.new
+            (seen.want_of want) (seen.expression (source self.now).structs e.now) store.old.locations.items store.new.locations.items made) };
 
     /// The gates of a call with the arguments in these temps, from where a gate holds.
     fn call(
@@ -87,7 +88,9 @@ pub trait Steps {
         requires can { CanCall (source self.now) (layout self.now) temps.now (seen.calling (source self.now).structs calling.now) (seen.all_of arguments) }
         ensures grown { Grown net.old net.new }
         ensures made { IfOk result (λ made. IsStepMade (layout self.now) net.new on store.new made) }
-        ensures ok { IfOk result (λ made. Calls (source self.now) (layout self.now) temps.now net.new (seen.calling (source self.now).structs calling.now) (seen.all_of arguments) store.old.locations.items store.new.locations.items made) };
+        ensures ok { IfOk result (λ made. Calls (source self.now) (layout self.now) temps.now net.new
+            (seen.calling (source self.now).structs calling.now) (seen.all_of arguments)
+            store.old.locations.items store.new.locations.items made) };
 }
 
 /// What is gone over, and who makes the gates of its steps.

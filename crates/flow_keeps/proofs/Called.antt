@@ -73,7 +73,7 @@ call_step s p kinds nodes node ns c args m next here old stored made is fit kept
         does = λ k kept.
             does_also v old.store.locations.items stored calls.begun made.ends (call_of s p bits c (map (temp k) args)) (Meets v made.val) (IsGood v p kinds.temps m made) good
             (calls.does bits few v runs (map (temp k) args)
-            (meet_each v old.temps k args (λ j named. (kept.temps j (reads_are_asked nodes node n (InTemp j) cut named) (fit.void node j n is named)).meets)));
+            (meet_each v old.temps k args (λ j named. (kept.temps j (reads_are_asked nodes node n (InTemp j) cut named) (fit.void node j n is refl named)).meets)));
         some = λ k some.
             does_also v old.store.locations.items stored calls.begun made.ends (call_of s p bits c (map (temp k) args)) (Meets v made.val) (IsGood v p kinds.temps m made) good
             (calls.does bits few v runs (map (temp k) args) (meet_each v old.temps k args (λ j named. some.meets j)));

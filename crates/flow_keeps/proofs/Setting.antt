@@ -85,12 +85,12 @@ set_value ns ns1 ns' location next here made mid done new place g points stored 
                 asides = λ choice v r k. ev.began.asides choice v (g.runs choice v r) k;
                 bads = λ choice v r k. ev.began.bads choice v (g.runs choice v r) k;
               };
-              narrow = narrow s p before.kinds nodes node n ns Value e here old mid.store.locations.items made is refl before.fit (value_fits s p before.kinds e m next scalar fits) ev on bits v runs0;
-              wide = wide s p before.kinds nodes node n ns Value e here old mid.store.locations.items made is refl before.fit (value_fits s p before.kinds e m next scalar fits) ev on bits v runs0;
+              narrow = narrow s p before.kinds nodes node n ns Value e here old mid.store.locations.items made is refl refl before.fit (value_fits s p before.kinds e m next scalar fits) ev on bits v runs0;
+              wide = wide s p before.kinds nodes node n ns Value e here old mid.store.locations.items made is refl refl before.fit (value_fits s p before.kinds e m next scalar fits) ev on bits v runs0;
               does = λ k kept. whole k
-                  (does_kept s p before.kinds nodes node n ns Value e here old mid.store.locations.items made is refl before.fit (value_fits s p before.kinds e m next scalar fits) ev on bits v runs0 k kept);
+                  (does_kept s p before.kinds nodes node n ns Value e here old mid.store.locations.items made is refl refl before.fit (value_fits s p before.kinds e m next scalar fits) ev on bits v runs0 k kept);
               some = λ k some. whole k
-                  (does_some s p before.kinds nodes node n ns Value e here old mid.store.locations.items made is refl before.fit (value_fits s p before.kinds e m next scalar fits) ev on bits v runs0 k some);
+                  (does_some s p before.kinds nodes node n ns Value e here old mid.store.locations.items made is refl refl before.fit (value_fits s p before.kinds e m next scalar fits) ev on bits v runs0 k some);
             });
       }));
 }

@@ -64,7 +64,7 @@ update_step s p kinds nodes node ns u want at former right m next here old store
       let reads_former : among (InTemp former) (read_by n) ≡ true = or_there (nat_eq former at) _ (or_here (nat_eq former former) _ (eq-eqb former former refl)) in
       let reads_right : among (InTemp right) (read_by n) ≡ true = or_there (nat_eq right at) _ (or_there (nat_eq right former) _ (or_here (nat_eq right right) _ (eq-eqb right right refl))) in
       let has = λ (k : Kept) (kept : HaveKept v p kinds.temps old.temps k (unread nodes node node)) (j : ℕ) (read : among (InTemp j) (read_by n) ≡ true).
-      kept.temps j (reads_are_asked nodes node n (InTemp j) cut read) (fit.void node j n is read) in
+      kept.temps j (reads_are_asked nodes node n (InTemp j) cut read) (fit.void node j n is refl read) in
       record {
         m = λ k. updated s p bits u want (temp k at) (temp k former) (temp k right);
         acts = λ go k w. refl;

@@ -28,7 +28,7 @@ use Rattle.flow_turns.specs.declared.before.Arrival.{Arrival}
 use Rattle.flow_turns.specs.declared.steps.Made.{Made}
 use Rattle.flow_turns.specs.declared.temps.Temps.{Temps}
 use Rattle.flow_turns.specs.Kept.{val_at, HasKept, HaveKept, HaveSome, HasKind, is_for_void, kind_for}
-use Rattle.flow_turns.specs.Before.{IsFit, ReadsNoVoid}
+use Rattle.flow_turns.specs.Before.{IsFit, drops}
 use Rattle.flow_turns.specs.Steps.{IsGood, DoesNode, DoesStep, Settles}
 use Rattle.flow_turns.proofs.Turning.{fits_at}
 use Rattle.flow_keeps.specs.Keeps.{BeginsAt, KeepsValue}
@@ -125,13 +125,13 @@ good_place p kinds Place' t m v made c is sure good = record {
 
 -- The evaluation of the expression of a node, from what was kept in a run, and from what temps have in any case.
 module _ (s : Source) (p : Layout) (kinds : flow.Kinds) (nodes : List Node) (node : ℕ) (n : Node) (ns : List Gates) (want : Want) (e : Exp) (here : Arrival) (old : Before) (stored : List Location) (made : Made)
-    (is : slice_get nodes node ≡ Some n) (read : read_by n ≡ map InTemp (temps_of e)) (fit : IsFit s p kinds nodes) (fits : flow.FitsOver kinds p want e)
+    (is : slice_get nodes node ≡ Some n) (other : drops n ≡ false) (read : read_by n ≡ map InTemp (temps_of e)) (fit : IsFit s p kinds nodes) (fits : flow.FitsOver kinds p want e)
     (ev : Evaluates s p old.temps ns want e old.store.locations.items stored made) (on : BeginsAt ns here old (temps_of e) made.on.at)
     (bits : List Bool) (v : ℕ → Bool) (runs : Runs ns (bit_at bits) v) where
   has : (k : Kept) → HaveKept v p kinds.temps old.temps k (unread nodes node node) → (j : ℕ) → among (InTemp j) (map InTemp (temps_of e)) ≡ true → HasKept v p kinds.temps old.temps k j
   has k kept j named =
       let named' : among (InTemp j) (read_by n) ≡ true = ap (among (InTemp j)) read ∙ named in
-      kept.temps j (reads_are_asked nodes node n (InTemp j) (nodes_are_at nodes node n is) named') (fit.void node j n is named')
+      kept.temps j (reads_are_asked nodes node n (InTemp j) (nodes_are_at nodes node n is) named') (fit.void node j n is other named')
 
   pub narrow : v here.gate.at ≡ false → v made.on.at ≡ false
   narrow off = on.value (bit_at bits) v runs ∙ ap (λ b. b && each_sure v old.temps (temps_of e)) off
@@ -170,10 +170,10 @@ module _ (s : Source) (p : Layout) (kinds : flow.Kinds) (nodes : List Node) (nod
 
 -- a node that keeps the value of an expression
 kept_step : (s : Source) (p : Layout) (kinds : flow.Kinds) (nodes : List Node) (node : ℕ) (ns : List Gates) (want : Want) (m next : ℕ) (e : Exp) (here : Arrival) (old : Before) (stored : List Location) (made : Made)
-    → slice_get nodes node ≡ Some (Keep want m e next) → IsFit s p kinds nodes → NodeFits s p kinds (Keep want m e next)
+    → slice_get nodes node ≡ Some (Keep want m e next) → drops (Keep want m e next) ≡ false → IsFit s p kinds nodes → NodeFits s p kinds (Keep want m e next)
     → Evaluates s p old.temps ns want e old.store.locations.items stored made → BeginsAt ns here old (temps_of e) made.on.at
     → DoesStep s p kinds.temps nodes node ns (Keep want m e next) m next here old stored made
-kept_step s p kinds nodes node ns want m next e here old stored made is fit fits ev on = record {
+kept_step s p kinds nodes node ns want m next e here old stored made is other fit fits ev on = record {
   same = ev.same;
   keeps = refl;
   on = λ is_so. refl;
@@ -187,20 +187,20 @@ kept_step s p kinds nodes node ns want m next e here old stored made is fit fits
         acts = λ go k w. refl;
         begun = ev.begun;
         began = ev.began;
-        narrow = narrow s p kinds nodes node n ns want e here old stored made is refl fit fits.0 ev on bits v runs;
-        wide = wide s p kinds nodes node n ns want e here old stored made is refl fit fits.0 ev on bits v runs;
+        narrow = narrow s p kinds nodes node n ns want e here old stored made is other refl fit fits.0 ev on bits v runs;
+        wide = wide s p kinds nodes node n ns want e here old stored made is other refl fit fits.0 ev on bits v runs;
         does = λ k kept.
             does_also v old.store.locations.items stored ev.begun made.ends (eval e want (reads s p bits k)) (IsWanted v made.ends.live.at p (kind_of want (type_of e)) made.val) (IsGood v p kinds.temps m made) good
-            (does_kept s p kinds nodes node n ns want e here old stored made is refl fit fits.0 ev on bits v runs k kept);
+            (does_kept s p kinds nodes node n ns want e here old stored made is other refl fit fits.0 ev on bits v runs k kept);
         some = λ k some.
             does_also v old.store.locations.items stored ev.begun made.ends (eval e want (reads s p bits k)) (IsWanted v made.ends.live.at p (kind_of want (type_of e)) made.val) (IsGood v p kinds.temps m made) good
-            (does_some s p kinds nodes node n ns want e here old stored made is refl fit fits.0 ev on bits v runs k some);
+            (does_some s p kinds nodes node n ns want e here old stored made is other refl fit fits.0 ev on bits v runs k some);
       });
 }
 
 pub kept_value : (ns ns' : List Gates) (m next : ℕ) (here : Arrival) (made : Made) (mid new : Before) → Settles ns ns' m next here made mid new → KeepsValue ns ns' m next here made mid new
 kept_value ns ns' m next here made mid new h = record {
-  past = λ s p nodes node want e is old_ns g old wrote at on ev.
+  past = λ s p nodes node want e is other old_ns g old wrote at on ev.
       h.past s p nodes node (Keep want m e next) is old_ns g old wrote at
-      (kept_step s p at.kinds nodes node ns want m next e here old mid.store.locations.items made is at.fit (fits_at s p at.kinds nodes node (Keep want m e next) is at.fit.types) ev on);
+      (kept_step s p at.kinds nodes node ns want m next e here old mid.store.locations.items made is other at.fit (fits_at s p at.kinds nodes node (Keep want m e next) is at.fit.types) ev on);
 }

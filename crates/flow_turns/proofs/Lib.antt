@@ -1,5 +1,6 @@
 pub mod Past
 pub mod Turning
+pub mod Skipping
 pub mod Lists
 pub mod Keeping
 pub mod Settling

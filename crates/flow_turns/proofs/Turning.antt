@@ -31,7 +31,7 @@ use Rattle.flow_stages.proofs.OfNodes.{nodes_are_at, nodes_go_on_at, reads_are_a
 use Rattle.flow_turns.specs.declared.before.Before.{Before}
 use Rattle.flow_turns.specs.declared.before.Arrival.{Arrival}
 use Rattle.flow_turns.specs.Kept.{val_at, is_kept, HaveKept}
-use Rattle.flow_turns.specs.Before.{IsHere, IsAt, GoesBy, ReadsNoVoid, seen, arrived}
+use Rattle.flow_turns.specs.Before.{IsHere, IsAt, GoesBy, ReadsNoVoid, drops, seen, arrived}
 use Rattle.flow_turns.specs.Turns.{Anywhere, IsTest}
 use Rattle.flow_turns.proofs.Past.{fewer, shape_grown, meets_kind, put_same}
 
@@ -88,6 +88,10 @@ both_false' : (a b : Bool) → b ≡ false → (a && b) ≡ false
 both_false' true b e = e
 both_false' false b e = refl
 
+no_drop : (from : ℕ) (number : Option ℕ) (hit miss : ℕ) → drops (branching from number hit miss) ≡ false
+no_drop from None hit miss = refl
+no_drop from (Some n) hit miss = refl
+
 -- A branch.
 pub branched : (ns ns1 ns2 : List Gates) (from : ℕ) (number : Option ℕ) (hit miss : ℕ) (x : Before) (w : Ways) (here : Arrival) (test : ℕ)
     → Grown ns ns1 → Grown ns1 ns2 → IsHere ns here → IsTest ns1 number (val_at x.temps from) test
@@ -128,7 +132,7 @@ branched ns ns1 ns2 from number hit miss x w here test g1 g2 gate tests goes = r
                       temps = λ k free m. m;
                       gives = λ r m. m;
                     };
-                    tests = λ k m on. tests.value (bit_at bits) v runs1 (temp k from) (m.temps from (reads_are_asked nodes node n (InTemp from) cut a.reads) (h.fit.void node from n is a.reads)).meets;
+                    tests = λ k m on. tests.value (bit_at bits) v runs1 (temp k from) (m.temps from (reads_are_asked nodes node n (InTemp from) cut a.reads) (h.fit.void node from n is (no_drop from number hit miss) a.reads)).meets;
                     on_hit = λ k. fewer v p h.kinds.temps x.temps k (unread nodes node node) (unread nodes (node + 1) hit)
                         (λ m e. asked_before nodes node n m cut (a.keeps m) (a.on (λ q. unread nodes (node + 1) q m) ∙ both_false (unread nodes (node + 1) hit m) (unread nodes (node + 1) miss m) e));
                     on_miss = λ k. fewer v p h.kinds.temps x.temps k (unread nodes node node) (unread nodes (node + 1) miss)
@@ -264,7 +268,7 @@ exited_with ns ns' x r here from g gate w = exited ns ns' x r here (Some from) (
         let read : among (InTemp from) (read_by (Exit (Some from))) ≡ true = ap (λ b. b || false) (eq-eqb from from refl) in (
           (temp t.other from, t.some.meets from),
           λ k kept.
-              (let m = kept.temps from (reads_are_asked nodes node (Exit (Some from)) (InTemp from) cut read) (h.fit.void node from (Exit (Some from)) is read) in
+              (let m = kept.temps from (reads_are_asked nodes node (Exit (Some from)) (InTemp from) cut read) (h.fit.void node from (Exit (Some from)) is refl read) in
               let fits = fits_at s p h.kinds nodes node (Exit (Some from)) is h.fit.types in
               let kind : kind_of (temp k from) ≡ kind_of_type s (Some s.result) =
               meets_kind v (val_at x.temps from) (temp k from) m.meets
@@ -357,6 +361,6 @@ two_sides false e f = cc
 pub passed_never : (ns : List Gates) (x : Before) (here : Arrival) → Always ns (λ choice v. v here.gate.at ≡ false) → (n : Node) → GoesBy ns ns n here x x
 passed_never ns x here off n = passed ns x here n (λ s p nodes node is kinds void bits v runs k m on. two_sides (v here.gate.at) (off.holds (bit_at bits) v runs) on)
 
-pub passed_unread : (ns : List Gates) (x : Before) (here : Arrival) (m : ℕ) → is_kept x.temps m ≡ false → (n : Node) → among (InTemp m) (read_by n) ≡ true → GoesBy ns ns n here x x
-passed_unread ns x here m none n read =
-    passed ns x here n (λ s p nodes node is kinds void bits v runs k h on. two_sides (is_kept x.temps m) none (h.temps m (reads_are_asked nodes node n (InTemp m) (nodes_are_at nodes node n is) read) (void node m n is read)).kept)
+pub passed_unread : (ns : List Gates) (x : Before) (here : Arrival) (m : ℕ) → is_kept x.temps m ≡ false → (n : Node) → drops n ≡ false → among (InTemp m) (read_by n) ≡ true → GoesBy ns ns n here x x
+passed_unread ns x here m none n other read =
+    passed ns x here n (λ s p nodes node is kinds void bits v runs k h on. two_sides (is_kept x.temps m) none (h.temps m (reads_are_asked nodes node n (InTemp m) (nodes_are_at nodes node n is) read) (void node m n is other read)).kept)

@@ -5,12 +5,14 @@ use Rattle.bit_net.specs.Runs.{Runs, Gives}
 use Rattle.gl_store.specs.Meets.{Meets, MeetsAll, val_kind, val_top, kinds, locations_top}
 use Rattle.gl_store.specs.Steps.{IsBlank}
 use Rattle.gate_runs.specs.Stands.{told}
+use Rattle.sc_world.specs.Tree.{Exp, Cast, Convert, Temp, is_void}
+use Rattle.sc_world.specs.Eval.{Value}
 use Rattle.sc_world.specs.Source.{Source}
 use Rattle.sc_world.specs.Layout.{Layout}
 use Rattle.sc_world.specs.World.{bit_at, kind_of_type}
 use Rattle.run_laws.specs.Fits.{is_scalar}
 use Rattle.run_store.specs.Concrete.{Cell}
-use Rattle.flow_graph.specs.Nodes.{Node, Exit, Kept}
+use Rattle.flow_graph.specs.Nodes.{Node, Keep, Exit, Kept}
 use Rattle.flow_graph.specs.Conditions.{InTemp, among, read_by, AllFine}
 use Rattle.flow_graph.specs.Laws.{AllGoOn}
 use Rattle.flow_types.specs.Kinds.{Kinds}
@@ -79,9 +81,20 @@ pub record Tells (s : Source) (p : Layout) (k : Kinds) (nodes : List Node) (bits
 
 -- Graphs.
 
--- no node reads a temp that is for values of type `void`
+-- a value of type `void` that a temp keeps, once more as one of type `void`
+abbrev pub drops_value : Exp → Bool
+drops_value (Cast (Temp m t) u) = is_void t && is_void u
+drops_value (Convert (Temp m t) u) = is_void t && is_void u
+drops_value _ = false
+
+-- the node keeps such a value: it does nothing
+abbrev pub drops : Node → Bool
+drops (Keep Value m e next) = drops_value e
+drops _ = false
+
+-- no other node reads a temp that is for values of type `void`
 abbrev pub ReadsNoVoid : Kinds → List Node → Type 0
-ReadsNoVoid k nodes = (at m : ℕ) (n : Node) → slice_get nodes at ≡ Some n → among (InTemp m) (read_by n) ≡ true
+ReadsNoVoid k nodes = (at m : ℕ) (n : Node) → slice_get nodes at ≡ Some n → drops n ≡ false → among (InTemp m) (read_by n) ≡ true
     → is_for_void (slice_get k.temps m) ≡ false
 
 -- a function that gives a value gives a number or a pointer
@@ -89,7 +102,7 @@ abbrev pub GivesScalars : Source → List Node → Type 0
 GivesScalars s nodes = (at m : ℕ) → slice_get nodes at ≡ Some (Exit (Some m)) → is_scalar s.result ≡ true
 
 -- Each node goes on at later ones, its numbers are in range, and what it reads and keeps has the type for it. Values of type `void` are
--- not read, and objects are not given as values.
+-- read by nodes alone that drop them, and objects are not given as values.
 pub record IsFit (s : Source) (p : Layout) (k : Kinds) (nodes : List Node) : Type 0 where
   pub on : AllGoOn 0 (length nodes) nodes
   pub fine : AllFine (length k.temps) (length k.slots) nodes

@@ -5,13 +5,15 @@ ghost use Rattle.bit_net.specs.Runs.{Grown, Always};
 ghost use Rattle.gl_store.specs.Meets.{val_top};
 ghost use Rattle.gl_store.specs.Steps.{IsOverwritten};
 ghost use Rattle.flow_graph.specs.Conditions.{InTemp, among, read_by};
-ghost use Rattle.flow_graph.specs.Nodes.{Node, Exit, SetAside};
+ghost use Rattle.flow_graph.specs.Nodes.{Node, Keep, Exit, SetAside};
 ghost use Rattle.flow_stages.specs.NodeKinds.{mark_next, branching};
 ghost use Rattle.flow_ways.specs.Held.{ways_top, splits_top};
-ghost use Rattle.flow_turns.specs.Before.{AreGates, IsHere, GoesBy};
+ghost use Rattle.flow_turns.specs.Before.{AreGates, IsHere, GoesBy, drops};
 ghost use Rattle.flow_turns.specs.Kept.{AreTemps, is_kept, val_at};
 ghost use Rattle.flow_turns.specs.Turns.{Anywhere, IsTest};
 ghost use Rattle.sc_world.specs.declared.run.Reason.{Reason};
+ghost use Rattle.sc_world.specs.Eval.{Want};
+ghost use Rattle.sc_world.specs.Tree.{Exp};
 
 use crate::before::{Arrival, Before};
 use crate::temps::Temps;
@@ -115,6 +117,19 @@ impl Before {
         Ok(())
     }
 
+    /// A node that drops a value of type `void`: the ways go on at the next one.
+    pub fn skip(&mut self, net: &Net, here: Arrival, next: usize) -> Result<(), OutOfMemory>
+        requires gates { AreGates net.now self.old }
+        requires here { IsHere net.now here }
+        ensures gates { OnOk result (AreGates net.now self.new) }
+        ensures ok { OnOk result ((want : Want) (m : ℕ) (e : Exp) → drops (Keep want m e next) ≡ true
+            → GoesBy net.now net.now (Keep want m e next) here self.old self.new) }
+    {
+        let Arrival { ways, .. } = here;
+        self.ways.come(next, ways)?;
+        Ok(())
+    }
+
     /// A branch on whether what was kept in a temp is that number, or not 0.
     pub fn branch(
         &mut self,
@@ -206,7 +221,7 @@ impl Before {
     /// A node to which no walk comes, since it reads a temp that no node has kept: nothing is done.
     pub fn pass_unread(&self, net: &Net, here: &Arrival, temp: usize)
         requires unread { is_kept self.now.temps temp ≡ false }
-        ensures { (n : Node) → among (InTemp temp) (read_by n) ≡ true → GoesBy net.now net.now n here.now self.now self.now }
+        ensures { (n : Node) → drops n ≡ false → among (InTemp temp) (read_by n) ≡ true → GoesBy net.now net.now n here.now self.now self.now }
     {
         let _net = net;
         let _here = here;

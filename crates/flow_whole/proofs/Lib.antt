@@ -3,3 +3,4 @@ mod Reading
 mod Objects
 mod Initialised
 mod Assigning
+mod Beginning

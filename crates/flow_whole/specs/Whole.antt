@@ -56,3 +56,13 @@ Assigns (code.Update u want place former right temp next) = Unit {0}
 Assigns (code.KeepCells slot e next) = Unit {0}
 Assigns (code.Fill n xs slots next) = Unit {0}
 Assigns _ = ⊥
+
+-- the node only leads on, ends the run or leaves the function
+abbrev pub Turns : Node → Type 0
+Turns (code.Branch from hit miss) = Unit {0}
+Turns (code.Choose from number hit miss) = Unit {0}
+Turns (code.Mark pos event next) = Unit {0}
+Turns (code.MarkSwitch pos t from next) = Unit {0}
+Turns (code.Exit from) = Unit {0}
+Turns (code.SetAside reason) = Unit {0}
+Turns _ = ⊥

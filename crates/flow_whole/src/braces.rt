@@ -7,9 +7,9 @@ ghost use Rattle.sc_world.specs.Eval.{Value, Place'};
 ghost use Rattle.flow_graph.specs.Conditions.{temps_of};
 ghost use Rattle.flow_graph.specs.Nodes as unrolled;
 ghost use Rattle.flow_keeps.specs.Reads.{AllKept};
-ghost use Rattle.flow_turns.specs.Before.{AreGates, IsBefore};
+ghost use Rattle.flow_turns.specs.Before.{AreGates};
 ghost use Rattle.sc_flow.specs.Seen as seen;
-ghost use Rattle.flow_gates.specs.Graph.{IsThere, nodes_of};
+ghost use Rattle.flow_gates.specs.Graph.{IsBeforeNode, IsThere};
 ghost use Rattle.flow_whole.specs.Whole.{HasType, IsOf};
 
 use crate::locals::type_of;
@@ -44,10 +44,12 @@ pub fn keep_cells<S: Steps>(
     requires takes { S.takes graph.now.steps.now giving.now.expression ≡ true }
     requires typed { HasType giving.now.expression }
     requires at { IsThere (S.source graph.now.steps.now) (S.layout graph.now.steps.now) graph.now.flow.now at
-        (unrolled.KeepCells giving.now.slot (seen.expression (S.source graph.now.steps.now).structs giving.now.expression) giving.now.next) net.old before.old here }
+        (unrolled.KeepCells giving.now.slot (seen.expression (S.source graph.now.steps.now).structs giving.now.expression) giving.now.next)
+        net.old before.old here }
     ensures grown { Grown net.old net.new }
     ensures gates { OnOk result (AreGates net.new before.new) }
-    ensures ok { OnOk result (IsBefore (S.source graph.now.steps.now) (S.layout graph.now.steps.now) (nodes_of (S.source graph.now.steps.now) graph.now.flow.now) (at + 1) net.new before.new) }
+    ensures ok { OnOk result (IsBeforeNode (S.source graph.now.steps.now) (S.layout graph.now.steps.now) graph.now.flow.now
+        (at + 1) net.new before.new) }
 {
     let names = graph.steps.reads(&giving.expression);
     match unkept(&before.temps, names) {
@@ -83,11 +85,13 @@ fn cells_read<S: Steps>(
     requires takes { S.takes graph.now.steps.now giving.now.expression ≡ true }
     requires typed { HasType giving.now.expression }
     requires at { IsThere (S.source graph.now.steps.now) (S.layout graph.now.steps.now) graph.now.flow.now at
-        (unrolled.KeepCells giving.now.slot (seen.expression (S.source graph.now.steps.now).structs giving.now.expression) giving.now.next) net.old before.old here }
+        (unrolled.KeepCells giving.now.slot (seen.expression (S.source graph.now.steps.now).structs giving.now.expression) giving.now.next)
+        net.old before.old here }
     requires kept { AllKept before.old.temps (temps_of (seen.expression (S.source graph.now.steps.now).structs giving.now.expression)) }
     ensures grown { Grown net.old net.new }
     ensures gates { OnOk result (AreGates net.new before.new) }
-    ensures ok { OnOk result (IsBefore (S.source graph.now.steps.now) (S.layout graph.now.steps.now) (nodes_of (S.source graph.now.steps.now) graph.now.flow.now) (at + 1) net.new before.new) }
+    ensures ok { OnOk result (IsBeforeNode (S.source graph.now.steps.now) (S.layout graph.now.steps.now) graph.now.flow.now
+        (at + 1) net.new before.new) }
 {
     let steps = graph.steps;
     let e = &giving.expression;
@@ -126,10 +130,13 @@ pub fn fill<S: Steps>(
 ) -> Result<(), OutOfMemory>
     requires laid { IsOf (S.source graph.now.steps.now) (S.layout graph.now.steps.now) laid.now }
     requires at { IsThere (S.source graph.now.steps.now) (S.layout graph.now.steps.now) graph.now.flow.now at
-        (unrolled.Fill parts.now.local (map (given (S.source graph.now.steps.now).structs) parts.now.items.now) (seen.all_of parts.now.slots) parts.now.next) net.old before.old here }
+        (unrolled.Fill parts.now.local (map (given (S.source graph.now.steps.now).structs) parts.now.items.now)
+        (seen.all_of parts.now.slots) parts.now.next)
+        net.old before.old here }
     ensures grown { Grown net.old net.new }
     ensures gates { OnOk result (AreGates net.new before.new) }
-    ensures ok { OnOk result (IsBefore (S.source graph.now.steps.now) (S.layout graph.now.steps.now) (nodes_of (S.source graph.now.steps.now) graph.now.flow.now) (at + 1) net.new before.new) }
+    ensures ok { OnOk result (IsBeforeNode (S.source graph.now.steps.now) (S.layout graph.now.steps.now) graph.now.flow.now
+        (at + 1) net.new before.new) }
 {
     let location = graph.steps.local(parts.local);
     let filling = Filling {

@@ -1,7 +1,7 @@
-//! The gates of a whole function, with nodes that set locals to objects, nodes of initialisers in braces, and nodes that assign by
-//! an operator to kept places.
+//! The gates of a whole function: its unrolled graph is gone over once, node by node.
 //!
-//! `locals` has nodes that set a local to one value, `braces` those of initialisers in braces, `updates` those that assign by an operator, `whole` the way over all nodes.
+//! `locals` has nodes that set a local to one value, `braces` those of initialisers in braces, `updates` those that assign by an operator
+//! to kept places, and `whole` the way over all nodes.
 #![tactic(auto)]
 
 mod braces;

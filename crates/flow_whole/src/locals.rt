@@ -8,10 +8,10 @@ ghost use Rattle.sc_world.specs.View as view;
 ghost use Rattle.flow_graph.specs.Conditions.{temps_of};
 ghost use Rattle.flow_graph.specs.Nodes as unrolled;
 ghost use Rattle.flow_keeps.specs.Reads.{AllKept};
-ghost use Rattle.flow_turns.specs.Before.{AreGates, IsBefore};
+ghost use Rattle.flow_turns.specs.Before.{AreGates};
 ghost use Rattle.sc_flow.specs.Seen as seen;
 ghost use Rattle.flow_fills.specs.Laid.{source_of};
-ghost use Rattle.flow_gates.specs.Graph.{IsThere, nodes_of};
+ghost use Rattle.flow_gates.specs.Graph.{IsBeforeNode, IsThere};
 ghost use Rattle.flow_whole.specs.Whole.{HasType, IsOf};
 
 use bit_net::{Net, OutOfMemory};
@@ -71,10 +71,12 @@ pub fn set<S: Steps>(
     requires takes { S.takes graph.now.steps.now setting.now.expression ≡ true }
     requires some { HasType setting.now.expression }
     requires at { IsThere (S.source graph.now.steps.now) (S.layout graph.now.steps.now) graph.now.flow.now at
-        (unrolled.Set setting.now.local (seen.expression (S.source graph.now.steps.now).structs setting.now.expression) setting.now.next) net.old before.old here }
+        (unrolled.Set setting.now.local (seen.expression (S.source graph.now.steps.now).structs setting.now.expression) setting.now.next)
+        net.old before.old here }
     ensures grown { Grown net.old net.new }
     ensures gates { OnOk result (AreGates net.new before.new) }
-    ensures ok { OnOk result (IsBefore (S.source graph.now.steps.now) (S.layout graph.now.steps.now) (nodes_of (S.source graph.now.steps.now) graph.now.flow.now) (at + 1) net.new before.new) }
+    ensures ok { OnOk result (IsBeforeNode (S.source graph.now.steps.now) (S.layout graph.now.steps.now) graph.now.flow.now
+        (at + 1) net.new before.new) }
 {
     let ctype = type_of(laid, setting.expression);
     if is_scalar(ctype) {
@@ -105,10 +107,13 @@ fn set_object<S: Steps>(
     requires typed { view.type copying.now.ctype.now ≡ tree.type_of (seen.expression (S.source graph.now.steps.now).structs copying.now.setting.expression) }
     requires object { is_scalar (tree.type_of (seen.expression (S.source graph.now.steps.now).structs copying.now.setting.expression)) ≡ false }
     requires at { IsThere (S.source graph.now.steps.now) (S.layout graph.now.steps.now) graph.now.flow.now at
-        (unrolled.Set copying.now.setting.local (seen.expression (S.source graph.now.steps.now).structs copying.now.setting.expression) copying.now.setting.next) net.old before.old here }
+        (unrolled.Set copying.now.setting.local
+        (seen.expression (S.source graph.now.steps.now).structs copying.now.setting.expression) copying.now.setting.next)
+        net.old before.old here }
     ensures grown { Grown net.old net.new }
     ensures gates { OnOk result (AreGates net.new before.new) }
-    ensures ok { OnOk result (IsBefore (S.source graph.now.steps.now) (S.layout graph.now.steps.now) (nodes_of (S.source graph.now.steps.now) graph.now.flow.now) (at + 1) net.new before.new) }
+    ensures ok { OnOk result (IsBeforeNode (S.source graph.now.steps.now) (S.layout graph.now.steps.now) graph.now.flow.now
+        (at + 1) net.new before.new) }
 {
     let names = graph.steps.reads(&copying.setting.expression);
     match unkept(&before.temps, names) {
@@ -138,11 +143,14 @@ fn object_read<S: Steps>(
     requires typed { view.type copying.now.ctype.now ≡ tree.type_of (seen.expression (S.source graph.now.steps.now).structs copying.now.setting.expression) }
     requires object { is_scalar (tree.type_of (seen.expression (S.source graph.now.steps.now).structs copying.now.setting.expression)) ≡ false }
     requires at { IsThere (S.source graph.now.steps.now) (S.layout graph.now.steps.now) graph.now.flow.now at
-        (unrolled.Set copying.now.setting.local (seen.expression (S.source graph.now.steps.now).structs copying.now.setting.expression) copying.now.setting.next) net.old before.old here }
+        (unrolled.Set copying.now.setting.local
+        (seen.expression (S.source graph.now.steps.now).structs copying.now.setting.expression) copying.now.setting.next)
+        net.old before.old here }
     requires kept { AllKept before.old.temps (temps_of (seen.expression (S.source graph.now.steps.now).structs copying.now.setting.expression)) }
     ensures grown { Grown net.old net.new }
     ensures gates { OnOk result (AreGates net.new before.new) }
-    ensures ok { OnOk result (IsBefore (S.source graph.now.steps.now) (S.layout graph.now.steps.now) (nodes_of (S.source graph.now.steps.now) graph.now.flow.now) (at + 1) net.new before.new) }
+    ensures ok { OnOk result (IsBeforeNode (S.source graph.now.steps.now) (S.layout graph.now.steps.now) graph.now.flow.now
+        (at + 1) net.new before.new) }
 {
     let steps = graph.steps;
     let e = &copying.setting.expression;

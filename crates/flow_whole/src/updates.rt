@@ -5,10 +5,10 @@ ghost use Rattle.bit_net.specs.Runs.{Grown};
 ghost use Rattle.sc_world.specs.Eval.{is_logical};
 ghost use Rattle.flow_graph.specs.Nodes as unrolled;
 ghost use Rattle.flow_keeps.specs.Reads.{AllKept, IsNamed};
-ghost use Rattle.flow_turns.specs.Before.{AreGates, IsBefore};
+ghost use Rattle.flow_turns.specs.Before.{AreGates};
 ghost use Rattle.flow_turns.specs.Kept.{is_kept};
 ghost use Rattle.sc_flow.specs.Seen as seen;
-ghost use Rattle.flow_gates.specs.Graph.{IsThere, nodes_of};
+ghost use Rattle.flow_gates.specs.Graph.{IsBeforeNode, IsThere};
 ghost use Rattle.flow_whole.specs.Whole.{IsOf};
 
 use bit_net::{Net, OutOfMemory};
@@ -63,7 +63,8 @@ pub fn update<S: Steps>(
         updates.now.assignment.place updates.now.assignment.former updates.now.assignment.right updates.now.temp updates.now.next) net.old before.old here }
     ensures grown { Grown net.old net.new }
     ensures gates { OnOk result (AreGates net.new before.new) }
-    ensures ok { OnOk result (IsBefore (S.source graph.now.steps.now) (S.layout graph.now.steps.now) (nodes_of (S.source graph.now.steps.now) graph.now.flow.now) (at + 1) net.new before.new) }
+    ensures ok { OnOk result (IsBeforeNode (S.source graph.now.steps.now) (S.layout graph.now.steps.now) graph.now.flow.now
+        (at + 1) net.new before.new) }
 {
     match unkept_of(&before.temps, &updates.assignment) {
         Some(temp) => {
@@ -95,7 +96,8 @@ fn update_read<S: Steps>(
     requires kept { AllKept before.old.temps (updates.now.assignment.place ∷ updates.now.assignment.former ∷ updates.now.assignment.right ∷ []) }
     ensures grown { Grown net.old net.new }
     ensures gates { OnOk result (AreGates net.new before.new) }
-    ensures ok { OnOk result (IsBefore (S.source graph.now.steps.now) (S.layout graph.now.steps.now) (nodes_of (S.source graph.now.steps.now) graph.now.flow.now) (at + 1) net.new before.new) }
+    ensures ok { OnOk result (IsBeforeNode (S.source graph.now.steps.now) (S.layout graph.now.steps.now) graph.now.flow.now
+        (at + 1) net.new before.new) }
 {
     let a = &updates.assignment;
     let names = Reads {

@@ -9,13 +9,13 @@ ghost use Rattle.sc_world.specs.Source.{Struct};
 ghost use Rattle.sc_world.specs.World.{kind_of_type};
 ghost use Rattle.flow_graph.specs.Unrolled as spec;
 ghost use Rattle.flow_ends.specs.Encoded.{IsEncoded};
-ghost use Rattle.flow_turns.specs.Before.{AreGates, IsAt, IsBefore, IsHere};
+ghost use Rattle.flow_turns.specs.Before.{AreGates, IsAt, IsHere};
 ghost use Rattle.flow_turns.specs.Ends.{IsEntry};
 ghost use Rattle.sc_flow.specs.Seen as seen;
 ghost use Rattle.sc_flow.specs.declared.node.Calling.{Calling as Callings};
 ghost use Rattle.sc_flow.specs.declared.node.Expression.{Expression as Expressions};
-ghost use Rattle.flow_gates.specs.Graph.{CanEncode, IsSmall, IsThere, nodes_of};
-ghost use Rattle.flow_whole.specs.Whole.{AllHaveGates, Assigns, HasGates, IsOf, MakesStep};
+ghost use Rattle.flow_gates.specs.Graph.{CanEncode, IsBeforeNode, IsSmall, IsThere, nodes_of};
+ghost use Rattle.flow_whole.specs.Whole.{AllHaveGates, Assigns, HasGates, IsOf, MakesStep, Turns};
 
 use crate::braces::{Giving, Parts, fill, keep_cells};
 use crate::locals::set;
@@ -67,7 +67,8 @@ fn step<S: Steps>(
         (seen.node (S.source graph.now.steps.now).structs node) net.old before.old here }
     ensures grown { Grown net.old net.new }
     ensures gates { OnOk result (AreGates net.new before.new) }
-    ensures ok { OnOk result (IsBefore (S.source graph.now.steps.now) (S.layout graph.now.steps.now) (nodes_of (S.source graph.now.steps.now) graph.now.flow.now) (at + 1) net.new before.new) }
+    ensures ok { OnOk result (IsBeforeNode (S.source graph.now.steps.now) (S.layout graph.now.steps.now) graph.now.flow.now
+        (at + 1) net.new before.new) }
 {
     match node {
         Node::Keep {
@@ -142,7 +143,8 @@ fn change<S: Steps>(
         (seen.node (S.source graph.now.steps.now).structs node) net.old before.old here }
     ensures grown { Grown net.old net.new }
     ensures gates { OnOk result (AreGates net.new before.new) }
-    ensures ok { OnOk result (IsBefore (S.source graph.now.steps.now) (S.layout graph.now.steps.now) (nodes_of (S.source graph.now.steps.now) graph.now.flow.now) (at + 1) net.new before.new) }
+    ensures ok { OnOk result (IsBeforeNode (S.source graph.now.steps.now) (S.layout graph.now.steps.now) graph.now.flow.now
+        (at + 1) net.new before.new) }
 {
     match node {
         Node::Update {
@@ -209,44 +211,24 @@ fn change<S: Steps>(
     }
 }
 
-// What a node does, where the ways to it were taken.
-fn act<S: Steps>(
+// What a node does that only leads on, ends the run or leaves the function.
+fn turn<S: Steps>(
     graph: &Graph<S>,
-    laid: &Laid,
     before: &mut Before,
     net: &mut Net,
     here: Arrival,
     at: usize,
+    node: Node,
 ) -> Result<(), OutOfMemory>
-    requires laid { IsOf (S.source graph.now.steps.now) (S.layout graph.now.steps.now) laid.now }
-    requires place { at < length graph.now.flow.now.nodes }
-    requires small { IsSmall (S.layout graph.now.steps.now) net.old }
-    requires have { AllHaveGates (S.takes graph.now.steps.now) (S.makes graph.now.steps.now) graph.now.flow.now.nodes }
-    requires gates { AreGates net.old before.old }
-    requires here { IsHere net.old here }
-    requires at { IsAt (S.source graph.now.steps.now) (S.layout graph.now.steps.now) (nodes_of (S.source graph.now.steps.now) graph.now.flow.now) at net.old before.old here }
+    requires turn { Turns node }
+    requires at { IsThere (S.source graph.now.steps.now) (S.layout graph.now.steps.now) graph.now.flow.now at
+        (seen.node (S.source graph.now.steps.now).structs node) net.old before.old here }
     ensures grown { Grown net.old net.new }
     ensures gates { OnOk result (AreGates net.new before.new) }
-    ensures ok { OnOk result (IsBefore (S.source graph.now.steps.now) (S.layout graph.now.steps.now) (nodes_of (S.source graph.now.steps.now) graph.now.flow.now) (at + 1) net.new before.new) }
+    ensures ok { OnOk result (IsBeforeNode (S.source graph.now.steps.now) (S.layout graph.now.steps.now) graph.now.flow.now
+        (at + 1) net.new before.new) }
 {
-    let node = node_at(graph.flow, at);
     match node {
-        Node::Keep { .. } => {
-            step(graph, laid, before, net, here, at, node)?;
-            Ok(())
-        }
-        Node::Set { .. } => {
-            step(graph, laid, before, net, here, at, node)?;
-            Ok(())
-        }
-        Node::Call { .. } => {
-            step(graph, laid, before, net, here, at, node)?;
-            Ok(())
-        }
-        Node::Update { .. } => {
-            change(graph, laid, before, net, here, at, node)?;
-            Ok(())
-        }
         Node::Branch { from, hit, miss } => {
             before.branch(net, here, from as usize, None, hit as usize, miss as usize)?;
             Ok(())
@@ -257,15 +239,8 @@ fn act<S: Steps>(
             hit,
             miss,
         } => {
-            let number = Some(number);
-            before.branch(
-                net,
-                here,
-                from as usize,
-                number,
-                hit as usize,
-                miss as usize,
-            )?;
+            let (from, number) = (from as usize, Some(number));
+            before.branch(net, here, from, number, hit as usize, miss as usize)?;
             Ok(())
         }
         Node::Mark { next, .. } => {
@@ -284,12 +259,85 @@ fn act<S: Steps>(
             before.set_aside(net, here)?;
             Ok(())
         }
+        Node::Keep { .. } => unreachable!(),
+        Node::Set { .. } => unreachable!(),
+        Node::Call { .. } => unreachable!(),
+        Node::KeepCells { .. } => unreachable!(),
+        Node::Update { .. } => unreachable!(),
+        Node::Fill { .. } => unreachable!(),
+    }
+}
+
+// What a node does, where the ways to it were taken.
+fn act<S: Steps>(
+    graph: &Graph<S>,
+    laid: &Laid,
+    before: &mut Before,
+    net: &mut Net,
+    here: Arrival,
+    at: usize,
+) -> Result<(), OutOfMemory>
+    requires laid { IsOf (S.source graph.now.steps.now) (S.layout graph.now.steps.now) laid.now }
+    requires place { at < length graph.now.flow.now.nodes }
+    requires small { IsSmall (S.layout graph.now.steps.now) net.old }
+    requires have { AllHaveGates (S.takes graph.now.steps.now) (S.makes graph.now.steps.now) graph.now.flow.now.nodes }
+    requires gates { AreGates net.old before.old }
+    requires here { IsHere net.old here }
+    requires at { IsAt (S.source graph.now.steps.now) (S.layout graph.now.steps.now)
+        (nodes_of (S.source graph.now.steps.now) graph.now.flow.now) at net.old before.old here }
+    ensures grown { Grown net.old net.new }
+    ensures gates { OnOk result (AreGates net.new before.new) }
+    ensures ok { OnOk result (IsBeforeNode (S.source graph.now.steps.now) (S.layout graph.now.steps.now) graph.now.flow.now
+        (at + 1) net.new before.new) }
+{
+    let node = node_at(graph.flow, at);
+    match node {
+        Node::Keep { .. } => {
+            step(graph, laid, before, net, here, at, node)?;
+            Ok(())
+        }
+        Node::Set { .. } => {
+            step(graph, laid, before, net, here, at, node)?;
+            Ok(())
+        }
+        Node::Call { .. } => {
+            step(graph, laid, before, net, here, at, node)?;
+            Ok(())
+        }
         Node::KeepCells { .. } => {
+            change(graph, laid, before, net, here, at, node)?;
+            Ok(())
+        }
+        Node::Update { .. } => {
             change(graph, laid, before, net, here, at, node)?;
             Ok(())
         }
         Node::Fill { .. } => {
             change(graph, laid, before, net, here, at, node)?;
+            Ok(())
+        }
+        Node::Branch { .. } => {
+            turn(graph, before, net, here, at, node)?;
+            Ok(())
+        }
+        Node::Choose { .. } => {
+            turn(graph, before, net, here, at, node)?;
+            Ok(())
+        }
+        Node::Mark { .. } => {
+            turn(graph, before, net, here, at, node)?;
+            Ok(())
+        }
+        Node::MarkSwitch { .. } => {
+            turn(graph, before, net, here, at, node)?;
+            Ok(())
+        }
+        Node::Exit { .. } => {
+            turn(graph, before, net, here, at, node)?;
+            Ok(())
+        }
+        Node::SetAside { .. } => {
+            turn(graph, before, net, here, at, node)?;
             Ok(())
         }
     }
@@ -308,10 +356,12 @@ fn visit<S: Steps>(
     requires small { IsSmall (S.layout graph.now.steps.now) net.old }
     requires have { AllHaveGates (S.takes graph.now.steps.now) (S.makes graph.now.steps.now) graph.now.flow.now.nodes }
     requires gates { AreGates net.old before.old }
-    requires before { IsBefore (S.source graph.now.steps.now) (S.layout graph.now.steps.now) (nodes_of (S.source graph.now.steps.now) graph.now.flow.now) at net.old before.old }
+    requires before { IsBeforeNode (S.source graph.now.steps.now) (S.layout graph.now.steps.now) graph.now.flow.now
+        at net.old before.old }
     ensures grown { Grown net.old net.new }
     ensures gates { OnOk result (AreGates net.new before.new) }
-    ensures ok { OnOk result (IsBefore (S.source graph.now.steps.now) (S.layout graph.now.steps.now) (nodes_of (S.source graph.now.steps.now) graph.now.flow.now) (at + 1) net.new before.new) }
+    ensures ok { OnOk result (IsBeforeNode (S.source graph.now.steps.now) (S.layout graph.now.steps.now) graph.now.flow.now
+        (at + 1) net.new before.new) }
 {
     let here = before.arrive(net, at)?;
     if is_never(net, here.gate) {

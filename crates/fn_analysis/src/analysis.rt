@@ -12,6 +12,7 @@ ghost use Rattle.layout_base.specs.Seen as laid;
 ghost use Rattle.location_texts.specs.Seen as named;
 ghost use Rattle.run_laws.specs.Proper.{IsClosed};
 ghost use Rattle.flow_ends.specs.Encoded.{IsEncoded};
+ghost use Rattle.walk_laws.specs.Objects.{HasObjects};
 ghost use Rattle.program_verdicts.specs.Verdicts.{texts, verdict_given};
 ghost use Rattle.fn_analysis.specs.Analysis.{HasWholeMachine};
 
@@ -24,6 +25,7 @@ use fn_questions::Facts;
 use fsm_spec::{locks, whole_machines};
 use layout_base::{Ground, Places};
 use location_texts::Texts;
+use object_laws::objects_are_locations;
 use places::{PlaceAnswer, places};
 use run_laws::layouts_are_closed;
 use run_world::Here;
@@ -62,6 +64,7 @@ fn by_gates<'p, 'm, 'f>(
     requires whole { IsWhole (laid.ground_of given).source.machine }
     requires closed { IsClosed (laid.layout_of texts.places.now) }
     requires few { length texts.places.now.locations.items < 2 ^ 32 }
+    requires objects { HasObjects (laid.layout_of texts.places.now) }
     requires encoded { IsEncoded (laid.ground_of given).source (laid.layout_of texts.places.now) net encoded.now }
     ensures { IfOk result (λ v. v ≡ spec.done_with (laid.ground_of given.entry).source (named.texts texts.entry)
         (spec.answers (laid.ground_of given.entry).source (named.texts texts.entry))) }
@@ -107,6 +110,7 @@ fn of_layout<'p>(
         (spec.answers (seen.source_of here.now) (texts here.now.program.now function.now (laid.layout_of layout.now)))) }
 {
     layouts_are_closed();
+    objects_are_locations();
     let found = match gather(alloc, here) {
         Ok(found) => found,
         // The layout is made of the same walk over the text, so it is not the limit of nodes.

@@ -121,8 +121,9 @@ fn of_few<'p, 'm, 'f>(
 // So many locations are too many for numbers of 32 bits.
 const TOO_MANY: usize = 0x1_0000_0000;
 
-/// The gates of all runs of the function at hand, which has this layout. None where something of it has no gates yet: then it does not fit
-/// its layout, a value of type `void` is read of a branch, or a node of its graph is none of those that have gates.
+/// The gates of all runs of the function at hand, which has this layout. None where something of it has no gates: then it does not fit its
+/// layout, a value of type `void` is read and not dropped, what it gives is an object, or a node of its graph is none of those that have
+/// gates.
 #[tactic(auto, unfolding(run_world::specs::Seen::env))]
 pub fn in_gates<'p, 'm, 'f>(
     alloc: Global,

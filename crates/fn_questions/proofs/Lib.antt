@@ -1,4 +1,3 @@
 pub mod Kinding
-pub mod Objects
 pub mod Ready
 pub mod Rowing

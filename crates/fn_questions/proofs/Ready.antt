@@ -1,12 +1,19 @@
 -- Questions that are asked.
-use Rattle.std.proofs.Common.{◌≡◌, ℕ, ◌<◌, ◌≤◌, ◌^◌, Bool, ◌&&◌, List, length, sym, ◌∙◌, ap, subst, arith}
+use Rattle.std.proofs.Common.{◌≡◌, ◌⊎◌, ℕ, ◌<◌, ◌≤◌, ◌^◌, nat_lt, Bool, true, false, ◌&&◌, ◌||◌, List, length, map, inl, inr, refl, sym, ◌∙◌, ap, subst, arith}
+use Rattle.std.specs.List.{list_all}
+use Rattle.std.proofs.lemmas.Bool.{ltb-true}
+use Rattle.std.proofs.lemmas.List.Folds.{list_all-map}
 use Rattle.bit_net.specs.declared.nodes.Node.{Node}
 use Rattle.bit_net.specs.Runs.{Runs, Grown}
 use Rattle.flow_ends.specs.Encoded.{IsAnswer, IsEncoded}
 use Rattle.flow_ends.specs.declared.encoded.Encoded.{Encoded}
-use Rattle.error_laws.specs.Errors.{IsErrorOf}
+use Rattle.error_laws.specs.Errors.{IsErrorOf, all_of_params, does_of_params}
+use Rattle.walk_laws.specs.Objects.{HasObjects}
 use Rattle.location_texts.specs.Seen.{texts}
+use Rattle.sc_gather.specs.declared.found.Site.{Site as Found}
+use Rattle.sc_gather.specs.Seen.{call, meaning}
 use Rattle.run_world.specs.Seen.{env}
+use Rattle.sc_world.specs.Gather.{Site}
 use Rattle.sc_world.specs.Source.{Source}
 use Rattle.sc_world.specs.declared.run.Origin.TheVariants as origin
 use Rattle.sc_world.specs.Layout.{Layout, location, location_of, or_zero}
@@ -23,7 +30,7 @@ use Rattle.fn_facts.specs.Showing.{HasErrorsOf, IsReady, Shows, ShowsNumber}
 use Rattle.fn_facts.proofs.Growing.{number_grows, ready_grows}
 use Rattle.fn_walks.specs.Seen.{fate}
 use Rattle.fn_questions.specs.declared.facts.Facts.{Facts}
-use Rattle.fn_questions.specs.Asking.{AreFacts, HasAll, IsReadyToAsk}
+use Rattle.fn_questions.specs.Asking.{AreFacts, IsReadyToAsk, errs_at_locations}
 use Rattle.fn_questions.specs.Seen.{out_fate, row_with}
 
 -- What is known stays while the net grows.
@@ -91,24 +98,37 @@ pub made_ready : (a : Around) (ns : List Node) → length a.here.places.now.loca
 made_ready a ns few is =
     record { inputs = omega (arith, is.inputs); few = few; fates = is.fates; store = is.store; result = is.result }
 
-pub errors_of : (s : Source) (p : Layout) → HasAll p → ((bits : List Bool) → 0 < length p.locations → IsErrorOf p (run s p bits).0) → HasErrorsOf s p
-errors_of s p all law = record { error = λ bits few. law bits all.some }
+abbrev pub ErrsThere : Source → Layout → Type 0
+ErrsThere s p = (bits : List Bool) → IsErrorOf p (run s p bits).0
+
+one_of : (a b : Bool) → (a || b) ≡ true → (a ≡ true) ⊎ (b ≡ true)
+one_of true b h = inl refl
+one_of false b h = inr h
+
+errs_by : (s : Source) (p : Layout) → ((bits : List Bool) → 0 < length p.locations → IsErrorOf p (run s p bits).0)
+    → ((bits : List Bool) → all_of_params s p ≡ true → IsErrorOf p (run s p bits).0)
+    → (nat_lt 0 (length p.locations) ≡ true) ⊎ (all_of_params s p ≡ true) → ErrsThere s p
+errs_by s p some none (inl h) = λ bits. some bits (ltb-true 0 (length p.locations) h)
+errs_by s p some none (inr h) = λ bits. none bits h
+
+pub errs_so : (s : Source) (p : Layout) → ((bits : List Bool) → 0 < length p.locations → IsErrorOf p (run s p bits).0)
+    → ((bits : List Bool) → all_of_params s p ≡ true → IsErrorOf p (run s p bits).0) → errs_at_locations s p ≡ true → ErrsThere s p
+errs_so s p some none h = errs_by s p some none (one_of (nat_lt 0 (length p.locations)) (all_of_params s p) h)
 
 pub new_ready : (f : Facts) (old new : List Node) → length f.around.here.places.now.locations.items < 2 ^ 32
     → (texts f.texts).layout ≡ (env f.around.here).layout
-    → IsEncoded (env f.around.here).source (env f.around.here).layout old f.around.encoded.now → HasAll (env f.around.here).layout
-    → ((bits : List Bool) → 0 < length (env f.around.here).layout.locations
-    → IsErrorOf (env f.around.here).layout (run (env f.around.here).source (env f.around.here).layout bits).0)
+    → IsEncoded (env f.around.here).source (env f.around.here).layout old f.around.encoded.now → HasObjects (env f.around.here).layout
+    → ErrsThere (env f.around.here).source (env f.around.here).layout
     → Grown old new → ShowsNumber f.around new given f.given.bits.items → IsReadyToAsk new f
-new_ready f old new few same is all law grown number =
+new_ready f old new few same is objects errs grown number =
     let s = (env f.around.here).source in
     let p = (env f.around.here).layout in
     let now = encoded_grows s p old new f.around.encoded.now grown is in
     record {
-      facts = record { ready = made_ready f.around new few now; objects = all.objects; given = number };
+      facts = record { ready = made_ready f.around new few now; objects = objects; given = number };
       texts = same;
       encoded = now;
-      errors = errors_of s p all law;
+      errors = record { error = λ bits short. errs bits };
     }
 
 -- Rows of what a parameter points to.
@@ -149,3 +169,7 @@ out_row_shown a ns n k r g e s =
           (let o = over a bits q w in
           s.value bits v q w runs t ∙ ap (λ m. exits o && (is_given o n && row_with r (λ p. same_state r.after (out_fate p m)) o)) e);
     }
+
+-- what holds of each call as the code has it holds of each as runs see it
+pub each_call : (s : Source) (xs : List Found) → list_all (λ (x : Found). does_of_params s (meaning x.effect)) xs ≡ list_all (λ (x : Site). does_of_params s x.effect) (map call xs)
+each_call s xs = sym (list_all-map (λ (x : Site). does_of_params s x.effect) call xs)

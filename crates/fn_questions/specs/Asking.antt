@@ -1,19 +1,20 @@
 -- When every question to the runs of a function may be asked.
-use Rattle.std.specs.Prelude.{◌≡◌, ◌<◌, List, length}
+use Rattle.std.specs.Prelude.{◌≡◌, nat_lt, Bool, ◌||◌, List, length}
 use Rattle.bit_net.specs.declared.nodes.Node.{Node}
 use Rattle.flow_ends.specs.Encoded.{IsEncoded}
 use Rattle.location_texts.specs.Seen.{texts}
 use Rattle.run_world.specs.Seen.{env}
+use Rattle.sc_world.specs.Source.{Source}
 use Rattle.sc_world.specs.Layout.{Layout}
+use Rattle.error_laws.specs.Errors.{all_of_params}
 use Rattle.walk_laws.specs.Objects.{HasObjects}
 use Rattle.fn_facts.specs.Seen.{given}
 use Rattle.fn_facts.specs.Showing.{HasErrorsOf, IsReady, ShowsNumber}
 use Rattle.fn_questions.specs.declared.facts.Facts.{Facts}
 
--- what a layout needs: a location, and that the object of each location is a location
-pub record HasAll (p : Layout) : Type 0 where
-  pub some : 0 < length p.locations
-  pub objects : HasObjects p
+-- there is a location, or no call acts by a summary with an item of a location that is reached from a global
+abbrev pub errs_at_locations : Source → Layout → Bool
+errs_at_locations s p = nat_lt 0 (length p.locations) || all_of_params s p
 
 -- what was made of the runs is right in the net
 pub record AreFacts (ns : List Node) (f : Facts) : Type 0 where

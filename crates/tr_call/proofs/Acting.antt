@@ -1,5 +1,5 @@
 -- What a call does, by its effect.
-use Rattle.std.proofs.Common.{◌≡◌, ℕ, ◌≤◌, Bool, true, false, not, ◌&&◌, Option, Some, None, List, length, refl, sym, ◌∙◌, subst, arith}
+use Rattle.std.proofs.Common.{◌≡◌, ℕ, ◌≤◌, Bool, true, Option, Some, None, List, length, refl, sym, ◌∙◌, subst, arith}
 use Rattle.bit_net.specs.declared.nodes.Node.{Node}
 use Rattle.bit_net.specs.Runs.{Runs, Grown}
 use Rattle.gl_store.specs.declared.values.Val.{Val}
@@ -9,14 +9,14 @@ use Rattle.sum_rows.specs.declared.row.Summary.{Summary}
 use Rattle.run_store.specs.Concrete.{Cell}
 use Rattle.sc_base.specs.declared.pos.Pos.{Pos}
 use Rattle.sc_gather.specs.declared.effect.Effect.{Effect as Code}
+use Rattle.sc_gather.specs.declared.effect.Effect.TheVariants as code
 use Rattle.sc_gather.specs.Seen.{meaning}
 use Rattle.sc_world.specs.declared.run.Reason.TheVariants as reason
 use Rattle.sc_world.specs.Tree.{Ty}
 use Rattle.sc_world.specs.Source.{Source, Operation, Try, Allocate, Release, Ends, Expect, Known, Unknown, sum_at}
-use Rattle.sc_world.specs.Layout.{Layout, Occurrence, is_there}
-use Rattle.sc_world.specs.World.{World, ◌>>=◌, done, aside, Env, bit_at}
-use Rattle.sc_world.specs.Eval.{first_arg, known_by, unknown}
-use Rattle.run_laws.specs.Fits.{may_give}
+use Rattle.sc_world.specs.Layout.{Layout, Occurrence}
+use Rattle.sc_world.specs.World.{◌>>=◌, done, aside, bit_at}
+use Rattle.sc_world.specs.Eval.{first_arg}
 use Rattle.gate_runs.specs.declared.ends.Ends.{Ends as Gates}
 use Rattle.gate_runs.specs.Stands.{AreEnds, Any, IsEndedWhere, aside_where}
 use Rattle.gate_runs.proofs.Bind.{bind, does_done}
@@ -25,7 +25,8 @@ use Rattle.gate_places.specs.Places.{env_of}
 use Rattle.gate_acts.specs.Acts.{DoesOperation, DoesTry}
 use Rattle.gate_objects.specs.Releases.{DoesRelease}
 use Rattle.gate_objects.specs.Given.{DoesAllocate, DoesUnknown}
-use Rattle.tr_call.specs.Calls.{DoesAct, DoesEnd, FirstFits, IsFirst, IsSome, has_gates, some_cell}
+use Rattle.gate_known.specs.Known.{DoesKnown}
+use Rattle.tr_call.specs.Calls.{DoesAct, DoesEnd, DoesKnownBy, FirstFits, IsFirst, IsSome, has_gates, some_cell, summary_of}
 use Rattle.tr_call.proofs.Giving.{given_wanted, integer_wanted, pointer_wanted, try_integer, zero_wanted}
 
 -- gates of a run are gates of a net that has grown
@@ -61,16 +62,6 @@ pub of_effect : (s : Source) (p : Layout) (ns : List Node) (t : Ty) (o : Occurre
 of_effect s p ns t o args old new g0 g1 r e f same acts can first =
     subst (λ x. DoesAct s p ns t o (meaning x) args old new g0 g1 r) (sym same)
     (acts (subst (λ x. has_gates s t (meaning x) ≡ true) same can) (subst (λ x. FirstFits s t args (meaning x)) same first))
-
--- Nothing is known of a callee whose summary is not there.
-told_nothing : (env : Env) (pos : Pos) (t : Ty) (o : Occurrence) (cs : List Cell) (sum : Option Summary) → is_there sum ≡ false → (w : World)
-    → unknown env o t cs w ≡ known_by env pos t o cs sum w
-told_nothing env pos t o cs None e w = refl
-told_nothing env pos t o cs (Some sum) e w = cc
-
-not_both : (a b : Bool) → (not a && b) ≡ true → (a ≡ false) × (b ≡ true)
-not_both true b e = (cc, cc)
-not_both false b e = (refl, e)
 
 module _ (s : Source) (p : Layout) (n0 ns : List Node) (t : Ty) (o : Occurrence) (args : List Val) (old new : List Guarded) (g0 g1 : Gates) (r : Val) where
   module _ (first : Val) (grown : Grown n0 ns) (is : IsFirst n0 args first) (ends : AreEnds ns g1) (bads : length g1.bads.items ≡ length g0.bads.items) where
@@ -152,31 +143,69 @@ module _ (s : Source) (p : Layout) (n0 ns : List Node) (t : Ty) (o : Occurrence)
         does = λ bits v runs few temps turn pos cs met. does_done v old g0 (first_arg cs) (Meets v r) (is.meets (bit_at bits) v runs cs met);
       }
 
-  pub act_known : (k : ℕ) → has_gates s t (Known k) ≡ true → AreEnds ns g0 → DoesUnknown s p ns g0 o t args old new r
-      → DoesAct s p ns t o (Known k) args old new g0 g0 r
-  act_known k can ends d =
-      let parts = not_both (is_there (sum_at s k)) (may_give t) can in
-      record {
-        below = d.below;
-        kind = λ off. d.kind ∙ given_wanted s t parts.1 off;
-        top = d.top;
-        same = d.same;
-        ends = ends;
-        bads = refl;
-        does = λ bits v runs few temps turn pos cs met.
-            let env = env_of s p bits temps turn in
-            does_same v old new g0 g0 (unknown env o t cs) (known_by env pos t o cs (sum_at s k)) (Meets v r) (told_nothing env pos t o cs (sum_at s k) parts.0)
-            (d.does bits v runs few temps turn cs met);
-      }
+  -- Callees.
 
-  pub act_unknown : has_gates s t Unknown ≡ true → AreEnds ns g0 → DoesUnknown s p ns g0 o t args old new r → DoesAct s p ns t o Unknown args old new g0 g0 r
-  act_unknown can ends d =
+  pub by_nothing : AreEnds ns g0 → DoesUnknown s p ns g0 o t args old new r → DoesKnownBy s p ns t o None args old new g0 g0 r
+  by_nothing ends d =
       record {
         below = d.below;
-        kind = λ off. d.kind ∙ given_wanted s t can off;
+        kind = d.kind;
         top = d.top;
         same = d.same;
         ends = ends;
         bads = refl;
         does = λ bits v runs few temps turn pos cs met. d.does bits v runs few temps turn cs met;
       }
+
+  pub by_summary : (sum : Summary) → DoesKnown s p ns t o sum args old new g0 g1 r → DoesKnownBy s p ns t o (Some sum) args old new g0 g1 r
+  by_summary sum d =
+      record {
+        below = d.below;
+        kind = d.kind;
+        top = d.top;
+        same = d.same;
+        ends = d.ends;
+        bads = d.bads;
+        does = λ bits v runs few temps turn pos cs met. d.does bits v runs few temps turn pos cs met;
+      }
+
+  pub act_known : (k : ℕ) → has_gates s t (Known k) ≡ true → DoesKnownBy s p ns t o (sum_at s k) args old new g0 g1 r
+      → DoesAct s p ns t o (Known k) args old new g0 g1 r
+  act_known k can d =
+      record {
+        below = d.below;
+        kind = λ off. d.kind ∙ given_wanted s t can off;
+        top = d.top;
+        same = d.same;
+        ends = d.ends;
+        bads = d.bads;
+        does = λ bits v runs few temps turn pos cs met. d.does bits v runs few temps turn pos cs met;
+      }
+
+  pub act_unknown : has_gates s t Unknown ≡ true → DoesKnownBy s p ns t o None args old new g0 g1 r → DoesAct s p ns t o Unknown args old new g0 g1 r
+  act_unknown can d =
+      record {
+        below = d.below;
+        kind = λ off. d.kind ∙ given_wanted s t can off;
+        top = d.top;
+        same = d.same;
+        ends = d.ends;
+        bads = d.bads;
+        does = λ bits v runs few temps turn pos cs met. d.does bits v runs few temps turn pos cs met;
+      }
+
+  -- The same where it is told otherwise which callee there is.
+
+  pub by_none : (sum : Option Summary) → sum ≡ None → AreEnds ns g0 → DoesUnknown s p ns g0 o t args old new r → DoesKnownBy s p ns t o sum args old new g0 g0 r
+  by_none sum is ends d = subst (λ x. DoesKnownBy s p ns t o x args old new g0 g0 r) (sym is) (by_nothing ends d)
+
+  pub by_some : (sum : Option Summary) (x : Summary) → sum ≡ Some x → DoesKnown s p ns t o x args old new g0 g1 r → DoesKnownBy s p ns t o sum args old new g0 g1 r
+  by_some sum x is d = subst (λ y. DoesKnownBy s p ns t o y args old new g0 g1 r) (sym is) (by_summary x d)
+
+  pub acts_known : (e : Code) (k : ℕ) → e ≡ code.Known k → has_gates s t (Known k) ≡ true
+      → DoesKnownBy s p ns t o (summary_of s (meaning e)) args old new g0 g1 r → DoesAct s p ns t o (Known k) args old new g0 g1 r
+  acts_known e k is can d = act_known k can (subst (λ x. DoesKnownBy s p ns t o (summary_of s (meaning x)) args old new g0 g1 r) is d)
+
+  pub acts_unknown : (e : Code) → e ≡ code.Unknown → has_gates s t Unknown ≡ true
+      → DoesKnownBy s p ns t o (summary_of s (meaning e)) args old new g0 g1 r → DoesAct s p ns t o Unknown args old new g0 g1 r
+  acts_unknown e is can d = act_unknown can (subst (λ x. DoesKnownBy s p ns t o (summary_of s (meaning x)) args old new g0 g1 r) is d)

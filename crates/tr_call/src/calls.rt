@@ -8,8 +8,9 @@ ghost use Rattle.run_world.specs.Seen as seen;
 ghost use Rattle.sc_flow.specs.Seen.{calling as node_call};
 ghost use Rattle.tr_call.specs.Calls.{CanCall, DoesCall, FirstFits, IsReady, effect_of as call_effect};
 
-use crate::effects::{Acting, act};
+use crate::effects::act;
 use crate::fits::effect_of;
+use crate::placed::Acting;
 use bit_net::{Net, OutOfMemory};
 use gate_runs::Ends;
 use gl_store::{Store, Val};
@@ -44,6 +45,6 @@ pub fn call(
         occurrence: layout.occurrence_at(site, calling.turn),
         t: calling.result,
     };
-    let r = act(here, net, stored, ends, acting, args)?;
+    let r = act(here, layout, net, stored, ends, acting, args)?;
     Ok(r)
 }

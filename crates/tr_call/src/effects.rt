@@ -9,25 +9,19 @@ ghost use Rattle.layout_base.specs.Seen as laid;
 ghost use Rattle.run_world.specs.Seen as seen;
 ghost use Rattle.tr_call.specs.Calls.{DoesAct, DoesEnd, FirstFits, IsReady, has_gates};
 
+use crate::callees::callee;
+use crate::placed::Acting;
 use crate::values::{first_argument, some_value};
 use bit_net::{Net, OutOfMemory};
 use gate_acts::{Trying, operation, try_lock};
-use gate_objects::{allocate, release, unknown};
+use gate_objects::{allocate, release};
 use gate_runs::Ends;
 use gl_store::{Store, Val};
-use layout_base::Occurrence;
+use layout_lookup::Lookup;
 use run_world::Here;
 use sc_gather::Effect;
 use sc_tree::ctype::CType;
 use sc_world::Reason;
-
-/// A call: what it does, in which turn of the loops round it, and the type of what it gives.
-#[derive(Clone, Copy)]
-pub struct Acting<'t> {
-    pub effect: Effect,
-    pub occurrence: Occurrence,
-    pub t: &'t CType,
-}
 
 // The program ends: the run is set aside where it goes on. What is given then is any value of the type.
 fn ended(here: &Here, net: &mut Net, ends: &mut Ends, t: &CType) -> Result<Val, OutOfMemory>
@@ -47,6 +41,7 @@ fn ended(here: &Here, net: &mut Net, ends: &mut Ends, t: &CType) -> Result<Val, 
 /// be used again.
 pub fn act(
     here: &Here,
+    layout: &Lookup,
     net: &mut Net,
     stored: &mut Store,
     ends: &mut Ends,
@@ -54,6 +49,7 @@ pub fn act(
     args: &[Val],
 ) -> Result<Val, OutOfMemory>
     requires ready { IsReady (seen.env here.now).source (seen.env here.now).layout net.old args.now stored.old.locations.items ends.old }
+    requires same { laid.layout_of layout.now.places.now ≡ (seen.env here.now).layout }
     requires can { has_gates (seen.env here.now).source (type acting.t.now) (meaning acting.effect) ≡ true }
     requires first { FirstFits (seen.env here.now).source (type acting.t.now) args.now (meaning acting.effect) }
     ensures grown { Grown net.old net.new }
@@ -96,11 +92,11 @@ pub fn act(
             Ok(r)
         }
         Effect::Known(_) => {
-            let r = unknown(here, net, stored, ends, acting.occurrence, acting.t, args)?;
+            let r = callee(here, layout, net, stored, ends, acting, args)?;
             Ok(r)
         }
         Effect::Unknown => {
-            let r = unknown(here, net, stored, ends, acting.occurrence, acting.t, args)?;
+            let r = callee(here, layout, net, stored, ends, acting, args)?;
             Ok(r)
         }
     }

@@ -8,7 +8,7 @@ ghost use Rattle.layout_base.specs.Seen as laid;
 ghost use Rattle.layout_lookup.specs.Seen as looked;
 ghost use Rattle.run_world.specs.Seen as seen;
 ghost use Rattle.sc_flow.specs.Seen.{calling as node_call};
-ghost use Rattle.tr_call.specs.Calls.{effect_of as call_effect, fits_width as is_of_width, has_gates, has_summary as is_told, type_fits as type_is_given};
+ghost use Rattle.tr_call.specs.Calls.{effect_of as call_effect, fits_width as is_of_width, has_gates};
 
 use layout_lookup::{Lookup, Placed};
 use run_entry::integer_bits;
@@ -24,23 +24,6 @@ pub fn effect_of(call: Placed) -> Effect
     match call.site {
         None => Effect::Unknown,
         Some(site) => site.effect,
-    }
-}
-
-// Whether the callee acts by a summary that is there.
-#[tactic(auto, unfolding(run_world::specs::Seen::env))]
-fn has_summary(here: &Here, effect: Effect) -> bool
-    ensures { result ≡ is_told (seen.env here.now).source (meaning effect) }
-{
-    match effect {
-        Effect::Known(place) => here.ground.summary(place).is_some(),
-        Effect::Operation(_)
-        | Effect::Try(_, _)
-        | Effect::Allocate(_)
-        | Effect::Release
-        | Effect::Ends
-        | Effect::Expect
-        | Effect::Unknown => false,
     }
 }
 
@@ -60,7 +43,7 @@ fn may_give(t: &CType) -> bool
 
 // Whether a call has a type that what it does can give.
 fn type_fits(here: &Here, t: &CType, effect: Effect) -> bool
-    ensures { result ≡ type_is_given (seen.env here.now).source (type t.now) (meaning effect) }
+    ensures { result ≡ has_gates (seen.env here.now).source (type t.now) (meaning effect) }
 {
     match effect {
         Effect::Operation(_) => is_integer(t) || is_void(t),
@@ -74,12 +57,11 @@ fn type_fits(here: &Here, t: &CType, effect: Effect) -> bool
     }
 }
 
-/// Whether the call of a node has gates: no summary tells what it does, and it has a type that this can give. Each call of a typed program
-/// has such a type.
+/// Whether the call of a node has gates: it has a type that what it does can give. Each call of a typed program has such a type.
 pub fn can_call(here: &Here, layout: &Lookup, calling: &Calling) -> bool
     ensures { result ≡ has_gates (seen.env here.now).source (type calling.now.result.now)
         (call_effect (laid.layout_of layout.now.places.now) (node_call (seen.env here.now).source.structs calling.now)) }
 {
     let effect = effect_of(layout.site_at(calling.place.token));
-    !has_summary(here, effect) && type_fits(here, calling.result, effect)
+    type_fits(here, calling.result, effect)
 }

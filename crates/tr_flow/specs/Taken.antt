@@ -44,7 +44,7 @@ takes s e = names_temps s.structs e && constants_fit s (expression s.structs e)
 
 -- Calls.
 
--- The call of a node has gates: no summary tells what it does, and it has a type that this can give.
+-- The call of a node has gates: it has a type that what it does can give.
 abbrev pub makes : Source → Layout → Calling → Bool
 makes s p c = has_gates s (calling s.structs c).result (effect_of p (calling s.structs c))
 

@@ -71,7 +71,7 @@ pub returns-clause-ok : goal.returns-clause-ok
 returns-clause-ok g c =
     let s = g.S.Steps.source c.args.graph.now.steps.now in
     let p = g.S.Steps.layout c.args.graph.now.steps.now in
-    c.in_ok-keep.ensures.value.past s p (nodes_of s c.args.graph.now.flow.now) c.args.at _ _ c.requires.at.node _
+    c.in_ok-keep.ensures.value.past s p (nodes_of s c.args.graph.now.flow.now) c.args.at _ _ c.requires.at.node c.requires.goes _
     (grown_both _ _ _ c.in_ok-on.ensures.grown c.in_ok-made.ensures.grown) c.args.before.now
     (record { temps = refl; ways = refl; fates = refl; result = refl; blank = refl }) c.requires.at.stands
     (begins_sure _ _ c.args.here c.args.before.now _ _ c.in_ok-on.on c.in_ok-made.made c.in_ok-made.ensures.grown c.requires.names c.in_ok-made.ensures.made.began c.in_ok-on.ensures.ok)

@@ -2,7 +2,7 @@ use Rattle.std.proofs.Common.{ap, sym, ◌∙◌, arith}
 use Rattle.flow_turns.proofs.Past.{grown_both}
 use Rattle.flow_gates.specs.Graph.{nodes_of}
 use Rattle.flow_gates.proofs.Stepping.{grown_same, small_grown}
-use Rattle.flow_gates.proofs.Beginning.{fit_of, can_begin, at_end}
+use Rattle.flow_whole.proofs.Beginning.{fit_of, can_begin, at_end}
 use Rattle.flow_whole.proofs.whole.encode.Goals as goal
 
 pub loop-at-init : goal.loop-at-init

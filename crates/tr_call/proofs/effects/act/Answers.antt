@@ -3,7 +3,7 @@ use Rattle.sc_gather.specs.declared.effect.Effect.TheVariants as code
 use Rattle.layout_base.specs.Seen as laid
 use Rattle.run_world.specs.Seen.{env}
 use Rattle.sc_world.specs.View.{type}
-use Rattle.tr_call.proofs.Acting.{of_effect, act_operation, act_try, act_release, act_allocate, act_ends, act_expect, act_known, act_unknown, grown_ends}
+use Rattle.tr_call.proofs.Acting.{of_effect, act_operation, act_try, act_release, act_allocate, act_ends, act_expect, acts_known, acts_unknown, grown_ends}
 use Rattle.tr_call.proofs.effects.act.Goals as goal
 
 pub returns-in_ok-r-in-Operation-clause-ok : goal.returns-in_ok-r-in-Operation-clause-ok
@@ -77,9 +77,9 @@ returns-in_ok-r-in-Known-clause-ok c =
     let p = (env c.args.here.now).layout in
     let t = type c.args.acting.t.now in
     let o = laid.occurrence_of c.args.acting.occurrence in
-    let step = c.in_ok-r-in-Known.ensures in
     of_effect s p _ t o c.args.args.now _ _ _ _ _ c.args.acting.effect (code.Known c.in-Known.field-0) c.in-Known.is
-    (λ can first. act_known s p c.args.net.now _ t o c.args.args.now _ _ c.args.ends.now c.args.ends.now _ c.in-Known.field-0 can (grown_ends _ _ _ step.grown c.requires.ready.ends) step.ok)
+    (λ can first. acts_known s p c.args.net.now _ t o c.args.args.now _ _ _ _ _ c.args.acting.effect c.in-Known.field-0 c.in-Known.is can
+    c.in_ok-r-in-Known.ensures.ok)
     c.requires.can c.requires.first
 
 pub returns-in_ok-r-in-Unknown-clause-ok : goal.returns-in_ok-r-in-Unknown-clause-ok
@@ -88,7 +88,7 @@ returns-in_ok-r-in-Unknown-clause-ok c =
     let p = (env c.args.here.now).layout in
     let t = type c.args.acting.t.now in
     let o = laid.occurrence_of c.args.acting.occurrence in
-    let step = c.in_ok-r-in-Unknown.ensures in
     of_effect s p _ t o c.args.args.now _ _ _ _ _ c.args.acting.effect code.Unknown c.in-Unknown.is
-    (λ can first. act_unknown s p c.args.net.now _ t o c.args.args.now _ _ c.args.ends.now c.args.ends.now _ can (grown_ends _ _ _ step.grown c.requires.ready.ends) step.ok)
+    (λ can first. acts_unknown s p c.args.net.now _ t o c.args.args.now _ _ _ _ _ c.args.acting.effect c.in-Unknown.is can
+    c.in_ok-r-in-Unknown.ensures.ok)
     c.requires.can c.requires.first

@@ -1,0 +1,6 @@
+mod Stepping
+mod Marking
+mod Ordering
+mod Ending
+mod Acting
+mod Erring

@@ -1,0 +1,4 @@
+mod Growing
+mod Marking
+mod Acting
+mod Finding

@@ -1,0 +1,5 @@
+mod Bools
+mod Items
+mod Arguing
+mod Ending
+mod Joining

@@ -1,0 +1,4 @@
+pub mod Items
+pub mod Params
+pub mod Exits
+pub mod Standing

@@ -1,0 +1,4 @@
+pub mod Cones
+pub mod Clauses
+pub mod Goals
+pub mod Numbers
