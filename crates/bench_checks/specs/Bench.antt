@@ -9,7 +9,7 @@ use Rattle.sc_input.specs.declared.refusal.Refusal.{Refusal}
 use Rattle.sc_input.specs.Input.{Outside, IsInput, Refuse}
 use Rattle.sc_tree.specs.declared.ctype.Widths.TheVariants.{Ilp32}
 use Rattle.sc_typed.specs.declared.program.Program.{Program}
-use Rattle.sc_check.specs.Typed.{Sources}
+use Rattle.whole_checks.specs.Typed.{Sources}
 use Rattle.program_verdicts.specs.Verdicts.{verdicts}
 use Rattle.whole_checks.specs.Said.{Twice, Beyond, said}
 use Rattle.whole_checks.specs.Planned.{IsPlanned}

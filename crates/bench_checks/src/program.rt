@@ -1,7 +1,7 @@
 // The typed program of the generated text, with its plan.
 
 ghost use Rattle.std.specs.Prelude.{◌≡◌, IfErr, IfOk};
-ghost use Rattle.sc_check.specs.Typed.{Sources as Checked};
+ghost use Rattle.whole_checks.specs.Typed.{Sources as Checked};
 ghost use Rattle.whole_checks.specs.Planned.{IsPlanned, Says};
 ghost use Rattle.bench_checks.specs.Bench.{sources_of, Lacks, IsGenerated, HasNoProgram};
 ghost use Rattle.bench_checks.specs.declared.program.NoProgram.TheVariants.{OutOfMemory as NoMemory};

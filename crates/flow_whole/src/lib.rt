@@ -9,4 +9,6 @@ mod locals;
 mod updates;
 mod whole;
 
+pub use flow_fills::Laid;
+pub use flow_gates::{Graph, Steps};
 pub use whole::encode;

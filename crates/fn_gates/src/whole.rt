@@ -11,15 +11,12 @@ ghost use Rattle.flow_ends.specs.Encoded.{IsEncoded};
 ghost use Rattle.layout_base.specs.Seen as laid;
 ghost use Rattle.run_world.specs.Seen.{env};
 ghost use Rattle.sc_flow.specs.Seen as seen;
-ghost use Rattle.flow_gates.specs.Graph.{CanEncode};
-ghost use Rattle.flow_whole.specs.Whole.{AllHaveGates};
+ghost use Rattle.tr_flow.specs.Graph.{CanEncode};
+ghost use Rattle.tr_flow.specs.Whole.{AllHaveGates};
 
 use bit_net::Net;
 use flow_ends::Encoded;
-use flow_fills::Laid;
 use flow_fits::can_encode;
-use flow_gates::{Graph, Steps};
-use flow_whole::encode;
 use gate_entry::entered;
 use gl_store::{Val, blank};
 use layout_base::{Ground, Places};
@@ -30,7 +27,7 @@ use sc_base::OutOfMemory;
 use sc_flow::unroll;
 use sc_gather::{is_integer, is_pointer};
 use std::alloc::Global;
-use tr_flow::{Stepping, all_have_gates};
+use tr_flow::{Graph, Laid, Stepping, Steps, all_have_gates, encode};
 
 /// The gates of all runs of a function: a net whose inputs are the bits of the choice, and what its gates tell of each run.
 #[derive(Drop)]

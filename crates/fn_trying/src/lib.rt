@@ -7,4 +7,5 @@ mod answering;
 mod search;
 mod trying;
 
+pub use fn_runs::Runs;
 pub use trying::Trying;

@@ -7,7 +7,7 @@ use Rattle.sc_base.specs.Held.{is_named}
 use Rattle.sc_input.specs.declared.input.Input.{Input}
 use Rattle.sc_input.specs.declared.refusal.Refusal.{Refusal}
 use Rattle.sc_input.specs.Input.{Outside, IsInput, Refuse}
-use Rattle.sc_check.specs.Typed.{Sources}
+use Rattle.whole_checks.specs.Typed.{Sources}
 use Rattle.saturn_words.specs.declared.asked.Options.{Options}
 use Rattle.saturn_words.specs.declared.asked.CheckWords.{CheckWords}
 use Rattle.saturn_words.specs.Commands.{IsCheck}

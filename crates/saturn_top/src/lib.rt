@@ -11,4 +11,5 @@ mod workers;
 
 pub use alone::check_alone;
 pub use top_answers::Status;
+pub use whole_checks::Sources;
 pub use workers::check_main;

@@ -12,5 +12,6 @@ mod stepping;
 mod steps;
 mod taken;
 
+pub use flow_whole::{Graph, Laid, Steps, encode};
 pub use nodes::all_have_gates;
 pub use stepping::Stepping;
