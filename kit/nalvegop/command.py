@@ -7,20 +7,20 @@ import enum
 import io
 import json
 import os
-import signal
 import sys
 from collections.abc import Iterable, Iterator
 from typing import NoReturn, TextIO
 
 from . import VERSION
 from .check import FileResult, Options, check_file
-from .side_by_side import checked_files, stop
+from .side_by_side import checked_files
 from .checker import Checker, NotChecked, find_program
 from .compilations import BadDatabase, Compilation, chosen, of_flags, read_database
 from .findings import KINDS
 from .lines import SourceFiles
 from .machines import find_machine
 from .noise import BadBaseline, Baseline
+from .processes import ENDING
 from .rows import rows_text, story
 from .show_gcc import lines_of
 from .show_html import page
@@ -145,7 +145,7 @@ def main(words: list[str]) -> int:
     cut = words.index("--") if "--" in words else len(words)
     flags = words[cut + 1 :]
     it = parser().parse_args(words[:cut])
-    signal.signal(signal.SIGTERM, stop)
+    ENDING.listen()
     try:
         if it.verb == "check":
             return _check(it, flags)

@@ -154,7 +154,7 @@ class Statuses(unittest.TestCase):
                 pids = os.path.join(room, "pids")
                 env = {**os.environ, "NALVEGOP_CHECKER": program(room, slow), "PIDS": pids}
                 with subprocess.Popen([sys.executable, "-B", COMMAND, "check", "-j", jobs, "a.c", "b.c"], cwd=room, env=env, stderr=subprocess.DEVNULL) as it:
-                    begun = wait_for(lambda: lines_of(pids) if len(lines_of(pids)) == int(jobs) else None)
+                    begun = wait_for(lambda: lines_of(pids) if len(lines_of(pids)) >= int(jobs) else None)
                     it.send_signal(number)
                     self.assertEqual(it.wait(300), 130)
                 self.assertTrue(wait_for(lambda: not any(os.path.exists(f"/proc/{pid}") for pid in begun)), (number, jobs))
