@@ -10,7 +10,6 @@ from functools import cached_property
 
 from .checker import Checker, NotChecked, OutOfMemory, OutOfTime
 from .compilations import Compilation
-from .counted import OFFSET
 from .filter import MODEL_HEAD, PART, Filter, Filtered
 from .findings import Finding, Step, Teller, one_of_each_array
 from .leaks import Leaks
@@ -20,7 +19,8 @@ from .noise import Comments
 from .preprocess import Models, NotPreprocessed, fitting_models, preprocessed, width_model
 from .reasons import Reason, words_of
 from .segments import Segment
-from .verdicts import At, Function, NotVerdicts, Report, Verdicts
+from .unread import unread
+from .verdicts import At, Function, NotVerdicts, Report, Skip, Verdicts
 
 # Calls that change a lock, or an object: who calls a function with one of them, of which nothing is known, may miss rows.
 _ON_LOCKS = {
@@ -30,8 +30,9 @@ _ON_LOCKS = {
 _EFFECTS = _ON_LOCKS | {*"malloc calloc kmalloc kzalloc free kfree".split()}
 # Functions of the models that give an object without saying which: where one is called a finding may be false.
 _CONTAINER = "container_of gives another object each time"
-_COUNTED = "a pointer that is counted from another one gives another object each time"
-_UNSURE = {"nalvegop_object": _CONTAINER, OFFSET: _CONTAINER, "nalvegop_entry": "which entries a list has is not known"}
+_COUNTED = "arithmetic on a pointer gives another object each time"
+_OFFSET = "the number that offsetof gives is not known"
+_UNSURE = {"nalvegop_object": _CONTAINER, "nalvegop_entry": "which entries a list has is not known"}
 
 
 @dataclass(frozen=True)
@@ -186,8 +187,7 @@ class FileCheck:
             place = teller.place(function.at)
             self.result.places[function.name] = self._shown(place)
             if function.skip:
-                at = function.skip.at
-                self.result.passed_over[function.name] = Reason(words_of(function.skip), self._shown(teller.place(at)) if at else None)
+                self.result.passed_over[function.name] = self._reason(function.name, function.skip)
             names = self._segments[function.name].names if function.name in self._segments else frozenset[str]()
             lost = self._lost_calls(function.name, names, verdicts) if function.reports else {}
             told = [self._finding(teller, function, report, lost, doubts) for report, doubts in leaks.told(function, {*lost})]
@@ -199,6 +199,18 @@ class FileCheck:
                 self.result.findings.append(self._with_shown_places(finding))
         self._warn(verdicts)
         self.result.findings.sort(key=lambda it: it.place)
+
+    def _reason(self, name: str, skip: Skip) -> Reason:
+        """Returns why a function is passed over. Of syntax the checker says where the body begins, so what it may be is sought."""
+        it = self._left_segments.get(name) if skip.reason == "grammar" else None
+        found = unread(self._one_by_one.tokens, self._one_by_one.partner, it.body[0], it.end) if it else None
+        if found:
+            return Reason(words_of(skip), self._place(self._one_by_one.at(found[1])), found[0])
+        return Reason(words_of(skip), self._place(skip.at) if skip.at else None)
+
+    @cached_property
+    def _left_segments(self) -> dict[str, Segment]:
+        return {it.function: it for it in self._one_by_one.unit.segments if it.function}
 
     def _name_lost(self, verdicts: Verdicts) -> None:
         """Names the file's functions of which nothing is said: the checker did not take their heads for those of functions."""
@@ -212,6 +224,8 @@ class FileCheck:
         found = {why for name, why in _UNSURE.items() if name in names}
         if finding.kind == "inner" and finding.function in self.filter.with_parts and not found:
             found.add(_COUNTED)
+        if finding.function in self.filter.with_offsets:
+            found.add(_OFFSET)
         return sorted(found)
 
     def _is_model(self, name: str) -> bool:

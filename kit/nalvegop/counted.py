@@ -53,7 +53,7 @@ class CountedPointers:
 
     def _at(self, operator: int, first: int) -> Counted | None:
         begins = self._bracketed(operator, first) or self._bare(operator, first)
-        if not begins or self.tokens[begins[0] - 1].text not in _BEFORE:
+        if not begins or self.tokens[begins[0] - 1].text not in _BEFORE or self._is_used_at_once(begins[0] - 1):
             return None
         end, at = operator, operator
         while self.tokens[at].text in ("+", "-"):
@@ -62,6 +62,12 @@ class CountedPointers:
                 return None
             at = end
         return Counted(begins[0], begins[1], begins[2], operator, end)
+
+    def _is_used_at_once(self, before: int) -> bool:
+        """Returns whether bytes are read or written there, as in `*((char *)p + n)`: an unknown object would have no type."""
+        if self.tokens[before].text != "(" or self.partner[before] < 0:
+            return False
+        return self.tokens[before - 1].text == "*" or self.tokens[self.partner[before] + 1].text == "["
 
     # ---- what it is counted from
 

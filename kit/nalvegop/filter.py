@@ -14,7 +14,7 @@ from dataclasses import dataclass, field
 from functools import cached_property
 from itertools import accumulate
 
-from .counted import CountedPointers
+from .counted import OFFSET, CountedPointers
 from .segments import KEYWORDS, Segment, Unit
 from .shadows import Shadow, Shadows, other_name
 from .statics import Static, Statics
@@ -35,6 +35,8 @@ CLEANUP_CALL = "nalvegop_cleanup_push"
 # The function of the models that stands for what a pointer leads to that is counted from another one; and how the names
 # of the others begin.
 PART, MODEL_HEAD = "nv_at", "nalvegop_"
+# The one for a number that is not known.
+NUMBER = "nalvegop_ulong"
 
 
 @dataclass
@@ -73,11 +75,11 @@ class Filter:
         self._static_at: dict[int, str] = {}
         self._tails: dict[int, list[str]] = {}
         # (it is declared by the models; without them there is none)
-        self._has_part = any(PART in it.declares for it in self.unit.segments)
+        self._has_part = {PART, NUMBER} <= frozenset[str]().union(*(it.declares for it in self.unit.segments))
         self._shadows = Shadows(self.tokens, self.partner, self.unit.typedefs())
         self.passed_over: dict[str, tuple[str, At]] = {}
-        # The functions in which it was put in place of something.
-        self.with_parts = set[str]()
+        # The functions in which an object, or a number, that is not known was put in place of something.
+        self.with_parts, self.with_offsets = set[str](), set[str]()
 
     # ---- what is left
 
@@ -121,7 +123,7 @@ class Filter:
             kept.add(id(segment))
             is_cut = segment.function in without or segment.function in self._fixed
             names = self._head_names(segment) if is_cut and id(segment) not in keeps_whole else segment.names
-            for name in {*names, PART}:
+            for name in {*names, PART, NUMBER}:
                 work += [it for it in self._by_name.get(name, []) if id(it) not in kept]
         return kept
 
@@ -169,15 +171,25 @@ class Filter:
         self._rename_shadows(segment)
         self._static_locals(segment)
         if self._has_part:
-            self._counted_pointers(segment)
+            self._offsets(segment, self._counted_pointers(segment))
         self._asserts(segment.body[0], segment.end)
         self._asm_statements(segment.body[0], segment.end)
         self._once_loops(segment.body[0], segment.end)
         self._statement_expressions(segment.body[0], segment.end)
 
-    def _counted_pointers(self, segment: Segment) -> None:
+    def _offsets(self, segment: Segment, but: set[int]) -> None:
+        """`__builtin_offsetof(T, m)` becomes a number that is not known."""
+        for at in range(segment.body[0], segment.end - 1):
+            if self.tokens[at].text == OFFSET and at not in but and self.partner[at + 1] > at:
+                self._blank(at, self.partner[at + 1] + 1)
+                self._put(self.tokens[at], f"{NUMBER}()")
+                self.with_offsets.add(segment.function or "")
+                self._count("offsets")
+
+    def _counted_pointers(self, segment: Segment) -> set[int]:
         """`(char *)p + n` becomes `nv_at( p )`, an object that is not known: so the models do with container_of. Else it is
-        arithmetic on pointers, and the function is passed over."""
+        arithmetic on pointers, and the function is passed over. Returns the tokens of what is counted by: they are gone."""
+        gone = set[int]()
         for it in CountedPointers(self.tokens, self.partner, MODEL_HEAD).of(segment.body[0] + 1, segment.end):
             room = self._text[self.tokens[it.first].start : self.tokens[it.operand - 1].end]
             if len(room) <= len(PART) or "\n" in room:
@@ -187,8 +199,10 @@ class Filter:
             self._blank(it.operator, it.end)
             if not it.is_bracketed:
                 self._put(self.tokens[it.operator], ")")
+            gone |= {*range(it.operator, it.end)}
             self.with_parts.add(segment.function or "")
             self._count("counted")
+        return gone
 
     def _rename_shadows(self, segment: Segment) -> None:
         """Gives a variable with the name of a typedef another name of the same length, which stands nowhere else."""
@@ -468,12 +482,17 @@ class Filter:
                 continue
             closing = self.partner[at + 1]
             behind = closing + 2
-            if self.tokens[at - 1].text in (";", "{", "}") and self.tokens[behind].text == ";":
+            if self._begins_statement(at) and self.tokens[behind].text == ";":
                 self._blank(at, at + 1)
                 self._blank(closing + 1, behind + 1)
                 self._count("stmtexpr")
             else:
                 self._join_expressions(at + 1, closing)
+
+    def _begins_statement(self, at: int) -> bool:
+        """Returns whether a statement begins here: behind another one, or behind the head of a loop or of a condition."""
+        before = self.tokens[at - 1].text
+        return before in (";", "{", "}", "else", "do") or before == ")" and self._head(at) in ("if", "while", "for")
 
     def _join_expressions(self, opening: int, closing: int) -> None:
         ends, starts = list[int](), [opening + 1]

@@ -7,7 +7,7 @@ import re
 from collections import Counter
 from dataclasses import dataclass, field
 
-from .filter import PART
+from .filter import NUMBER, PART
 from .lines import LineMap, Place, SourceFiles, decoded
 from .preprocess import model_names
 from .segments import KEYWORDS
@@ -181,7 +181,7 @@ class Teller:
         given = f"what {_quoted(word) if word else 'the call'} gave in line {line}"
         if not word and self.lines[at.line - 1][at.column - 1 :].startswith("("):
             # (the filter has put an unknown object there)
-            given = f"what the pointer that is counted in line {line} leads to"
+            given = f"what the pointer computed in line {line} points to"
         before, rest = about[: found.start()], about[found.end() :]
         if before.strip("(*") or ")" in rest:
             return f"'{pretty(before + 'it' + rest)}', where it is {given},"
@@ -243,8 +243,8 @@ class Teller:
     # ---- paths
 
     def _path(self, function: Function, report: Report, run: Run, number: int) -> Path:
-        # (what the filter puts in place of a pointer is no call of the source's)
-        shown = [it for it in run.events if it.kind != "call" or self._called(it) != PART]
+        # (what the filter puts in place of a pointer or of a number is no call of the source's)
+        shown = [it for it in run.events if it.kind != "call" or self._called(it) not in (PART, NUMBER)]
         steps = [Step(self.place(it.at), self._step(function, report, run, it)) for it in shown]
         head = ""
         if report.kind == "double" and len(report.runs) > 1:

@@ -201,6 +201,11 @@ class Statuses(unittest.TestCase):
             self.assertEqual((said.returncode, said.stdout), (0, ""))
             self.assertNotIn("not analysed", said.stderr)
             self.assertEqual(nalvegop("sparse", "-DX", at=room, checker=program(room, echo)).returncode, 3)
+            words = "sparse", "--format", "json", "--output", "found.json", "--", "-DNAME=extern int given;", "--arch=i386", "a.c"
+            self.assertEqual(nalvegop(*words, at=room, checker=program(room, echo)).returncode, 0)
+            with open(os.path.join(room, "found.json"), encoding="utf-8") as it:
+                self.assertEqual([(one["file"], one["failure"]) for one in json.load(it)["files"]], [("a.c", None)])
+            self.assertEqual(nalvegop("sparse", "--depth", "9", "--", "a.c", at=room, checker=program(room, echo)).returncode, 3)
 
     @needs_checker
     def test_findings_and_strictness(self) -> None:

@@ -26,7 +26,7 @@ def squeezed(text: str) -> str:
 
 
 # What the filter writes in place of something else.
-_WRITTEN = {",", ")", "(", ";", "sizeof", '""', "abort", "nv_at"}
+_WRITTEN = {",", ")", "(", ";", "sizeof", '""', "abort", "nv_at", "nalvegop_ulong"}
 
 
 def moved(made: str, before: str) -> list[str]:
@@ -70,8 +70,14 @@ class Steps(unittest.TestCase):
 
     def test_statement_expressions(self) -> None:
         self.becomes("void f(int a) { ({ int b = a; g(b); }); }", "void f(int a) { { int b = a; g(b); } }")
+        self.becomes("void f(int a) { while (h(a)) ({ int b = a; g(b); }); }", "void f(int a) { while (h(a)) { int b = a; g(b); } }")
+        self.becomes(
+            "void f(int a) { if (a) ({ int b = a; g(b); }); else ({ int b = 0; g(b); }); }",
+            "void f(int a) { if (a) { int b = a; g(b); } else { int b = 0; g(b); } }",
+        )
         self.becomes("int f(int a) { return ({ g(a); a; }); }", "int f(int a) { return ( g(a), a ); }")
-        self.becomes("int f(int a) { return ({ int b = a; b; }); }", "int f(int a) { return ({ int b = a; b; }); }")
+        for text in ("int f(int a) { return ({ int b = a; b; }); }", "int f(int a) { return (int)({ int b = a; b; }); }"):
+            self.becomes(text, text)
 
     def test_asm(self) -> None:
         self.becomes('int f(void) __asm__("g"); int h(void) { return f(); }', "int f(void) ; int h(void) { return f(); }")
@@ -108,7 +114,7 @@ class Steps(unittest.TestCase):
             self.assertEqual(re.sub(rf"\b{new}\b", old, squeezed(made.text)), squeezed(before))
 
     def test_the_object_round_a_member(self) -> None:
-        part = "void *nv_at(const void *); struct s { int a, b; }; "
+        part = "void *nv_at(const void *); unsigned long nalvegop_ulong(void); struct s { int a, b; }; "
         cases = {
             "struct s *f(int *p) { return ((struct s *)((char *)p - __builtin_offsetof(struct s, b))); }": "struct s *f(int *p) { return ((struct s *)(nv_at(p ) )); }",
             "struct s *f(int *p) { return (struct s *)((const char *)(&p[1]) - __builtin_offsetof (struct s, b)); }": "struct s *f(int *p) { return (struct s *)(nv_at( (&p[1]) ) ); }",
@@ -117,15 +123,20 @@ class Steps(unittest.TestCase):
         for before, after in cases.items():
             self.tightly(part + before, part + after)
             self.becomes("struct s { int a, b; }; " + before, "struct s { int a, b; }; " + before)
-        for text in (
-            "long f(long p) { return p - __builtin_offsetof(struct s, b); }",
-            "char *f(struct s *p) { return (char *)p + 1 - g(p); }",
-            "int f(int *p) { return (int)p - __builtin_offsetof(struct s, b); }",
-        ):
-            self.becomes(part + text, part + text)
+
+    def test_offsets_of_members(self) -> None:
+        part = "void *nv_at(const void *); unsigned long nalvegop_ulong(void); struct s { int a, b; }; "
+        self.becomes(
+            part + "long f(int p) { return p - __builtin_offsetof(struct s, b) * sizeof(struct s); }",
+            part + "long f(int p) { return p - nalvegop_ulong() * sizeof(struct s); }",
+        )
+        text = "struct s a[__builtin_offsetof(struct s, b)]; int f(void) { return a[0].b; }"
+        self.becomes(part + text, part + text)
+        text = "struct s { int a, b; }; long f(int p) { return p - __builtin_offsetof(struct s, b); }"
+        self.becomes(text, text)
 
     def test_pointers_that_are_counted_from_bytes(self) -> None:
-        part = "void *nv_at(const void *); "
+        part = "void *nv_at(const void *); unsigned long nalvegop_ulong(void); "
         for before, after in (
             ("(char*)p + n", "nv_at(p )"),
             ("(void *)(p) + n * sizeof(int) - 1, n", "nv_at((p) ) , n"),
@@ -138,7 +149,7 @@ class Steps(unittest.TestCase):
             self.tightly(f"{part}void f(struct s *p, int n) {{ g({before}); }}", f"{part}void f(struct s *p, int n) {{ g({after}); }}")
 
     def test_what_is_no_counted_pointer_stays(self) -> None:
-        part = "void *nv_at(const void *); "
+        part = "void *nv_at(const void *); unsigned long nalvegop_ulong(void); "
         for text in (
             "*(char *)p + n",
             "(struct t *)(char *)p + n",
@@ -155,6 +166,8 @@ class Steps(unittest.TestCase):
             "(int *)p + n",
             "(u8*)p + n",
             "-(char *)p + n",
+            "*((char *)p + n)",
+            "((char *)p + n)[1]",
         ):
             self.becomes(f"{part}void f(struct s *p, char *q, int n) {{ g({text}); }}", f"{part}void f(struct s *p, char *q, int n) {{ g({text}); }}")
 

@@ -61,7 +61,8 @@ class Doubts(unittest.TestCase):
         self.assertEqual(self.asked, [{"frees"}, {"frees", "gives"}])
 
     def test_where_no_run_is_sure_the_first_one_is_shown(self) -> None:
-        for answers in ([None], [caller()], [caller(leak("gives")), caller(leak("frees", at=At(1, 1)))]):
+        cases: list[list[Function | None]] = [[None], [caller()], [caller(leak("gives")), caller(leak("frees", at=At(1, 1)))]]
+        for answers in cases:
             self.answers = [*answers]
             self.assertEqual(self.told(leak("frees", "deeper")), [(leak("frees", "deeper"), ["frees", "deeper"])])
 
