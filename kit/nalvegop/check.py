@@ -164,8 +164,11 @@ class FileCheck:
             return None
 
     def _with_unknown(self, name: str, unknown: set[str]) -> Function | None:
-        """Returns what is known of one function where those in `unknown` are so."""
-        verdicts = self._answer(name, unknown, 1)
+        """Returns what is known of one function where those in `unknown` are so, or None where there is no answer."""
+        try:
+            verdicts = self._answer(name, unknown, 1)
+        except (NotChecked, NotVerdicts):
+            return None
         return next((it for it in verdicts.functions if it.name == name), None) if verdicts else None
 
     def _share(self, waiting: int) -> float:

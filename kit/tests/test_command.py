@@ -125,6 +125,22 @@ class Statuses(unittest.TestCase):
             self.assertIn("a.c: without what they call, for want of time: caller\n", said.stderr)
             self.assertIn("2 functions analysed in 1 file, 1 of them without what they call, for want of time", said.stderr)
 
+    def test_a_leak_that_may_be_none_is_looked_for_once_more(self) -> None:
+        source = "int m;\nvoid clear(int **p) { free(*p); m = 1; }\nvoid f(void)\n{ int *q;\n  q = malloc(4);\n  clear(&q); }\n"
+        # (stands for the checker: it refuses the text in which `clear` has no body)
+        text = f"""case "$1" in --help) exit 0 ;; esac
+            grep -q 'free(\\*p)' unit.c || exit 2
+            at=$(grep -n '^int m;' unit.c | cut -d: -f1)
+            printf 'function clear at unit.c:%d:6\\n  entry p\\n' $((at + 1))
+            printf 'function f at unit.c:%d:6\\n  entry -\\n  exits\\n    - -> -\\n  report leak %d:7\\n    choice 0\\n' $((at + 2)) $((at + 4))
+            printf '    %d:7 call malloc\\n    %d:3 call clear\\n    %d:14 end\\n' $((at + 4)) $((at + 5)) $((at + 5))
+            echo '{_EMPTY}'"""
+        with folder(a__c=source) as room:
+            said = nalvegop("check", "--models", "none", "--format", "json", "a.c", at=room, checker=program(room, text))
+            file = json.loads(said.stdout)["files"][0]
+            self.assertEqual((said.returncode, file["failure"]), (1, None))
+            self.assertEqual(file["findings"][0]["unsure"], ["'clear' may have freed it or given it away"])
+
     def test_a_function_of_which_nothing_is_said_is_named(self) -> None:
         with folder(a__c="int f(void) { return 1; }\n") as room:
             said = nalvegop("check", "--verbose", "--strict", "a.c", at=room, checker=program(room, _NOTHING))
