@@ -107,6 +107,18 @@
 #if __has_include(<linux/irqflags.h>)
 #include <linux/irqflags.h>
 #endif
+#if __has_include(<linux/sched.h>)
+#include <linux/sched.h>
+#endif
+#if __has_include(<linux/delay.h>)
+#include <linux/delay.h>
+#endif
+#if __has_include(<linux/kfifo.h>)
+#include <linux/kfifo.h>
+#endif
+#if __has_include(<linux/ioctl.h>)
+#include <linux/ioctl.h>
+#endif
 #if __has_include(<linux/smp.h>)
 #include <linux/smp.h>
 #endif
@@ -119,6 +131,12 @@ static inline void nalvegop_give_and_take(spinlock_t *lock)
 {
 	spin_unlock(lock);
 	spin_lock(lock);
+}
+/* What is done with a queue under a lock. */
+static inline void nalvegop_take_and_give(spinlock_t *lock)
+{
+	spin_lock(lock);
+	spin_unlock(lock);
 }
 #endif
 #endif
@@ -368,6 +386,8 @@ static inline void nalvegop_give_and_take(spinlock_t *lock)
 #define hlist_entry(p, t, m) ((t *)nalvegop_object(p))
 #define rb_entry(p, t, m) ((t *)nalvegop_object(p))
 #define from_timer(v, p, m) (nalvegop_object(p))
+#undef list_prepare_entry
+#define list_prepare_entry(p, h, m) (nalvegop_object(p))
 #undef list_last_entry
 #undef list_next_entry
 #undef list_prev_entry
@@ -802,6 +822,7 @@ static inline void nalvegop_give_and_take(spinlock_t *lock)
 #undef timer_setup
 #undef kthread_run
 #undef class_create
+#undef class_register
 #define wait_event_killable(q, c) ((c) ? 0 : nalvegop_int())
 #define wait_event_killable_timeout(q, c, t) ((void)(c), (void)(t), (long)nalvegop_int())
 #define wait_event_freezable(q, c) ((c) ? 0 : nalvegop_int())
@@ -821,6 +842,7 @@ static inline void nalvegop_give_and_take(spinlock_t *lock)
 #define timer_setup(t, f, g) ((void)((t)->function = (f)), (void)(g))
 #define kthread_run(f, d, ...) nalvegop_made(d)
 #define class_create(...) nalvegop_made((void *)0)
+#define class_register(c) (nalvegop_use(c), nalvegop_int())
 
 /* Memory of the user, and of devices: its contents are not known. */
 #undef get_user
@@ -944,6 +966,64 @@ void nalvegop_rcu_unlock(struct nalvegop_cpu *cpu);
 #define rcu_read_lock() nalvegop_rcu_lock(&nalvegop_cpu)
 #define rcu_read_unlock() nalvegop_rcu_unlock(&nalvegop_cpu)
 #endif
+
+/* States of the task, delays, and numbers of calls: the check of their size is left out. */
+#undef set_current_state
+#undef __set_current_state
+#undef set_special_state
+#define set_current_state(s) ((void)(s))
+#define __set_current_state(s) ((void)(s))
+#define set_special_state(s) ((void)(s))
+#undef udelay
+#undef ndelay
+#undef mdelay
+#undef _IOC_TYPECHECK
+#define udelay(n) ((void)(n))
+#define ndelay(n) ((void)(n))
+#define mdelay(n) ((void)(n))
+#define _IOC_TYPECHECK(t) (sizeof(t))
+
+/* Queues of bytes: what is in them is not followed, but that it goes away there. */
+#undef kfifo_len
+#undef kfifo_avail
+#undef kfifo_size
+#undef kfifo_is_empty
+#undef kfifo_is_full
+#undef kfifo_initialized
+#undef kfifo_reset
+#undef kfifo_reset_out
+#undef kfifo_in
+#undef kfifo_out
+#undef kfifo_get
+#undef kfifo_peek
+#undef kfifo_in_locked
+#undef kfifo_in_spinlocked
+#undef kfifo_out_locked
+#undef kfifo_out_spinlocked
+#undef kfifo_from_user
+#undef kfifo_to_user
+#undef kfifo_alloc
+#undef kfifo_free
+#define kfifo_len(f) ((void)(f), nalvegop_uint())
+#define kfifo_avail(f) ((void)(f), nalvegop_uint())
+#define kfifo_size(f) ((void)(f), nalvegop_uint())
+#define kfifo_is_empty(f) ((void)(f), nalvegop_more())
+#define kfifo_is_full(f) ((void)(f), nalvegop_more())
+#define kfifo_initialized(f) ((void)(f), nalvegop_more())
+#define kfifo_reset(f) ((void)(f))
+#define kfifo_reset_out(f) ((void)(f))
+#define kfifo_in(f, b, n) ((void)(f), nalvegop_use(b), (void)(n), nalvegop_uint())
+#define kfifo_out(f, b, n) ((void)(f), (void)(b), (void)(n), nalvegop_uint())
+#define kfifo_get(f, v) ((void)(f), (void)(v), nalvegop_int())
+#define kfifo_peek(f, v) ((void)(f), (void)(v), nalvegop_int())
+#define kfifo_in_locked(f, b, n, l) ((void)(f), nalvegop_use(b), (void)(n), nalvegop_take_and_give(l), nalvegop_uint())
+#define kfifo_in_spinlocked(f, b, n, l) ((void)(f), nalvegop_use(b), (void)(n), nalvegop_take_and_give(l), nalvegop_uint())
+#define kfifo_out_locked(f, b, n, l) ((void)(f), (void)(b), (void)(n), nalvegop_take_and_give(l), nalvegop_uint())
+#define kfifo_out_spinlocked(f, b, n, l) ((void)(f), (void)(b), (void)(n), nalvegop_take_and_give(l), nalvegop_uint())
+#define kfifo_from_user(f, b, n, c) ((void)(f), (void)(b), (void)(n), *(c) = nalvegop_uint(), nalvegop_int())
+#define kfifo_to_user(f, b, n, c) ((void)(f), (void)(b), (void)(n), *(c) = nalvegop_uint(), nalvegop_int())
+#define kfifo_alloc(f, n, g) ((void)(f), (void)(n), (void)(g), nalvegop_int())
+#define kfifo_free(f) ((void)(f))
 
 /* What stands at file scope and says nothing of a run. */
 #undef module_init

@@ -8,7 +8,7 @@ long nalvegop_long(void);
 _Bool nalvegop_more(void);
 void *nalvegop_entry(void);
 void *nalvegop_object(const void *);
-void *nv_part(const void *);
+void *nv_at(const void *);
 void nalvegop_use(const void *);
 /* What it gets goes away to what it gives, as to a thread that begins. */
 void *nalvegop_made(const void *);

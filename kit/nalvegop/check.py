@@ -10,15 +10,17 @@ from functools import cached_property
 
 from .checker import Checker, NotChecked, OutOfMemory, OutOfTime
 from .compilations import Compilation
-from .filter import OFFSET, Filter, Filtered
+from .filter import MODEL_HEAD, PART, Filter, Filtered
 from .findings import Finding, Step, Teller, one_of_each_array
+from .leaks import Leaks
 from .lines import LineMap, Place, SourceFiles
 from .machines import operations
 from .noise import Comments
 from .preprocess import Models, NotPreprocessed, fitting_models, preprocessed, width_model
 from .reasons import Reason, words_of
 from .segments import Segment
-from .verdicts import At, Function, NotVerdicts, Report, Verdicts
+from .unread import unread
+from .verdicts import At, Function, NotVerdicts, Report, Skip, Verdicts
 
 # Calls that change a lock, or an object: who calls a function with one of them, of which nothing is known, may miss rows.
 _ON_LOCKS = {
@@ -28,8 +30,9 @@ _ON_LOCKS = {
 _EFFECTS = _ON_LOCKS | {*"malloc calloc kmalloc kzalloc free kfree".split()}
 # Functions of the models that give an object without saying which: where one is called a finding may be false.
 _CONTAINER = "container_of gives another object each time"
-MODEL_HEAD = "nalvegop_"
-_UNSURE = {"nalvegop_object": _CONTAINER, OFFSET: _CONTAINER, "nalvegop_entry": "which entries a list has is not known"}
+_COUNTED = "arithmetic on a pointer gives another object each time"
+_OFFSET = "the number that offsetof gives is not known"
+_UNSURE = {"nalvegop_object": _CONTAINER, "nalvegop_entry": "which entries a list has is not known"}
 
 
 @dataclass(frozen=True)
@@ -98,28 +101,31 @@ class FileCheck:
         self.operations = operations(machine) if machine else frozenset[str]()
         self.filter = Filter(text, line_map.is_own, self.operations)
         filtered = self.filter.run()
-        self.renamed = filtered.renamed
+        self.renamed, self.model = filtered.renamed, model
         self.result.text = filtered.text
         self.result.passed_over = {name: Reason(why, self._place(at)) for name, (why, at) in filtered.passed_over.items()}
-        verdicts = self._verdicts(filtered, model)
+        verdicts = self._verdicts(filtered)
         self._tell(verdicts, Teller(text, line_map, self.files, self.options.checker.machine, verdicts.functions), line_map)
 
     # ---- in limited time
 
-    def _verdicts(self, filtered: Filtered, model: str) -> Verdicts:
+    @cached_property
+    def _one_by_one(self) -> Filter:
+        """Filters single functions, over the text that is left: the raw one is many times as long."""
+        return Filter(self.result.text, self.line_map.is_own, self.operations)
+
+    def _verdicts(self, filtered: Filtered) -> Verdicts:
         """Checks the whole file in a third of the time. Where that does not end, each function is checked for itself,
         callees first; one without a whole answer in time is unknown to the others from there on."""
         try:
-            return self.options.checker.check(filtered.text, model, max(self._left() / 3, 1), self.renamed)
+            return self.options.checker.check(filtered.text, self.model, max(self._left() / 3, 1), self.renamed)
         except (OutOfTime, OutOfMemory):
-            # (over the text that is left: the raw one is many times as long)
-            one_by_one = Filter(filtered.text, self.line_map.is_own, self.operations)
-            names = callees_first(one_by_one.own_functions())
+            names = callees_first(self._one_by_one.own_functions())
             if not names:
                 raise
         found, unknown = Verdicts(), set[str]()
         for number, name in enumerate(names):
-            verdicts = self._of_one(one_by_one, name, unknown, model, len(names) - number)
+            verdicts = self._of_one(name, unknown, len(names) - number)
             found.functions += [it for it in verdicts.functions if it.name == name] if verdicts else []
             if not verdicts:
                 self.result.late.append(name)
@@ -128,16 +134,16 @@ class FileCheck:
         self.result.late.sort(key=lambda it: order.get(it, 0))
         return found
 
-    def _of_one(self, one_by_one: Filter, name: str, unknown: set[str], model: str, waiting: int) -> Verdicts | None:
+    def _of_one(self, name: str, unknown: set[str], waiting: int) -> Verdicts | None:
         """Returns the verdicts of a text with one function and all that it calls; where there is no answer in time, of
         it with prototypes of these, and then it joins the unknown ones. The lesser answer comes first: it is quick."""
-        called = one_by_one.called(name)
-        alone = self._answer(one_by_one.run(only=[name], without=called), model, waiting)
+        called = self._one_by_one.called(name)
+        alone = self._answer(name, called, waiting)
         if alone and any(it.name == name and it.skip for it in alone.functions):
             return alone
         whole = alone
         if alone and called - unknown:
-            whole = self._answer(one_by_one.run(only=[name], without=unknown), model, waiting)
+            whole = self._answer(name, unknown, waiting)
         lost = called & unknown if whole else called
         if alone and lost:
             # (the models' own functions have the name of their macro, and a head; none of them leaves a lock in another state)
@@ -146,14 +152,24 @@ class FileCheck:
             unknown.add(name)
         return whole or alone
 
-    def _answer(self, filtered: Filtered, model: str, waiting: int) -> Verdicts | None:
-        """Returns the verdicts of a text, or None where there are none in its time or memory."""
+    def _answer(self, name: str, unknown: set[str], waiting: int) -> Verdicts | None:
+        """Returns the verdicts of a text with one function and what it calls, but for bodies of the unknown ones; None
+        where there are none in its time or memory."""
         if time.monotonic() >= self.end:
             return None
         try:
-            return self.options.checker.check(filtered.text, model, self._share(waiting), self.renamed)
+            text = self._one_by_one.run(only=[name], without=unknown).text
+            return self.options.checker.check(text, self.model, self._share(waiting), self.renamed)
         except (OutOfTime, OutOfMemory):
             return None
+
+    def _with_unknown(self, name: str, unknown: set[str]) -> Function | None:
+        """Returns what is known of one function where those in `unknown` are so, or None where there is no answer."""
+        try:
+            verdicts = self._answer(name, unknown, 1)
+        except (NotChecked, NotVerdicts):
+            return None
+        return next((it for it in verdicts.functions if it.name == name), None) if verdicts else None
 
     def _share(self, waiting: int) -> float:
         """Returns the seconds for the next of so many functions: most need little, so it may take twice its part."""
@@ -163,6 +179,7 @@ class FileCheck:
 
     def _tell(self, verdicts: Verdicts, teller: Teller, line_map: LineMap) -> None:
         comments = Comments(self.files)
+        leaks = Leaks(self.filter, self._is_model, self._with_unknown)
         self._name_lost(verdicts)
         for function in verdicts.functions:
             if function.name in self.result.passed_over:
@@ -173,18 +190,30 @@ class FileCheck:
             place = teller.place(function.at)
             self.result.places[function.name] = self._shown(place)
             if function.skip:
-                at = function.skip.at
-                self.result.passed_over[function.name] = Reason(words_of(function.skip), self._shown(teller.place(at)) if at else None)
+                self.result.passed_over[function.name] = self._reason(function.name, function.skip)
             names = self._segments[function.name].names if function.name in self._segments else frozenset[str]()
             lost = self._lost_calls(function.name, names, verdicts) if function.reports else {}
-            for finding in one_of_each_array([self._finding(teller, function, report, lost) for report in function.reports]):
-                finding.marks += sorted({why for name, why in _UNSURE.items() if name in names})
+            told = [self._finding(teller, function, report, lost, doubts) for report, doubts in leaks.told(function, {*lost})]
+            for finding in one_of_each_array(told):
+                finding.marks += self._unsure(finding, names)
                 if comments.hides(finding, place.line):
                     self.result.hidden += 1
                     continue
                 self.result.findings.append(self._with_shown_places(finding))
         self._warn(verdicts)
         self.result.findings.sort(key=lambda it: it.place)
+
+    def _reason(self, name: str, skip: Skip) -> Reason:
+        """Returns why a function is passed over. Of syntax the checker says where the body begins, so what it may be is sought."""
+        it = self._left_segments.get(name) if skip.reason == "grammar" else None
+        found = unread(self._one_by_one.tokens, self._one_by_one.partner, it.body[0], it.end) if it else None
+        if found:
+            return Reason(words_of(skip), self._place(self._one_by_one.at(found[1])), found[0])
+        return Reason(words_of(skip), self._place(skip.at) if skip.at else None)
+
+    @cached_property
+    def _left_segments(self) -> dict[str, Segment]:
+        return {it.function: it for it in self._one_by_one.unit.segments if it.function}
 
     def _name_lost(self, verdicts: Verdicts) -> None:
         """Names the file's functions of which nothing is said: the checker did not take their heads for those of functions."""
@@ -193,9 +222,25 @@ class FileCheck:
             if it.function and it.function not in known:
                 self.result.passed_over[it.function] = Reason("grammar", self._place(self.filter.at(it.name_at)))
 
-    def _finding(self, teller: Teller, function: Function, report: Report, lost: Mapping[str, frozenset[str]]) -> Finding:
-        """Tells a report. One on a lock may be false where a call on its path may lock or unlock, and is not followed."""
+    def _unsure(self, finding: Finding, names: frozenset[str]) -> list[str]:
+        """Returns what a function with these names has of which only a part is known, and by which the finding may be false."""
+        found = {why for name, why in _UNSURE.items() if name in names}
+        if finding.kind == "inner" and finding.function in self.filter.with_parts and not found:
+            found.add(_COUNTED)
+        if finding.function in self.filter.with_offsets:
+            found.add(_OFFSET)
+        return sorted(found)
+
+    def _is_model(self, name: str) -> bool:
+        """Returns whether a name is that of a function of the models, or of an operation: all that counts of it is known."""
+        return name.startswith((MODEL_HEAD, PART)) or name in self.operations
+
+    def _finding(self, teller: Teller, function: Function, report: Report, lost: Mapping[str, frozenset[str]], doubts: list[str]) -> Finding:
+        """Tells a report. One on a lock may be false where a call on its path may lock or unlock, and is not followed; a
+        leak where one may have freed the memory."""
         made = teller.finding(function, report)
+        if doubts:
+            made.marks.append(f"{' or '.join(map(repr, doubts))} may have freed it or given it away")
         calls = {it.word for run in report.runs for it in run.events if it.kind == "call"}
         on_path = sorted(name for name in calls & lost.keys() if lost[name] & (self.operations or _ON_LOCKS))
         if on_path and report.kind != "leak":

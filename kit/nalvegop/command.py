@@ -7,20 +7,20 @@ import enum
 import io
 import json
 import os
-import signal
 import sys
 from collections.abc import Iterable, Iterator
 from typing import NoReturn, TextIO
 
 from . import VERSION
 from .check import FileResult, Options, check_file
-from .side_by_side import checked_files, stop
+from .side_by_side import checked_files
 from .checker import Checker, NotChecked, find_program
 from .compilations import BadDatabase, Compilation, chosen, of_flags, read_database
 from .findings import KINDS
 from .lines import SourceFiles
 from .machines import find_machine
 from .noise import BadBaseline, Baseline
+from .processes import ENDING
 from .rows import rows_text, story
 from .show_gcc import lines_of
 from .show_html import page
@@ -61,7 +61,7 @@ def parser() -> argparse.ArgumentParser:
     top = _Parser(prog="nalvegop", description="Finds lost memory, and locks that are taken twice or left in an unknown state, in C.", epilog=_STATUSES)
     top.add_argument("--version", action="version", version=f"nalvegop {VERSION}")
     verbs = top.add_subparsers(dest="verb", required=True, metavar="VERB")
-    verbs.add_parser("sparse", help="check the file among the words that the kernel's make hands to CHECK; status 0")
+    verbs.add_parser("sparse", help="check the file among the words that the kernel's make hands to CHECK, behind options of check and --; status 0")
     check = verbs.add_parser(
         "check", help="check files, or a whole project", epilog=f"{_STATUSES}. Behind -- stand the compiler, if it is not cc, and its flags."
     )
@@ -122,12 +122,15 @@ class Trouble(Exception):
 
 
 def _as_check(words: list[str]) -> list[str]:
-    """Returns the words of `check` for those that the kernel's make hands to sparse: flags, and a file among them."""
+    """Returns the words of `check` for those that the kernel's make hands to sparse: flags, and a file among them. Before
+    them, and before --, may stand options of `check`."""
+    cut = words.index("--") if "--" in words else -1
+    options, words = words[: max(cut, 0)], words[cut + 1 :]
     files = [it for it in words if it.endswith(".c") and not it.startswith("-")]
     if not files:
         raise Trouble("sparse: no file is among the words", Status.WORDS)
     flags = [it for it in words if it != files[-1] and not it.startswith(_SPARSE_ALONE)]
-    return ["check", "--models", "linux", files[-1], "--", *flags]
+    return ["check", "--models", "linux", *options, files[-1], "--", *flags]
 
 
 def main(words: list[str]) -> int:
@@ -145,7 +148,7 @@ def main(words: list[str]) -> int:
     cut = words.index("--") if "--" in words else len(words)
     flags = words[cut + 1 :]
     it = parser().parse_args(words[:cut])
-    signal.signal(signal.SIGTERM, stop)
+    ENDING.listen()
     try:
         if it.verb == "check":
             return _check(it, flags)

@@ -14,8 +14,10 @@ from dataclasses import dataclass, field
 from functools import cached_property
 from itertools import accumulate
 
+from .counted import OFFSET, CountedPointers
 from .segments import KEYWORDS, Segment, Unit
-from .shadows import Shadows, other_name
+from .shadows import Shadow, Shadows, other_name
+from .statics import Static, Statics
 from .tokens import Sheet, Token, tokens_of
 from .verdicts import At
 
@@ -30,9 +32,11 @@ BUILT_IN = {
 }
 # A call of it stands for pthread_cleanup_push: models/libc/pthread.h makes it of that macro.
 CLEANUP_CALL = "nalvegop_cleanup_push"
-# The function of the models that stands for the object round a member, and what the macro offsetof gives.
-PART, OFFSET = "nv_part", "__builtin_offsetof"
-_BYTES = {*"char unsigned signed const void uint8_t int8_t u8".split()}
+# The function of the models that stands for what a pointer leads to that is counted from another one; and how the names
+# of the others begin.
+PART, MODEL_HEAD = "nv_at", "nalvegop_"
+# The one for a number that is not known.
+NUMBER = "nalvegop_ulong"
 
 
 @dataclass
@@ -65,10 +69,17 @@ class Filter:
         self._is_own = is_own
         self.counts: dict[str, int] = {}
         self._renamed: dict[str, str] = {}
-        # (nv_part is declared by the models; without them there is none)
-        self._has_part = any(PART in it.declares for it in self.unit.segments)
+        self._statics = Statics(self.tokens, self.partner)
+        # The names that static variables get, each with the old one; by the token of the old one; and their declarations.
+        self._static_names: dict[str, str] = {}
+        self._static_at: dict[int, str] = {}
+        self._tails: dict[int, list[str]] = {}
+        # (it is declared by the models; without them there is none)
+        self._has_part = {PART, NUMBER} <= frozenset[str]().union(*(it.declares for it in self.unit.segments))
         self._shadows = Shadows(self.tokens, self.partner, self.unit.typedefs())
         self.passed_over: dict[str, tuple[str, At]] = {}
+        # The functions in which an object, or a number, that is not known was put in place of something.
+        self.with_parts, self.with_offsets = set[str](), set[str]()
 
     # ---- what is left
 
@@ -86,7 +97,7 @@ class Filter:
     def run(self, only: Iterable[str] | None = None, without: Iterable[str] = ()) -> Filtered:
         """Filters. With `only`, the own functions of these names keep their bodies, and so do those that they call; the
         bodies of the functions in `without` become prototypes."""
-        self.sheet, self.counts, self.passed_over = Sheet(self._text), {}, {}
+        self.sheet, self.counts, self.passed_over, self._tails = Sheet(self._text), {}, {}, {}
         own, cut = self.own_functions(), set(without)
         wanted = {it.function for it in own} if only is None else {*only}
         roots = [it for it in own if it.function in wanted]
@@ -99,7 +110,8 @@ class Filter:
             if id(segment) in kept:
                 self._mend(segment, segment.function in cut)
         names = [it.function or "" for it in own if id(it) in kept]
-        return Filtered(_without_ends(self.sheet.text()), names, self.passed_over, self.counts, {new: old for old, new in self._renamed.items()})
+        renamed = {**self._static_names, **{new: old for old, new in self._renamed.items()}}
+        return Filtered(_with_tails(_without_ends(self.sheet.text()), self._tails), names, self.passed_over, self.counts, renamed)
 
     def _needed(self, roots: list[Segment], without: set[str]) -> set[int]:
         """Returns the segments that the roots need, by names and transitively."""
@@ -111,8 +123,7 @@ class Filter:
             kept.add(id(segment))
             is_cut = segment.function in without or segment.function in self._fixed
             names = self._head_names(segment) if is_cut and id(segment) not in keeps_whole else segment.names
-            names = names | {PART} if OFFSET in names else names
-            for name in names:
+            for name in {*names, PART, NUMBER}:
                 work += [it for it in self._by_name.get(name, []) if id(it) not in kept]
         return kept
 
@@ -158,62 +169,86 @@ class Filter:
             return
         self._words(segment.first, segment.end)
         self._rename_shadows(segment)
-        if self._has_part and OFFSET in segment.names:
-            self._containers(segment)
+        self._static_locals(segment)
+        if self._has_part:
+            self._offsets(segment, self._counted_pointers(segment))
         self._asserts(segment.body[0], segment.end)
         self._asm_statements(segment.body[0], segment.end)
         self._once_loops(segment.body[0], segment.end)
         self._statement_expressions(segment.body[0], segment.end)
 
-    def _containers(self, segment: Segment) -> None:
-        """`(char *)p - offsetof(T, m)` becomes `nv_part( p )`, an object that is not known: so the models do with
-        container_of. Else it is arithmetic on pointers, and the function is passed over."""
-        for at in range(segment.body[0] + 5, segment.end):
-            if self.tokens[at].text != OFFSET or self.tokens[at - 1].text != "-" or self.partner[at + 1] < 0:
-                continue
-            start = self._cast_before(at - 1, segment.body[0])
-            if start is None:
-                continue
-            self._blank(start, self.partner[start] + 1)
-            self.sheet.put(self.tokens[start].start, f"{PART}(")
-            self._put(self.tokens[at - 1], ")")
-            self._blank(at, self.partner[at + 1] + 1)
-            self._count("containers")
+    def _offsets(self, segment: Segment, but: set[int]) -> None:
+        """`__builtin_offsetof(T, m)` becomes a number that is not known."""
+        for at in range(segment.body[0], segment.end - 1):
+            if self.tokens[at].text == OFFSET and at not in but and self.partner[at + 1] > at:
+                self._blank(at, self.partner[at + 1] + 1)
+                self._put(self.tokens[at], f"{NUMBER}()")
+                self.with_offsets.add(segment.function or "")
+                self._count("offsets")
 
-    def _cast_before(self, at: int, first: int) -> int | None:
-        """Returns where the cast to a pointer to bytes begins whose operand ends before a token, where there is room for the name."""
-        operand = at - 1
-        while operand > first:
-            token = self.tokens[operand]
-            if token.text in (")", "]") and self.partner[operand] > first and not self._is_byte_pointer(operand):
-                operand = self.partner[operand] - 1
-            elif token.is_word and token.text not in KEYWORDS or token.text in (".", "->"):
-                operand -= 1
-            else:
-                break
-        if operand == at - 1 or self.tokens[operand].text != ")" or not self._is_byte_pointer(operand):
-            return None
-        start = self.partner[operand]
-        room = self._text[self.tokens[start].start : self.tokens[operand].end]
-        return start if len(room) > len(PART) and "\n" not in room else None
-
-    def _is_byte_pointer(self, closing: int) -> bool:
-        """Returns whether the bracket that ends here holds a type as `char *`."""
-        opening = self.partner[closing]
-        texts = [it.text for it in self.tokens[opening + 1 : closing]]
-        return len(texts) > 1 and texts[-1] == "*" and all(it in _BYTES for it in texts[:-1])
+    def _counted_pointers(self, segment: Segment) -> set[int]:
+        """`(char *)p + n` becomes `nv_at( p )`, an object that is not known: so the models do with container_of. Else it is
+        arithmetic on pointers, and the function is passed over. Returns the tokens of what is counted by: they are gone."""
+        gone = set[int]()
+        for it in CountedPointers(self.tokens, self.partner, MODEL_HEAD).of(segment.body[0] + 1, segment.end):
+            room = self._text[self.tokens[it.first].start : self.tokens[it.operand - 1].end]
+            if len(room) <= len(PART) or "\n" in room:
+                continue
+            self._blank(it.first, it.operand)
+            self.sheet.put(self.tokens[it.first].start, f"{PART}(")
+            self._blank(it.operator, it.end)
+            if not it.is_bracketed:
+                self._put(self.tokens[it.operator], ")")
+            gone |= {*range(it.operator, it.end)}
+            self.with_parts.add(segment.function or "")
+            self._count("counted")
+        return gone
 
     def _rename_shadows(self, segment: Segment) -> None:
         """Gives a variable with the name of a typedef another name of the same length, which stands nowhere else."""
         for shadow in self._shadows.of(segment):
             if shadow.name not in self._renamed:
-                other = other_name(shadow.name, self._taken | {*self._renamed.values()})
+                other = other_name(shadow.name, self._taken | {*self._renamed.values(), *self._static_names})
                 if not other:
                     continue
                 self._renamed[shadow.name] = other
             for at in self._shadows.uses(shadow):
                 self._put(self.tokens[at], self._renamed[shadow.name])
             self._count("names")
+
+    def _static_locals(self, segment: Segment) -> None:
+        """Declares a static variable before the function, under another name; of a constant number goes the word alone."""
+        brace, end = segment.body
+        for it in self._statics.of(brace, end):
+            if self._statics.is_constant(it):
+                self._blank(it.first, it.first + 1)
+            elif segment.first and self._line(segment.first - 1) < self._line(segment.first):
+                # (a line ends before the function, and there is room behind it)
+                self._declare_before(segment, it)
+
+    def _declare_before(self, segment: Segment, it: Static) -> None:
+        brace, end = segment.body
+        other = {self.tokens[at].text: self._static_name(at) for at, _, _ in it.names}
+        names = {old: new for old, new in other.items() if new}
+        if len(names) < len(it.names):
+            return
+        self._tails.setdefault(self._line(segment.first - 1), []).append(self._statics.text(it, names))
+        for at, _, _ in it.names:
+            scope = Shadow(self.tokens[at].text, at, self._shadows.block_end(at, brace, end))
+            for use in self._shadows.uses(scope):
+                self._put(self.tokens[use], names[scope.name])
+        self._blank(it.first, it.end)
+        self._count("statics")
+
+    def _static_name(self, at: int) -> str | None:
+        """Returns the name that the static variable of this token gets in all texts, or None where there is none."""
+        if at not in self._static_at:
+            other = other_name(self.tokens[at].text, self._taken | {*self._renamed.values(), *self._static_names})
+            if not other:
+                return None
+            self._static_at[at] = other
+            self._static_names[other] = self.tokens[at].text
+        return self._static_at[at]
 
     @cached_property
     def _taken(self) -> set[str]:
@@ -447,12 +482,17 @@ class Filter:
                 continue
             closing = self.partner[at + 1]
             behind = closing + 2
-            if self.tokens[at - 1].text in (";", "{", "}") and self.tokens[behind].text == ";":
+            if self._begins_statement(at) and self.tokens[behind].text == ";":
                 self._blank(at, at + 1)
                 self._blank(closing + 1, behind + 1)
                 self._count("stmtexpr")
             else:
                 self._join_expressions(at + 1, closing)
+
+    def _begins_statement(self, at: int) -> bool:
+        """Returns whether a statement begins here: behind another one, or behind the head of a loop or of a condition."""
+        before = self.tokens[at - 1].text
+        return before in (";", "{", "}", "else", "do") or before == ")" and self._head(at) in ("if", "while", "for")
 
     def _join_expressions(self, opening: int, closing: int) -> None:
         ends, starts = list[int](), [opening + 1]
@@ -501,6 +541,16 @@ class Filter:
 def _without_ends(text: str) -> str:
     """Returns a text without the blanks at the ends of its lines: what is left stays at its line and column."""
     return "\n".join(it.rstrip(" \t") for it in text.split("\n"))
+
+
+def _with_tails(text: str, tails: dict[int, list[str]]) -> str:
+    """Returns a text with more behind the ends of some lines: nothing else moves."""
+    if not tails:
+        return text
+    lines = text.split("\n")
+    for line, more in tails.items():
+        lines[line - 1] = " ".join([lines[line - 1], *more])
+    return "\n".join(lines)
 
 
 class _LineIndex:

@@ -7,6 +7,7 @@ import re
 from collections import Counter
 from dataclasses import dataclass, field
 
+from .filter import NUMBER, PART
 from .lines import LineMap, Place, SourceFiles, decoded
 from .preprocess import model_names
 from .segments import KEYWORDS
@@ -176,7 +177,11 @@ class Teller:
             return pretty(about) if about == PROCESSOR else f"'{pretty(about)}'"
         at = At(int(found[1]), int(found[2]))
         word = self._source_word(at)
-        given = f"what {_quoted(word) if word else 'the call'} gave in line {self.place(at).line}"
+        line = self.place(at).line
+        given = f"what {_quoted(word) if word else 'the call'} gave in line {line}"
+        if not word and self.lines[at.line - 1][at.column - 1 :].startswith("("):
+            # (the filter has put an unknown object there)
+            given = f"what the pointer computed in line {line} points to"
         before, rest = about[: found.start()], about[found.end() :]
         if before.strip("(*") or ")" in rest:
             return f"'{pretty(before + 'it' + rest)}', where it is {given},"
@@ -238,7 +243,9 @@ class Teller:
     # ---- paths
 
     def _path(self, function: Function, report: Report, run: Run, number: int) -> Path:
-        steps = [Step(self.place(it.at), self._step(function, report, run, it)) for it in run.events]
+        # (what the filter puts in place of a pointer or of a number is no call of the source's)
+        shown = [it for it in run.events if it.kind != "call" or self._called(it) not in (PART, NUMBER)]
+        steps = [Step(self.place(it.at), self._step(function, report, run, it)) for it in shown]
         head = ""
         if report.kind == "double" and len(report.runs) > 1:
             rows = self._double_rows(function, report)

@@ -32,10 +32,12 @@ class Models:
 
         For Linux a header is forced in front, which includes the usual headers first and then sets their macros anew.
         For the C library that would come before the file's own _GNU_SOURCE: so there folders of headers stand first
-        among the system's, each of which includes the real one and then sets its macros."""
+        among the system's, each of which includes the real one and then sets its macros. (The header that both share
+        includes none of the system's.)"""
         first = ["-DNALVEGOP_MACHINE"] if self.has_machine else []
         first += ["-isystem", os.path.join(MODELS, "libc")] if self.name == "libc" else []
-        last = ["-include", os.path.join(MODELS, "linux.h")] if self.name == "linux" else []
+        shared = {"linux": "linux.h", "libc": "nalvegop.h"}.get(self.name)
+        last = ["-include", os.path.join(MODELS, shared)] if shared else []
         return first, last + [word for it in self.more for word in ("-include", os.path.abspath(it))]
 
 

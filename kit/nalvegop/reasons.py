@@ -48,17 +48,20 @@ _OWN = {
 
 @dataclass(frozen=True)
 class Reason:
-    """Why a function is passed over: the words of `saturn_check`, or of the filter, and the place of what it stumbles on."""
+    """Why a function is passed over: the words of `saturn_check`, or of the filter, and the place of what it stumbles on.
+    `guess`: what it may be, where the words are of no help."""
 
     words: str
     place: Place | None = None
+    guess: str = ""
 
     @property
     def text(self) -> str:
         """Returns the reason in plain words: what the function has."""
         first, _, second = self.words.partition(" ")
         table = {"unsupported": _UNSUPPORTED, "illtyped": _ILLTYPED, "limit": _LIMIT}.get(first, _OWN)
-        return table.get(second or first, self.words)
+        text = table.get(second or first, self.words)
+        return f"{text} (perhaps {self.guess})" if self.guess else text
 
 
 def words_of(skip: Skip) -> str:

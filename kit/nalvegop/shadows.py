@@ -52,7 +52,7 @@ class Shadows:
         for at in range(brace, end):
             begins = self.tokens[at].text in _STARTS or self.tokens[at].text == "(" and self.tokens[at - 1].text == "for"
             for name_at in self._declared(at + 1, end, just_one=True) if begins else ():
-                yield Shadow(self.tokens[name_at].text, name_at, self._block_end(name_at, brace, end))
+                yield Shadow(self.tokens[name_at].text, name_at, self.block_end(name_at, brace, end))
 
     def _lists(self, first: int, end: int) -> Iterator[int]:
         """Gives the brackets that may begin a list of parameters: those behind a name, or behind a declarator's bracket."""
@@ -130,7 +130,7 @@ class Shadows:
             at += 1
         return at if at < end and self.tokens[at].is_word and self.tokens[at].text not in KEYWORDS else None
 
-    def _block_end(self, at: int, brace: int, end: int) -> int:
+    def block_end(self, at: int, brace: int, end: int) -> int:
         """Returns the end of the innermost block round a token."""
         return min((self.partner[i] for i in range(brace, at) if self.tokens[i].text == "{" and self.partner[i] > at), default=end)
 

@@ -3,14 +3,13 @@
 from __future__ import annotations
 
 import multiprocessing
-import signal
 from collections.abc import Iterator
 from multiprocessing.connection import Connection, wait
 from multiprocessing.process import BaseProcess
-from types import FrameType
 
 from .check import FileResult, Options, check_file, shown
 from .compilations import Compilation
+from .processes import ENDING
 
 
 def checked_files(compilations: list[Compilation], options: Options, jobs: int) -> Iterator[FileResult]:
@@ -20,11 +19,6 @@ def checked_files(compilations: list[Compilation], options: Options, jobs: int) 
     else:
         for it in compilations:
             yield check_file(it, options)
-
-
-def stop(number: int, frame: FrameType | None) -> None:
-    """Handles a signal that ends the command: what it started is ended first."""
-    raise KeyboardInterrupt
 
 
 class _Processes:
@@ -49,17 +43,19 @@ class _Processes:
                     given += 1
         finally:
             # (where the user ends the command, the programs that run for it are ended too)
-            for _, process in self.running.values():
-                process.terminate()
-            for _, process in self.running.values():
-                process.join()
+            with ENDING.put_off():
+                for _, process in self.running.values():
+                    process.terminate()
+                for _, process in self.running.values():
+                    process.join()
 
     def _start(self, number: int) -> None:
         here, there = self.fork.Pipe(duplex=False)
         process = self.fork.Process(target=_work, args=(there, self.compilations[number], self.options))
-        process.start()
+        with ENDING.put_off():
+            process.start()
+            self.running[here] = number, process
         there.close()
-        self.running[here] = number, process
 
     def _told(self) -> dict[int, FileResult]:
         """Waits for some file, and returns what is known of those that are done."""
@@ -79,8 +75,9 @@ class _Processes:
 
 
 def _work(there: Connection, it: Compilation, options: Options) -> None:
-    signal.signal(signal.SIGTERM, stop)
+    # (it was started while signals wait)
     try:
-        there.send(check_file(it, options))
+        with ENDING.let_in():
+            there.send(check_file(it, options))
     except KeyboardInterrupt:
         pass

@@ -125,6 +125,22 @@ class Statuses(unittest.TestCase):
             self.assertIn("a.c: without what they call, for want of time: caller\n", said.stderr)
             self.assertIn("2 functions analysed in 1 file, 1 of them without what they call, for want of time", said.stderr)
 
+    def test_a_leak_that_may_be_none_is_looked_for_once_more(self) -> None:
+        source = "int m;\nvoid clear(int **p) { free(*p); m = 1; }\nvoid f(void)\n{ int *q;\n  q = malloc(4);\n  clear(&q); }\n"
+        # (stands for the checker: it refuses the text in which `clear` has no body)
+        text = f"""case "$1" in --help) exit 0 ;; esac
+            grep -q 'free(\\*p)' unit.c || exit 2
+            at=$(grep -n '^int m;' unit.c | cut -d: -f1)
+            printf 'function clear at unit.c:%d:6\\n  entry p\\n' $((at + 1))
+            printf 'function f at unit.c:%d:6\\n  entry -\\n  exits\\n    - -> -\\n  report leak %d:7\\n    choice 0\\n' $((at + 2)) $((at + 4))
+            printf '    %d:7 call malloc\\n    %d:3 call clear\\n    %d:14 end\\n' $((at + 4)) $((at + 5)) $((at + 5))
+            echo '{_EMPTY}'"""
+        with folder(a__c=source) as room:
+            said = nalvegop("check", "--models", "none", "--format", "json", "a.c", at=room, checker=program(room, text))
+            file = json.loads(said.stdout)["files"][0]
+            self.assertEqual((said.returncode, file["failure"]), (1, None))
+            self.assertEqual(file["findings"][0]["unsure"], ["'clear' may have freed it or given it away"])
+
     def test_a_function_of_which_nothing_is_said_is_named(self) -> None:
         with folder(a__c="int f(void) { return 1; }\n") as room:
             said = nalvegop("check", "--verbose", "--strict", "a.c", at=room, checker=program(room, _NOTHING))
@@ -154,7 +170,7 @@ class Statuses(unittest.TestCase):
                 pids = os.path.join(room, "pids")
                 env = {**os.environ, "NALVEGOP_CHECKER": program(room, slow), "PIDS": pids}
                 with subprocess.Popen([sys.executable, "-B", COMMAND, "check", "-j", jobs, "a.c", "b.c"], cwd=room, env=env, stderr=subprocess.DEVNULL) as it:
-                    begun = wait_for(lambda: lines_of(pids) if len(lines_of(pids)) == int(jobs) else None)
+                    begun = wait_for(lambda: lines_of(pids) if len(lines_of(pids)) >= int(jobs) else None)
                     it.send_signal(number)
                     self.assertEqual(it.wait(300), 130)
                 self.assertTrue(wait_for(lambda: not any(os.path.exists(f"/proc/{pid}") for pid in begun)), (number, jobs))
@@ -201,6 +217,11 @@ class Statuses(unittest.TestCase):
             self.assertEqual((said.returncode, said.stdout), (0, ""))
             self.assertNotIn("not analysed", said.stderr)
             self.assertEqual(nalvegop("sparse", "-DX", at=room, checker=program(room, echo)).returncode, 3)
+            words = "sparse", "--format", "json", "--output", "found.json", "--", "-DNAME=extern int given;", "--arch=i386", "a.c"
+            self.assertEqual(nalvegop(*words, at=room, checker=program(room, echo)).returncode, 0)
+            with open(os.path.join(room, "found.json"), encoding="utf-8") as it:
+                self.assertEqual([(one["file"], one["failure"]) for one in json.load(it)["files"]], [("a.c", None)])
+            self.assertEqual(nalvegop("sparse", "--depth", "9", "--", "a.c", at=room, checker=program(room, echo)).returncode, 3)
 
     @needs_checker
     def test_findings_and_strictness(self) -> None:

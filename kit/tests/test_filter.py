@@ -26,7 +26,7 @@ def squeezed(text: str) -> str:
 
 
 # What the filter writes in place of something else.
-_WRITTEN = {",", ")", "(", ";", "sizeof", '""', "abort", "nv_part"}
+_WRITTEN = {",", ")", "(", ";", "sizeof", '""', "abort", "nv_at", "nalvegop_ulong"}
 
 
 def moved(made: str, before: str) -> list[str]:
@@ -41,6 +41,12 @@ class Steps(unittest.TestCase):
     def becomes(self, before: str, after: str) -> None:
         made = filtered(before).text
         self.assertEqual(squeezed(made), after)
+        self.assertEqual(moved(made, before), [])
+
+    def tightly(self, before: str, after: str) -> None:
+        """As `becomes`, with no regard to spaces."""
+        made = filtered(before).text
+        self.assertEqual(re.sub(r"\s+", "", made), re.sub(r"\s+", "", after))
         self.assertEqual(moved(made, before), [])
 
     def test_old_parameters(self) -> None:
@@ -64,8 +70,14 @@ class Steps(unittest.TestCase):
 
     def test_statement_expressions(self) -> None:
         self.becomes("void f(int a) { ({ int b = a; g(b); }); }", "void f(int a) { { int b = a; g(b); } }")
+        self.becomes("void f(int a) { while (h(a)) ({ int b = a; g(b); }); }", "void f(int a) { while (h(a)) { int b = a; g(b); } }")
+        self.becomes(
+            "void f(int a) { if (a) ({ int b = a; g(b); }); else ({ int b = 0; g(b); }); }",
+            "void f(int a) { if (a) { int b = a; g(b); } else { int b = 0; g(b); } }",
+        )
         self.becomes("int f(int a) { return ({ g(a); a; }); }", "int f(int a) { return ( g(a), a ); }")
-        self.becomes("int f(int a) { return ({ int b = a; b; }); }", "int f(int a) { return ({ int b = a; b; }); }")
+        for text in ("int f(int a) { return ({ int b = a; b; }); }", "int f(int a) { return (int)({ int b = a; b; }); }"):
+            self.becomes(text, text)
 
     def test_asm(self) -> None:
         self.becomes('int f(void) __asm__("g"); int h(void) { return f(); }', "int f(void) ; int h(void) { return f(); }")
@@ -102,21 +114,87 @@ class Steps(unittest.TestCase):
             self.assertEqual(re.sub(rf"\b{new}\b", old, squeezed(made.text)), squeezed(before))
 
     def test_the_object_round_a_member(self) -> None:
-        part = "void *nv_part(const void *); struct s { int a, b; }; "
+        part = "void *nv_at(const void *); unsigned long nalvegop_ulong(void); struct s { int a, b; }; "
         cases = {
-            "struct s *f(int *p) { return ((struct s *)((char *)p - __builtin_offsetof(struct s, b))); }": "struct s *f(int *p) { return ((struct s *)(nv_part(p ) )); }",
-            "struct s *f(int *p) { return (struct s *)((const char *)(&p[1]) - __builtin_offsetof (struct s, b)); }": "struct s *f(int *p) { return (struct s *)(nv_part( (&p[1]) ) ); }",
-            "struct s *f(struct s *p) { return (void *)((char *)p->q[2].r - __builtin_offsetof(struct s, b)); }": "struct s *f(struct s *p) { return (void *)(nv_part(p->q[2].r ) ); }",
+            "struct s *f(int *p) { return ((struct s *)((char *)p - __builtin_offsetof(struct s, b))); }": "struct s *f(int *p) { return ((struct s *)(nv_at(p ) )); }",
+            "struct s *f(int *p) { return (struct s *)((const char *)(&p[1]) - __builtin_offsetof (struct s, b)); }": "struct s *f(int *p) { return (struct s *)(nv_at( (&p[1]) ) ); }",
+            "struct s *f(struct s *p) { return (void *)((char *)p->q[2].r - __builtin_offsetof(struct s, b)); }": "struct s *f(struct s *p) { return (void *)(nv_at(p->q[2].r ) ); }",
         }
         for before, after in cases.items():
-            self.becomes(part + before, part + after)
+            self.tightly(part + before, part + after)
             self.becomes("struct s { int a, b; }; " + before, "struct s { int a, b; }; " + before)
-        for text in (
-            "long f(long p) { return p - __builtin_offsetof(struct s, b); }",
-            "char *f(char *p) { return (char *)p + 1 - __builtin_offsetof(struct s, b); }",
-            "int f(int *p) { return (int)p - __builtin_offsetof(struct s, b); }",
+
+    def test_offsets_of_members(self) -> None:
+        part = "void *nv_at(const void *); unsigned long nalvegop_ulong(void); struct s { int a, b; }; "
+        self.becomes(
+            part + "long f(int p) { return p - __builtin_offsetof(struct s, b) * sizeof(struct s); }",
+            part + "long f(int p) { return p - nalvegop_ulong() * sizeof(struct s); }",
+        )
+        text = "struct s a[__builtin_offsetof(struct s, b)]; int f(void) { return a[0].b; }"
+        self.becomes(part + text, part + text)
+        text = "struct s { int a, b; }; long f(int p) { return p - __builtin_offsetof(struct s, b); }"
+        self.becomes(text, text)
+
+    def test_pointers_that_are_counted_from_bytes(self) -> None:
+        part = "void *nv_at(const void *); unsigned long nalvegop_ulong(void); "
+        for before, after in (
+            ("(char*)p + n", "nv_at(p )"),
+            ("(void *)(p) + n * sizeof(int) - 1, n", "nv_at((p) ) , n"),
+            ("(u8 *)p->q[n + 1].r + (n + 2) / 3 + (n ? 8 : 0)", "nv_at(p->q[n + 1].r )"),
+            ("(((char*)&((p)->data)) + (((p)->flags & 2) ? 8 : 0))", "(nv_at( &((p)->data)) )"),
+            ("(char *)&p->q - (size_t)n == p", "nv_at( &p->q ) == p"),
+            ("(char *)p + nalvegop_int()", "nv_at( p )"),
+            ("(char *)((char *)p + 1) + (n - 2)", "nv_at( (nv_at( p ) ) )"),
         ):
-            self.becomes(part + text, part + text)
+            self.tightly(f"{part}void f(struct s *p, int n) {{ g({before}); }}", f"{part}void f(struct s *p, int n) {{ g({after}); }}")
+
+    def test_what_is_no_counted_pointer_stays(self) -> None:
+        part = "void *nv_at(const void *); unsigned long nalvegop_ulong(void); "
+        for text in (
+            "*(char *)p + n",
+            "(struct t *)(char *)p + n",
+            "(char *)p - (char *)q",
+            "(char *)p - q",
+            "(char *)p + n - q",
+            "(char *)p + n++",
+            "(char *)p + (n = 2)",
+            "(char *)p + n()",
+            "(char *)p + (*n)(1)",
+            "q - (char *)p + n",
+            "sizeof(char *) + n",
+            "h((char *)p) + n",
+            "(int *)p + n",
+            "(u8*)p + n",
+            "-(char *)p + n",
+            "*((char *)p + n)",
+            "((char *)p + n)[1]",
+        ):
+            self.becomes(f"{part}void f(struct s *p, char *q, int n) {{ g({text}); }}", f"{part}void f(struct s *p, char *q, int n) {{ g({text}); }}")
+
+    def test_static_locals(self) -> None:
+        before = 'typedef int t;\nint f(t a)\n{\n  static int calls = 1, b[2];\n  if (a) { static char *calls[] = { "x" }; g(calls); }\n  return calls++ + b[0];\n}\n'
+        made = filtered(before)
+        lines = made.text.split("\n")
+        self.assertEqual(lines[0], 'typedef int t; static int callA , A [ 2 ] ; static char * callB [ ] = { "x" } ;')
+        self.assertEqual([squeezed(it) for it in lines[3:6]], ["", "if (a) { g(callB); }", "return callA++ + A[0];"])
+        self.assertEqual(made.renamed, {"callA": "calls", "A": "b", "callB": "calls"})
+        self.assertEqual([it for it in moved("\n".join(["", *lines[1:]]), before) if it not in made.renamed], [])
+
+    def test_static_locals_of_two_functions(self) -> None:
+        made = filtered("int a;\nint f(void)\n{ static int n; return n++; }\nint g(void)\n{ static int n; return n++ + a; }")
+        self.assertEqual(made.text.split("\n")[:3], ["int a; static int A ;", "int f(void)", "{               return A++; } static int B ;"])
+        self.assertEqual(made.text.split("\n")[4], "{               return B++ + a; }")
+
+    def test_static_locals_that_never_change(self) -> None:
+        self.becomes("int f(int a) { static const int most = 3; return a < most; }", "int f(int a) { const int most = 3; return a < most; }")
+
+    def test_static_locals_that_stay(self) -> None:
+        for inside in ("static int (*go)(int);", "static struct { int a; } s;", "static enum { A, B } e;"):
+            text = f"int a;\nint f(void) {{ {inside} return a; }}"
+            self.becomes(text, squeezed(text))
+        # (no line ends between what stands before and the function)
+        for text in ("int a; int f(void) { static int n; return a + n++; }", "int f(void) { static int n; return n++; }"):
+            self.becomes(text, text)
 
     def test_variables_that_are_named_as_types(self) -> None:
         types = "typedef struct list { struct list *list; } list; "
