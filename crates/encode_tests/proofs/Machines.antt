@@ -35,7 +35,7 @@ module _ (s : Sources) where
   whole_if_given p e lock given =
       let P : Option MachineSpec → Type 0 = λ m. IsWhole (machine_or_locks m) in
       let stays : p.machine ≡ s.machine =
-          subst HasMachine e
-          (has_unless (first_clash [] (bodies_of s (first_walk s).local_functions s.units)) (first_walk s)
-          (bodies_of s (first_walk s).local_functions s.units)) in
+      subst HasMachine e
+      (has_unless (first_clash [] (bodies_of s (first_walk s).local_functions s.units)) (first_walk s)
+      (bodies_of s (first_walk s).local_functions s.units)) in
       subst P (sym stays) (whole_or_locks s.machine lock given)

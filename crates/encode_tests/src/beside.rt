@@ -112,8 +112,8 @@ pub fn gates_of<'p, 'm, 'f>(
     ensures { IfSome result (λ g. input_count g.net ≡ (laid.layout_of places.now).bits) }
 {
     match in_gates(alloc, given, places) {
-        Ok(made) => made,
-        Err(_) => None,
+        Ok(Some(made)) => Some(made),
+        Ok(None) | Err(_) => None,
     }
 }
 

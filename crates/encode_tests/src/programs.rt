@@ -1,6 +1,5 @@
 // The functions of a program, one after the other, each with the summaries of its callees.
 
-ghost use Rattle.std.specs.Prelude.{◌<◌, length};
 ghost use Rattle.fn_analysis.specs.Analysis.{HasWholeMachine};
 ghost use Rattle.fsm_spec.specs.Table.{IsWhole};
 
@@ -85,8 +84,10 @@ fn function_at(
 ) -> Option<Compared>
     requires table { IsWhole machine.now }
     requires whole { HasWholeMachine program.now }
-    requires planned { number < length plan.now.callees }
 {
+    if number as usize >= plan.len() {
+        return None;
+    }
     let kept = plan.callees_of(number);
     let verdicts = verdicts_of(alloc, kept, done)?;
     let here = Context {
@@ -113,9 +114,10 @@ fn all_functions(
     requires whole { HasWholeMachine program.now }
 {
     let plan = plan(alloc, program).ok()?;
+    let count = u32::try_from(plan.len()).ok()?;
     let mut done = Vec::new(alloc);
     let mut tally = Tally::none();
-    for number in 0..u32::try_from(plan.len()).ok()? {
+    for number in 0..count {
         let one = function_at(
             alloc,
             program,

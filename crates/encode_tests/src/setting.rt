@@ -59,6 +59,7 @@ fn read(alloc: Global, names: &mut Interner, text: &str) -> Result<Unit, LexAnsw
 }
 
 // The typed program of a file, with that machine; with that of locks where there is none.
+#[tactic(auto, using(crate::proofs::Machines::whole_if_given))]
 fn typed(alloc: Global, text: &str, machine: Option<MachineSpec>) -> Option<Program>
     requires { IfSome machine IsWhole }
     ensures { IfSome result (λ p. HasWholeMachine p) }
@@ -94,7 +95,7 @@ pub fn program(alloc: Global, text: &str, machine: &str) -> Option<Program>
 }
 
 /// The layout of the function at hand.
-#[tactic(auto, unfolding(sc_gather::specs::Seen::source_of, sc_world::specs::Programs::source_by))]
+#[tactic(auto, using(crate::proofs::Layouts::closed_if))]
 pub fn laid_out<'p>(alloc: Global, here: &Context<'p, '_>) -> Option<Places<'p>>
     ensures { IfSome result (λ p. IsClosed (laid.layout_of p)) }
 {
