@@ -76,7 +76,7 @@ fn told_of(alloc: Global, here: &Context, choice: &[bool], location: usize) -> O
 }
 
 // The same of the first function of a text.
-fn told(alloc: Global, text: &str, choice: &[bool], location: usize) -> Option<Told> {
+fn told_first(alloc: Global, text: &str, choice: &[bool], location: usize) -> Option<Told> {
     let machine = machine(alloc, "")?;
     let program = program(alloc, text, "")?;
     let here = Context {
@@ -97,7 +97,7 @@ const TWICE: &str =
 
 // The condition holds, and the lock is there and not taken: it is taken twice.
 fn it_is_taken_twice(alloc: Global) -> bool {
-    match told(alloc, TWICE, &[true, true, false], 2) {
+    match told_first(alloc, TWICE, &[true, true, false], 2) {
         Some(told) => !told.exits && told.errors == (1, 2),
         None => false,
     }
@@ -113,7 +113,7 @@ fn a_try_takes_it(alloc: Global) -> bool {
         result: Value::Number(32, 1),
         state: Value::Number(4, 1),
     };
-    told(alloc, TRIES, &[true, false, true], 1) == Some(due)
+    told_first(alloc, TRIES, &[true, false, true], 1) == Some(due)
 }
 
 const NEXT: &str = "int f(unsigned char x){return x+1;}";
@@ -122,7 +122,7 @@ const PLACE: &str = "unsigned char*f(unsigned char x){return&x;}";
 
 // What a function of a byte gives where that is 255.
 fn gives(alloc: Global, text: &str) -> Option<Value> {
-    match told(alloc, text, &[true; 8], 0) {
+    match told_first(alloc, text, &[true; 8], 0) {
         Some(told) => Some(told.result),
         None => None,
     }
