@@ -1,11 +1,11 @@
 -- From what a solver knows of the loaded gates to what holds of them for some choice.
 
-use Rattle.std.proofs.Common.{◌≡◌, ℕ, suc, zero, ◌+◌, ◌<◌, ◌≤◌, Bool, true, false, ◌&&◌, List, [], ◌∷◌, ◌++◌, length, map, take, get_or, Option, Some, None, slice_get, refl, sym, subst, ap, ◌∙◌, ⊎_elim, arith}
+use Rattle.std.proofs.Common.{◌≡◌, ℕ, suc, zero, ◌+◌, ◌<◌, ◌≤◌, Bool, true, false, ◌&&◌, List, [], ◌∷◌, ◌++◌, length, map, take, get_or, Option, Some, None, slice_get, refl, sym, subst, ap, ◌∙◌, arith}
 use Rattle.std.proofs.lemmas.List.{take_all, take_more, map_push, get_or-map, length-map, ext_get_or}
 use Rattle.std.proofs.lemmas.List.FromFn.{get_or-map-range_with_len, length-map-range_with_len, map-range_with_len_more}
 use Rattle.std.proofs.lemmas.List.Elements.{All-nil, All-cons, All-push, All-head, All-tail}
 use Rattle.std.proofs.lemmas.Bool.{and_parts, and_from, false≢true, false_from_ne_true}
-use Rattle.std.specs.List.{All, list_all, range_with_len}
+use Rattle.std.specs.List.{All, list_all}
 use Rattle.std.specs.Prelude.{Vec, MatchOption}
 use Rattle.std.specs.declared.alloc.Global.{Global}
 use Rattle.bit_net.specs.declared.nodes.Gate.{Gate}
@@ -13,14 +13,14 @@ use Rattle.bit_net.specs.declared.nodes.Node.{Node}
 use Rattle.bit_net.specs.declared.nodes.Node.TheVariants.{Constant, Input}
 use Rattle.bit_net.specs.Value.{bit_at, value}
 use Rattle.bit_net.specs.Circuit.{input_count, IsCircuit}
-use Rattle.bit_net.specs.Runs.{Runs, Grown, Fits}
+use Rattle.bit_net.specs.Runs.{Runs, Fits}
 use Rattle.bit_net.specs.Lanes.{bit, lane, AreLanes}
 use Rattle.sat_base.specs.declared.literal.Lit.{Lit}
-use Rattle.sat_base.specs.Logic.{lit_true, each_true, all_true, satisfied, LitsBelow, Extends}
+use Rattle.sat_base.specs.Logic.{lit_true, each_true, all_true, satisfied, LitsBelow}
 use Rattle.clause_builder.specs.Cones.{lit_at, AgreesWith, HasValues, AreLoaded, opt_true, loaded_value}
-use Rattle.query.specs.Values.{values_of, is_before, Hits, HasNone, IsLeast}
+use Rattle.query.specs.Values.{values_of, is_before, HasNone, IsLeast}
 use Rattle.gate_questions.specs.Holds.{all_hold, SomeHolds, NoneHolds, bits_of, IsFirst}
-use Rattle.gate_questions.specs.Ready.{AreLits, QuestionsState, IsReady, input_gate, input_gates}
+use Rattle.gate_questions.specs.Ready.{AreLits, input_gate, input_gates}
 
 head_is : (o q : Option Lit) (os qs : List (Option Lit)) → o ∷ os ≡ q ∷ qs → (o ≡ q) × (os ≡ qs)
 head_is o q os qs is = (cc, cc)

@@ -10,6 +10,7 @@ ghost use Rattle.gate_questions.specs.Ready.{AreLits};
 
 use crate::OutOfMemory;
 use crate::lanes::Lanes;
+use crate::near::near;
 use bit_net::{Gate, Net};
 use clause_builder::Loader;
 use sat_base::{Answer, Lit, Solver};
@@ -102,7 +103,7 @@ pub fn ask<S: Solver>(
     }
 }
 
-/// Whether all gates hold for some choice, by one of the 64 choices or by the solver.
+/// Whether all gates hold for some choice, by one of the 64 choices, by one near them, or by the solver.
 pub fn find<S: Solver>(
     alloc: Global,
     net: &Net,
@@ -122,6 +123,9 @@ pub fn find<S: Solver>(
 {
     lanes.evaluate(net)?;
     if lanes.show(gates) {
+        return Ok(true);
+    }
+    if near(alloc, net, lanes, gates)? {
         return Ok(true);
     }
     let holds = ask(alloc, net, loader, s, lanes, gates)?;

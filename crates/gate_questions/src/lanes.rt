@@ -40,7 +40,7 @@ fn holds_in(words: &[u64], gate: Gate, lane: u32) -> bool
 }
 
 /// The first choice for which all gates hold, as their words show; 64 where they show none.
-fn common_lane(words: &[u64], gates: &[Gate]) -> u32 {
+pub fn common_lane(words: &[u64], gates: &[Gate]) -> u32 {
     let mut all = u64::MAX;
     for gate in gates {
         all = all & words.get(gate.at).copied().unwrap_or(0);
