@@ -1,6 +1,6 @@
 //! The gates of all runs of a function.
 
-ghost use Rattle.std.specs.Prelude.{◌≡◌, ◌<◌, ◌^◌, Some, length, IfOk, IfSome};
+ghost use Rattle.std.specs.Prelude.{◌≡◌, ◌<◌, ◌^◌, Some, length, IfOk, IfSome, MatchOption};
 ghost use Rattle.bit_net.specs.Circuit.{input_count};
 ghost use Rattle.bit_net.specs.Runs.{Grown};
 ghost use Rattle.fsm_spec.specs.Table.{IsWhole};
@@ -13,6 +13,7 @@ ghost use Rattle.run_world.specs.Seen.{env};
 ghost use Rattle.sc_flow.specs.Seen as seen;
 ghost use Rattle.tr_flow.specs.Graph.{CanEncode};
 ghost use Rattle.tr_flow.specs.Whole.{AllHaveGates};
+ghost use Rattle.fn_gates.specs.Having.{HaveGates, LackGates};
 
 use bit_net::Net;
 use flow_ends::Encoded;
@@ -88,13 +89,19 @@ fn of_few<'p, 'm, 'f>(
 ) -> Result<Option<InGates>, OutOfMemory>
     requires whole { IsWhole (env here.now).source.machine }
     requires few { length (env here.now).layout.locations < 2 ^ 32 }
-    ensures { IfOk result (λ r. IfSome r (λ g. IsEncoded (env here.now).source (env here.now).layout g.net g.encoded)) }
+    ensures runs { IfOk result (λ r. IfSome r (λ g. IsEncoded (env here.now).source (env here.now).layout g.net g.encoded)) }
+    ensures exactly { IfOk result (λ r. MatchOption r (LackGates (env here.now).source (env here.now).layout)
+        (λ g. HaveGates (env here.now).source (env here.now).layout)) }
 {
     let flow = unroll(alloc, here.ground.here)?;
     let lookup = Lookup::of(alloc, here.places)?;
     let can = can_encode(alloc, &here.ground, &lookup, &flow)?;
+    if !can {
+        return Ok(None);
+    }
     let steps = Stepping::new(here, &lookup);
-    if !can || !all_have_gates(&steps, &flow) {
+    let have = all_have_gates(&steps, &flow);
+    if !have {
         return Ok(None);
     }
     let Ok(mut net) = Net::new(alloc, here.places.bits as usize) else {
@@ -118,9 +125,9 @@ fn of_few<'p, 'm, 'f>(
 // So many locations are too many for numbers of 32 bits.
 const TOO_MANY: usize = 0x1_0000_0000;
 
-/// The gates of all runs of the function at hand, which has this layout. None where something of it has no gates: then it does not fit its
-/// layout, a value of type `void` is read and not dropped, what it gives is an object, or a node of its graph is none of those that have
-/// gates.
+/// The gates of all runs of the function at hand, which has this layout. `None` exactly where something of it has no gates: it does not fit
+/// its layout, a value of type `void` is read and not dropped, what it gives is an object, a node of its graph is none of those that have
+/// gates, or it has 2^32 locations or more.
 #[tactic(auto, unfolding(run_world::specs::Seen::env))]
 pub fn in_gates<'p, 'm, 'f>(
     alloc: Global,
@@ -128,6 +135,8 @@ pub fn in_gates<'p, 'm, 'f>(
     places: &'f Places<'p>,
 ) -> Result<Option<InGates>, OutOfMemory>
     requires whole { IsWhole (laid.ground_of given).source.machine }
+    ensures exactly { IfOk result (λ r. MatchOption r (LackGates (laid.ground_of given.entry).source (laid.layout_of places.now))
+        (λ g. HaveGates (laid.ground_of given.entry).source (laid.layout_of places.now))) }
     ensures few { IfOk result (λ r. IfSome r (λ g. length places.now.locations.items < 2 ^ 32)) }
     ensures runs { IfOk result (λ r. IfSome r (λ g. IsEncoded (laid.ground_of given.entry).source (laid.layout_of places.now) g.net g.encoded)) }
 {
