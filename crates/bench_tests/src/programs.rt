@@ -1,7 +1,7 @@
 // Generated texts, of few functions and of the most, which all give a program: that none is refused is not proved.
 
+use bench_checks::generated;
 use bench_programs::bench_text;
-use bench_top::generated;
 use std::alloc::Global;
 use std::test::Fail;
 
