@@ -1,0 +1,23 @@
+//! The gates of functions beside the interpreter, on every choice; and verdicts by gates beside verdicts by trying every choice.
+//!
+//! `setting` reads a text and lays a function of it out, `told` has what gates tell of one run, `beside` sets it beside that run,
+//! `programs` goes through the functions of a program; `statements`, `calls` and `generated` have the programs, and `rows` worked
+//! rows.
+#![tactic(auto)]
+
+#[cfg(test)]
+mod beside;
+#[cfg(test)]
+mod calls;
+#[cfg(test)]
+mod generated;
+#[cfg(test)]
+mod programs;
+#[cfg(test)]
+mod rows;
+#[cfg(test)]
+mod setting;
+#[cfg(test)]
+mod statements;
+#[cfg(test)]
+mod told;
