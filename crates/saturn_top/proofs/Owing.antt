@@ -3,7 +3,7 @@ use Rattle.std.proofs.Common.{ℕ, true, false, List, refl, inl, inr}
 use Rattle.std.specs.Prelude.{codes}
 use Rattle.sc_input.specs.Input.{Outside}
 use Rattle.saturn_words.specs.declared.asked.CheckWords.{CheckWords}
-use Rattle.whole_checks.specs.Said.{Said, Whole, Twice, Beyond}
+use Rattle.json_checks.specs.Said.{Said, Whole, Twice, Beyond}
 use Rattle.top_answers.specs.Answer.{Due}
 use Rattle.top_answers.proofs.Owed.{Owed, help, bad, text, refusal, IsSound}
 use Rattle.top_answers.proofs.ByRefusal.{by_refusal}

@@ -8,7 +8,7 @@ use Rattle.sc_input.specs.declared.input.Input.{Input}
 use Rattle.sc_input.specs.declared.refusal.Refusal.{Refusal}
 use Rattle.sc_input.specs.Input.{Outside, IsInput, Refuse}
 use Rattle.line_marks.specs.declared.marks.Mark.{Mark}
-use Rattle.whole_checks.specs.Typed.{Sources}
+use Rattle.json_checks.specs.Typed.{Sources}
 use Rattle.saturn_words.specs.declared.asked.Options.{Options}
 use Rattle.saturn_words.specs.declared.asked.CheckWords.{CheckWords}
 use Rattle.saturn_words.specs.declared.asked.Format.{Format}
@@ -16,7 +16,7 @@ use Rattle.saturn_words.specs.declared.asked.Format.TheVariants as form
 use Rattle.saturn_words.specs.Commands.{IsCheck}
 use Rattle.saturn_words.specs.declared.words.NoWords.{NoWords}
 use Rattle.saturn_words.specs.Words.{AskForNothing, CallForHelp, HaveFault, Give, HaveCheck, faults}
-use Rattle.whole_checks.specs.Said.{Said, Whole, Twice, Beyond, said}
+use Rattle.json_checks.specs.Said.{Said, Whole, Twice, Beyond, said}
 use Rattle.json_checks.specs.Checked.{json_said}
 use Rattle.top_answers.specs.declared.status.Status.{Status}
 use Rattle.top_answers.specs.declared.status.Status.TheVariants.{Clean, Reports, BadWords, Helped}

@@ -1,22 +1,21 @@
 // The call of `saturn_check` that works on the calling thread.
 
 ghost use Rattle.std.specs.Prelude.{◌≡◌, map, string_bytes, codes, IfOk};
-ghost use Rattle.whole_checks.specs.Said.{HasWholeMachine};
-ghost use Rattle.whole_checks.specs.Seen as checked;
+ghost use Rattle.json_checks.specs.Said.{HasWholeMachine};
+ghost use Rattle.json_checks.specs.Seen as checked;
 ghost use Rattle.top_answers.specs.Promises.{around, change, Promises};
 ghost use Rattle.top_answers.specs.Seen.{seen};
 ghost use Rattle.saturn_top.specs.Checks.{due_of_said, said_as, sources_of, IsDue, IsFound, wording};
 
 use crate::found::{answer_of, unasked};
 use fsm_spec::whole_machines;
-use json_checks::{MarkedSources, say_json};
+use json_checks::{MarkedSources, Said, Sources, say, say_json};
 use line_marks::LineMarks;
 use saturn_words::{Format, Options, check_words};
 use sc_base::{Files, OutOfMemory, Sink};
 use sc_input::{Input, read_input};
 use std::alloc::Global;
 use top_answers::{Answer, Status, give, refused};
-use whole_checks::{Said, Sources, say};
 
 // What is said of these trees in this form.
 fn say_as(

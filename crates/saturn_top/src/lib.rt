@@ -10,6 +10,6 @@ mod found;
 mod workers;
 
 pub use alone::check_alone;
+pub use json_checks::Sources;
 pub use top_answers::Status;
-pub use whole_checks::Sources;
 pub use workers::check_main;

@@ -1,8 +1,8 @@
 // The call of `saturn_check` that has workers.
 
 ghost use Rattle.std.specs.Prelude.{◌≡◌, ◌<◌, ◌≤◌, map, string_bytes, codes, IfOk};
-ghost use Rattle.whole_checks.specs.Said.{HasWholeMachine};
-ghost use Rattle.whole_checks.specs.Seen as checked;
+ghost use Rattle.json_checks.specs.Said.{HasWholeMachine};
+ghost use Rattle.json_checks.specs.Seen as checked;
 ghost use Rattle.top_answers.specs.Promises.{around, change, Promises};
 ghost use Rattle.top_answers.specs.Seen.{seen};
 ghost use Rattle.saturn_top.specs.Checks.{due_of_said, said_as, sources_of, IsDue, IsFound, wording};
@@ -10,7 +10,7 @@ ghost use Rattle.saturn_top.specs.Checks.{due_of_said, said_as, sources_of, IsDu
 use crate::alone::find;
 use crate::found::{answer_of, unasked};
 use fsm_spec::whole_machines;
-use json_checks::{MarkedSources, say_json_by};
+use json_checks::{MarkedSources, Said, Sources, say_by, say_json_by};
 use line_marks::LineMarks;
 use saturn_words::{CheckWords, Format, check_words};
 use sc_base::{Files, OutOfMemory, Sink};
@@ -19,7 +19,6 @@ use std::alloc::Global;
 use std::sync::Wait;
 use std::thread::Threads;
 use top_answers::{Answer, Status, give, refused};
-use whole_checks::{Said, Sources, say_by};
 use work_pool::Gate;
 
 // What is said of these trees in the form that these words name.
