@@ -4,7 +4,6 @@ use Rattle.std.specs.Prelude.{◌≡◌, ℕ, ◌<◌, ◌≤◌, Bool, false, S
 use Rattle.bit_net.specs.declared.nodes.Node.{Node}
 use Rattle.bit_net.specs.Circuit.{input_count}
 use Rattle.bit_net.specs.Runs.{Runs}
-use Rattle.gl_store.specs.declared.values.Val.{Val}
 use Rattle.gl_store.specs.Meets.{Meets, MeetsAll, val_kind, val_top, kinds, locations_top}
 use Rattle.run_store.specs.Concrete.{Cell, Kind, Numbers}
 use Rattle.sc_world.specs.Tree.{is_void}
@@ -15,7 +14,6 @@ use Rattle.sc_world.specs.Exec.{run}
 use Rattle.sc_world.specs.Paths.{Texts}
 use Rattle.sc_world.specs.Shows.{Query, says}
 use Rattle.sc_world.specs.Verdict.{run_over}
-use Rattle.flow_ends.specs.declared.fates.Fates.{Fates}
 use Rattle.flow_ends.specs.declared.encoded.Encoded.{Encoded}
 use Rattle.flow_ends.specs.Fates.{NoneEnded, HasEnded, AreFates}
 

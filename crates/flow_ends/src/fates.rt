@@ -6,6 +6,7 @@ ghost use Rattle.gate_runs.specs.Stands.{AreEnds, gates_top, told};
 ghost use Rattle.run_store.specs.Concrete.{Place, flag_at};
 ghost use Rattle.run_store.specs.declared.Flag.TheVariants as flag;
 ghost use Rattle.flow_ends.specs.Fates.{AreFates, NoFates, TellsStep, ends_now};
+ghost use Rattle.flow_ends.specs.Noted.{NotesAt, NotesAll};
 
 use bit_net::{Gate, Net, OutOfMemory};
 use gate_runs::Ends;
@@ -22,8 +23,14 @@ pub struct Fates {
     /// One gate for each location: the run ends by an error there.
     pub bads: Vec<Gate>,
 
-    /// One gate for each location: where a run ends by an error, whether it has touched the location.
+    /// Holds where a step ended the run.
+    pub stopped: Gate,
+
+    /// One gate for each location: where a step ended the run, whether the run had touched the location.
     pub touched: Vec<Gate>,
+
+    /// The same where no step has ended the run: what the store told of the location when a step was told last that may end a run.
+    pub noted: Vec<Gate>,
 }
 
 // So many gates that never hold.
@@ -105,27 +112,59 @@ fn also_each(
     Ok(())
 }
 
-// Each gate holds also where `now` does and the location of its number is touched.
-fn also_touched(
+// Notes what the store tells of a location now: it counts where no step has ended the run. What is told as it was costs no gate.
+fn note_at(
     net: &mut Net,
-    gates: &mut [Gate],
-    now: Gate,
+    stopped: Gate,
+    touched: &mut [Gate],
+    noted: &mut [Gate],
+    k: usize,
+    told: Gate,
+) -> Result<(), OutOfMemory>
+    requires place { k < length touched.old }
+    requires same { length noted.old ≡ length touched.old }
+    requires stopped { stopped.at < length net.old }
+    requires touched { gates_top touched.old ≤ length net.old }
+    requires noted { gates_top noted.old ≤ length net.old }
+    requires told { told.at < length net.old }
+    ensures grown { Grown net.old net.new }
+    ensures touched { length touched.new ≡ length touched.old }
+    ensures noted { length noted.new ≡ length noted.old }
+    ensures tops { OnOk result ((gates_top touched.new ≤ length net.new) × (gates_top noted.new ≤ length net.new)) }
+    ensures ok { OnOk result (Always net.new (λ choice v. NotesAt v stopped.at k (v told.at) touched.old noted.old touched.new noted.new)) }
+{
+    if gate_in(noted, k) == told {
+        return Ok(());
+    }
+    let kept = net.mux(stopped, gate_in(touched, k), told)?;
+    set_gate(touched, k, kept);
+    set_gate(noted, k, told);
+    Ok(())
+}
+
+// Notes what the store tells of all locations now.
+fn note_all(
+    net: &mut Net,
+    stopped: Gate,
+    touched: &mut [Gate],
+    noted: &mut [Gate],
     store: &Store,
 ) -> Result<(), OutOfMemory>
-    requires count { length gates.old < 2 ^ 32 }
-    requires gates { gates_top gates.old ≤ length net.old }
-    requires now { now.at < length net.old }
+    requires count { length touched.old < 2 ^ 32 }
+    requires same { length noted.old ≡ length touched.old }
+    requires stopped { stopped.at < length net.old }
+    requires touched { gates_top touched.old ≤ length net.old }
+    requires noted { gates_top noted.old ≤ length net.old }
     requires store { locations_top store.now.locations.items ≤ length net.old }
     ensures grown { Grown net.old net.new }
-    ensures len { length gates.new ≡ length gates.old }
-    ensures top { OnOk result (gates_top gates.new ≤ length net.new) }
-    ensures ok { OnOk result (Always net.new (λ choice v. (ps : List Place) → MeetsAll v store.now.locations.items ps
-        → (l : ℕ) → l < length gates.old → told v gates.new l ≡ (told v gates.old l || (v now.at && flag_at ps l flag.Touched)))) }
-    ensures never { OnOk result (Always net.new (λ choice v. v now.at ≡ false → (l : ℕ) → l < length gates.old → told v gates.new l ≡ told v gates.old l)) }
+    ensures touched { length touched.new ≡ length touched.old }
+    ensures noted { length noted.new ≡ length noted.old }
+    ensures tops { OnOk result ((gates_top touched.new ≤ length net.new) × (gates_top noted.new ≤ length net.new)) }
+    ensures ok { OnOk result (Always net.new (λ choice v. NotesAll v stopped.at store.now.locations.items touched.old noted.old touched.new noted.new)) }
 {
-    for k in 0..gates.len() {
-        let touched = store.flag_anywhere(net, k as u32, Flag::Touched);
-        also_where(net, gates, k, now, touched)?;
+    for k in 0..touched.len() {
+        let told = store.flag_anywhere(net, k as u32, Flag::Touched);
+        note_at(net, stopped, touched, noted, k, told)?;
     }
     Ok(())
 }
@@ -135,13 +174,16 @@ impl Fates {
     pub fn none(net: &Net, locations: usize) -> Result<Fates, OutOfMemory>
         ensures { IfOk result (λ f. NoFates net.now locations f) }
     {
-        let over = net.constant(false);
+        let never = net.constant(false);
         let bads = none_of(net, locations)?;
         let touched = none_of(net, locations)?;
+        let noted = none_of(net, locations)?;
         Ok(Fates {
-            over,
+            over: never,
             bads,
+            stopped: never,
             touched,
+            noted,
         })
     }
 
@@ -167,8 +209,15 @@ impl Fates {
             return Ok(());
         }
         also_each(net, self.bads.as_mut_slice(), now, ends.bads.as_slice())?;
-        also_touched(net, self.touched.as_mut_slice(), now, store)?;
+        note_all(
+            net,
+            self.stopped,
+            self.touched.as_mut_slice(),
+            self.noted.as_mut_slice(),
+            store,
+        )?;
         self.over = net.or(self.over, now)?;
+        self.stopped = net.or(self.stopped, now)?;
         Ok(())
     }
 
@@ -193,7 +242,9 @@ impl Fates {
         requires here { here.at < length net.old }
         ensures grown { Grown net.old net.new }
         ensures bads { self.new.bads ≡ self.old.bads }
+        ensures stopped { self.new.stopped ≡ self.old.stopped }
         ensures touched { self.new.touched ≡ self.old.touched }
+        ensures fates { OnOk result ((locations : ℕ) → AreFates net.old locations self.old → AreFates net.new locations self.new) }
         ensures ok { OnOk result (Gives net.new self.new.over.at (λ choice v. v self.old.over.at || v here.at)) }
     {
         self.over = net.or(self.over, here)?;

@@ -28,6 +28,16 @@ told_past v (g ∷ gs) (suc l) low = told_past v gs l (omega arith)
 told_all : (v : ℕ → Bool) (gs : List Gate) (count : ℕ) → length gs ≡ count → ((l : ℕ) → l < count → told v gs l ≡ false) → (l : ℕ) → told v gs l ≡ false
 told_all v gs count each none l = elim (cases_lt l count) [ inl low ↦ none l low | inr high ↦ told_past v gs l (omega arith) ]
 
+-- the same of gates that count where another one holds
+touched_all : (v : ℕ → Bool) (stopped : Bool) (gs : List Gate) (count : ℕ) → length gs ≡ count → ((l : ℕ) → l < count → (stopped && told v gs l) ≡ false)
+    → (l : ℕ) → (stopped && told v gs l) ≡ false
+touched_all v stopped gs count each none l =
+    elim (cases_lt l count) [ inl low ↦ none l low | inr high ↦ ap (λ b. stopped && b) (told_past v gs l (omega arith)) ∙ and_never stopped ]
+  where
+    and_never : (b : Bool) → (b && false) ≡ false
+    and_never true = refl
+    and_never false = refl
+
 at_is : (l : ℕ) (e : Ended) → is_at l e ≡ is_bad l (Some e)
 at_is l (Error at) = refl
 at_is l (Inner at) = refl
@@ -44,7 +54,7 @@ module _ (s : Source) (p : Layout) (ns : List Gates) (x : Before) (k : Kinds) (g
     record {
       over = h.none.over;
       bads = told_all v x.fates.bads.items (length p.locations) locations h.none.bad;
-      touched = told_all v x.fates.touched.items (length p.locations) (gates.fates.each_touched ∙ locations) h.none.touched;
+      touched = touched_all v (v x.fates.stopped.at) x.fates.touched.items (length p.locations) (gates.fates.each_touched ∙ locations) h.none.touched;
     },
     h.store,
     h.gives,
@@ -62,9 +72,13 @@ finished ns x gates law s p inputs h = record {
   fates = record {
     over = gates.fates.over;
     bads = gates.fates.bads;
+    stopped = gates.fates.stopped;
     touched = gates.fates.touched;
+    noted = gates.fates.noted;
     each_bad = h.shape.locations;
     each_touched = gates.fates.each_touched ∙ h.shape.locations;
+    each_noted = gates.fates.each_noted ∙ h.shape.locations;
+    are_noted = gates.fates.are_noted;
   };
   store = gates.store;
   kinds = h.shape.kinds;

@@ -40,9 +40,13 @@ pub fates_grown : (ns ns' : List Gates) (count : ℕ) (f : Fates) → Grown ns n
 fates_grown ns ns' count f g h = record {
   over = (let a = h.over in let b = g.longer in omega arith);
   bads = (let a = h.bads in let b = g.longer in omega arith);
+  stopped = (let a = h.stopped in let b = g.longer in omega arith);
   touched = (let a = h.touched in let b = g.longer in omega arith);
+  noted = (let a = h.noted in let b = g.longer in omega arith);
   each_bad = h.each_bad;
   each_touched = h.each_touched;
+  each_noted = h.each_noted;
+  are_noted = record { holds = λ choice v r. h.are_noted.holds choice v (g.runs choice v r) };
 }
 
 pub temps_grown : (ns ns' : List Gates) (t : Temps) → Grown ns ns' → AreTemps ns t → AreTemps ns' t

@@ -280,9 +280,10 @@ exited_with ns ns' x r here from g gate w = exited ns ns' x r here (Some from) (
 
 -- The walk is set aside.
 pub asided : (ns ns' : List Gates) (x : Before) (f : Fates) (w : Ways) (here : Arrival) → Grown ns ns' → IsHere ns here → AreSplits ns x.ways.splits.items
-    → Gives ns' f.over.at (λ choice v. v x.fates.over.at || v here.gate.at) → f.bads.items ≡ x.fates.bads.items → f.touched.items ≡ x.fates.touched.items
+    → Gives ns' f.over.at (λ choice v. v x.fates.over.at || v here.gate.at) → f.bads.items ≡ x.fates.bads.items → f.stopped ≡ x.fates.stopped
+    → f.touched.items ≡ x.fates.touched.items
     → Anywhere here.ways.items x.ways w → (r : Reason) → GoesBy ns ns' (SetAside r) here x (record x { fates = f; ways = w })
-asided ns ns' x f w here g gate splits over bads touched anywhere r = record {
+asided ns ns' x f w here g gate splits over bads stopped touched anywhere r = record {
   past = λ s p nodes node is h. (let cut = nodes_are_at nodes node (SetAside r) is in
       record {
         kinds = h.kinds;
@@ -303,7 +304,7 @@ asided ns ns' x f w here g gate splits over bads touched anywhere r = record {
                     goes = λ off q low. anywhere.held v (splits.all (bit_at bits) v runs0) (sym (gate.gate.value (bit_at bits) v runs0) ∙ off) q;
                     over = over.value (bit_at bits) v runs;
                     bad = λ l low. ap (λ gs. told v gs l) bads;
-                    touched = λ l low. ap (λ gs. told v gs l) touched;
+                    touched = λ l low. ap (λ gs. v f.stopped.at && told v gs l) touched ∙ ap (λ (g : Gate). v g.at && told v x.fates.touched.items l) stopped;
                     store = λ ps m. m;
                     temps = λ k free m. m;
                     gives = λ r m. m;

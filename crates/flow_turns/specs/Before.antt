@@ -19,7 +19,7 @@ use Rattle.flow_types.specs.Kinds.{Kinds}
 use Rattle.flow_types.specs.Nodes.{AllFit}
 use Rattle.flow_ways.specs.Held.{any, held as waits_at, AreSplits, ways_top}
 use Rattle.flow_ways.specs.Steps.{AreWithin}
-use Rattle.flow_ends.specs.Fates.{AreFates}
+use Rattle.flow_ends.specs.Fates.{AreFates, is_touched}
 use Rattle.flow_ends.specs.Encoded.{kinds_of}
 use Rattle.flow_stages.specs.Stage.{View, Stage}
 use Rattle.flow_turns.specs.declared.before.Before.{Before}
@@ -52,7 +52,7 @@ seen v p k x =
       held = waits_at v x.ways.waits.items;
       over = v x.fates.over.at;
       bad = told v x.fates.bads.items;
-      touched = told v x.fates.touched.items;
+      touched = is_touched v x.fates;
       Stored = MeetsAll v x.store.locations.items;
       Temps = HaveKept v p k.temps x.temps;
       Gives = Meets v x.result;
@@ -65,7 +65,7 @@ arrived v p k node here x =
       held = λ q. waits_at v x.ways.waits.items q || (nat_eq node q && v here.gate.at);
       over = v x.fates.over.at;
       bad = told v x.fates.bads.items;
-      touched = told v x.fates.touched.items;
+      touched = is_touched v x.fates;
       Stored = MeetsAll v x.store.locations.items;
       Temps = HaveKept v p k.temps x.temps;
       Gives = Meets v x.result;

@@ -16,9 +16,13 @@ ready_grows a old new g r =
       fates = record {
         over = omega (arith, r.fates.over, g.longer);
         bads = omega (arith, r.fates.bads, g.longer);
+        stopped = omega (arith, r.fates.stopped, g.longer);
         touched = omega (arith, r.fates.touched, g.longer);
+        noted = omega (arith, r.fates.noted, g.longer);
         each_bad = r.fates.each_bad;
         each_touched = r.fates.each_touched;
+        each_noted = r.fates.each_noted;
+        are_noted = record { holds = λ choice v runs. r.fates.are_noted.holds choice v (g.runs choice v runs) };
       };
       store = omega (arith, r.store, g.longer);
       result = omega (arith, r.result, g.longer);

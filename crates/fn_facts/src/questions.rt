@@ -31,7 +31,9 @@ pub fn touches(around: &Around, net: &mut Net, at: u32) -> Result<Gate, OutOfMem
     let marked = has(around, net, Flag::Touched, at);
     let exits = at_exit(around, net, marked)?;
     let known = errs_known(around, net)?;
-    let touched = gate_or_never(net, around.encoded.fates.touched.as_slice(), at);
+    let fates = &around.encoded.fates;
+    let noted = gate_or_never(net, fates.touched.as_slice(), at);
+    let touched = net.and(fates.stopped, noted)?;
     let errs = net.and(known, touched)?;
     let touches = net.or(exits, errs)?;
     Ok(touches)

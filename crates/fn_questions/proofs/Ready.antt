@@ -50,9 +50,13 @@ encoded_grows s p old new e g is =
       fates = record {
         over = omega (arith, is.fates.over, g.longer);
         bads = omega (arith, is.fates.bads, g.longer);
+        stopped = omega (arith, is.fates.stopped, g.longer);
         touched = omega (arith, is.fates.touched, g.longer);
+        noted = omega (arith, is.fates.noted, g.longer);
         each_bad = is.fates.each_bad;
         each_touched = is.fates.each_touched;
+        each_noted = is.fates.each_noted;
+        are_noted = record { holds = λ choice v runs. is.fates.are_noted.holds choice v (g.runs choice v runs) };
       };
       store = omega (arith, is.store, g.longer);
       kinds = is.kinds;

@@ -1,4 +1,4 @@
-use Rattle.std.proofs.Common.{◌&&◌, ◌||◌, if◌then◌else◌, nat_eq, length, refl, sym, ap, ◌∙◌, arith}
+use Rattle.std.proofs.Common.{◌&&◌, ◌||◌, if◌then◌else◌, nat_eq, refl, ap, ◌∙◌}
 use Rattle.bit_net.proofs.Growth.{Grown-refl, Grown-trans}
 use Rattle.gate_runs.specs.Stands.{told}
 use Rattle.flow_ends.proofs.Telling.{told_begin, told_step}

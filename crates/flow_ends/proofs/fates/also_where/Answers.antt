@@ -1,4 +1,4 @@
-use Rattle.std.proofs.Common.{◌≡◌, ℕ, Bool, ◌&&◌, ◌||◌, nat_eq, if◌then◌else◌, refl, sym, ap, ◌∙◌}
+use Rattle.std.proofs.Common.{◌&&◌, ◌||◌, ap, ◌∙◌}
 use Rattle.gate_runs.specs.Stands.{told}
 use Rattle.flow_ends.proofs.Telling.{put_at}
 use Rattle.flow_ends.proofs.fates.also_where.Goals as goal
