@@ -23,4 +23,4 @@ pub use marks::has;
 pub use numbers::{entry_number, is_state, number_is, state_before, state_now};
 pub use questions::{ends_at_text, sets, touches, writes};
 pub use results::{gives, gives_pointer, is_true};
-pub use rows::has_lock_row;
+pub use rows::{begins, has_lock_row};

@@ -14,7 +14,7 @@ ghost use Rattle.fn_facts.specs.Showing.{IsReady, IsTruth, ShowsAtExit};
 
 use crate::around::Around;
 use bit_net::{Gate, Net, OutOfMemory};
-use bit_words::is_number;
+use bit_words::is_zero;
 use gl_sets::{points, points_are_guards};
 use gl_store::Val;
 use sc_gather::{is_integer, is_pointer};
@@ -29,7 +29,7 @@ pub fn is_true(net: &mut Net, val: &Val) -> Result<Gate, OutOfMemory>
 {
     match val {
         Val::Word(word) => {
-            let zero = is_number(net, word.bits.as_slice(), 0)?;
+            let zero = is_zero(net, word)?;
             net.not(zero)
         }
         Val::Set(set) => {

@@ -19,8 +19,9 @@ use bit_net::{Gate, Net, OutOfMemory};
 use gl_sets::is_never;
 use sum_rows::{Gives, Row, State};
 
-// Holds where a row begins so: with these entry bits and from this state, no pointer on the path of the location being null.
-fn begins(
+/// Holds where a row of a location begins so: with these entry bits and from this state, no pointer on the path of the location being
+/// null. What the row gives, and its state afterwards, are not read.
+pub fn begins(
     around: &Around,
     net: &mut Net,
     given: &[Gate],
@@ -77,20 +78,19 @@ fn errs_so(around: &Around, net: &Net, at: u32, row: Row) -> Gate
     }
 }
 
-/// Holds where the run has that row of a location.
+/// Holds where the run has that row of a location. `begins` holds where the row begins so.
 pub fn has_lock_row(
     around: &Around,
     net: &mut Net,
-    given: &[Gate],
+    begins: Gate,
     at: u32,
     row: Row,
 ) -> Result<Gate, OutOfMemory>
     requires ready { IsReady around.now net.old }
-    requires given { ShowsNumber around.now net.old seen.given given.now }
+    requires begins { Shows around.now net.old (λ o. seen.begins o at row) begins.at }
     ensures grown { Grown net.old net.new }
     ensures ok { IfOk result (λ r. Shows around.now net.new (λ o. spec.has_lock_row o at row) r.at) }
 {
-    let begins = begins(around, net, given, at, row)?;
     if is_never(net, begins) {
         return Ok(begins);
     }

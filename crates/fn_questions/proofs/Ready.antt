@@ -1,6 +1,7 @@
 -- Questions that are asked.
-use Rattle.std.proofs.Common.{◌≡◌, ◌⊎◌, ℕ, ◌<◌, ◌≤◌, ◌^◌, nat_lt, Bool, true, false, ◌&&◌, ◌||◌, List, length, map, inl, inr, refl, sym, ◌∙◌, ap, subst, arith}
+use Rattle.std.proofs.Common.{◌≡◌, ◌⊎◌, ℕ, ◌<◌, ◌≤◌, ◌^◌, nat_eq, nat_lt, Bool, true, false, ◌&&◌, ◌||◌, List, length, map, Option, Some, None, tt, inl, inr, refl, sym, ◌∙◌, ap, subst, arith}
 use Rattle.std.specs.List.{list_all}
+use Rattle.std.specs.Prelude.{IfSome}
 use Rattle.std.proofs.lemmas.Bool.{ltb-true}
 use Rattle.std.proofs.lemmas.List.Folds.{list_all-map}
 use Rattle.bit_net.specs.declared.nodes.Node.{Node}
@@ -20,20 +21,26 @@ use Rattle.sc_world.specs.Layout.{Layout, location, location_of, or_zero}
 use Rattle.sc_world.specs.World.{bit_at}
 use Rattle.sc_world.specs.Exec.{run}
 use Rattle.sc_world.specs.Shows as shows
-use Rattle.sc_world.specs.Shows.{Query, exits, is_fate, has_out_row, has_param_row, param_object, says}
+use Rattle.sc_world.specs.Shows.{Over, Query, exits, is_fate, has_out_row, has_param_row, param_object, says}
 use Rattle.sc_world.specs.Verdict.{run_over}
 use Rattle.sum_rows.specs.declared.row.Row.{Row}
+use Rattle.sum_rows.specs.declared.row.State.TheVariants as state
 use Rattle.sc_world.specs.Known.{same_state}
 use Rattle.fn_facts.specs.declared.around.Around.{Around}
-use Rattle.fn_facts.specs.Seen.{given, is_given, over}
+use Rattle.fn_facts.specs.Seen.{begins, given, is_given, is_met, over, state_before}
 use Rattle.fn_facts.specs.Showing.{HasErrorsOf, IsReady, Shows, ShowsNumber}
-use Rattle.fn_facts.proofs.Growing.{number_grows, ready_grows}
+use Rattle.fn_facts.proofs.Growing.{number_grows, ready_grows, shows_grows}
 use Rattle.fn_walks.specs.Seen.{fate}
 use Rattle.fn_questions.specs.declared.facts.Facts.{Facts}
-use Rattle.fn_questions.specs.Asking.{AreFacts, IsReadyToAsk, errs_at_locations}
+use Rattle.fn_questions.specs.declared.facts.Begun.{Begun}
+use Rattle.fn_questions.specs.Asking.{AreFacts, IsReadyToAsk, ShowsBegin, errs_at_locations}
 use Rattle.fn_questions.specs.Seen.{out_fate, row_with}
 
 -- What is known stays while the net grows.
+
+begun_grows : (a : Around) (old new : List Node) (b : Option Begun) → Grown old new → IfSome b (ShowsBegin a old) → IfSome b (ShowsBegin a new)
+begun_grows a old new None g s = s
+begun_grows a old new (Some b) g s = shows_grows a old new (λ o. begins o b.at b.row) b.gate.at g s
 
 pub facts_grow : (old new : List Node) (f : Facts) → Grown old new → AreFacts old f → AreFacts new f
 facts_grow old new f g a =
@@ -41,6 +48,25 @@ facts_grow old new f g a =
       ready = ready_grows f.around old new g a.ready;
       objects = a.objects;
       given = number_grows f.around old new given f.given.bits.items g a.given;
+      begun = begun_grows f.around old new f.begun g a.begun;
+    }
+
+-- rows that begin alike
+begin_alike : (o : Over) (at : ℕ) (r s : Row) → r.given ≡ s.given → r.before ≡ s.before → begins o at r ≡ begins o at s
+unfolding begins
+begin_alike o at r s same_given same_before =
+    ap (λ n. is_met o at && (nat_eq n (given o) && same_state r.before (state.At (state_before o at)))) same_given
+    ∙ ap (λ x. is_met o at && (nat_eq s.given (given o) && same_state x (state.At (state_before o at)))) same_before
+
+pub begun_shown : (a : Around) (ns : List Node) (b : Begun) (at : ℕ) (row : Row) → b.at ≡ at → b.row.given ≡ row.given → b.row.before ≡ row.before
+    → ShowsBegin a ns b → Shows a ns (λ o. begins o at row) b.gate.at
+begun_shown a ns b at row there same_given same_before s =
+    record {
+      below = s.below;
+      value = λ bits v r w runs t.
+          s.value bits v r w runs t
+          ∙ ap (λ k. begins (over a bits r w) k b.row) there
+          ∙ begin_alike (over a bits r w) at b.row row same_given same_before;
     }
 
 encoded_grows : (s : Source) (p : Layout) (old new : List Node) (e : Encoded) → Grown old new → IsEncoded s p old e → IsEncoded s p new e
@@ -119,17 +145,25 @@ pub errs_so : (s : Source) (p : Layout) → ((bits : List Bool) → 0 < length p
     → ((bits : List Bool) → all_of_params s p ≡ true → IsErrorOf p (run s p bits).0) → errs_at_locations s p ≡ true → ErrsThere s p
 errs_so s p some none h = errs_by s p some none (one_of (nat_lt 0 (length p.locations)) (all_of_params s p) h)
 
+nothing_begun : (a : Around) (ns : List Node) (b : Option Begun) → b ≡ None → IfSome b (ShowsBegin a ns)
+nothing_begun a ns b none = subst (λ x. IfSome x (ShowsBegin a ns)) (sym none) tt
+
 pub new_ready : (f : Facts) (old new : List Node) → length f.around.here.places.now.locations.items < 2 ^ 32
     → (texts f.texts).layout ≡ (env f.around.here).layout
     → IsEncoded (env f.around.here).source (env f.around.here).layout old f.around.encoded.now → HasObjects (env f.around.here).layout
     → ErrsThere (env f.around.here).source (env f.around.here).layout
-    → Grown old new → ShowsNumber f.around new given f.given.bits.items → IsReadyToAsk new f
-new_ready f old new few same is objects errs grown number =
+    → Grown old new → ShowsNumber f.around new given f.given.bits.items → f.begun ≡ None → IsReadyToAsk new f
+new_ready f old new few same is objects errs grown number none =
     let s = (env f.around.here).source in
     let p = (env f.around.here).layout in
     let now = encoded_grows s p old new f.around.encoded.now grown is in
     record {
-      facts = record { ready = made_ready f.around new few now; objects = objects; given = number };
+      facts = record {
+        ready = made_ready f.around new few now;
+        objects = objects;
+        given = number;
+        begun = nothing_begun f.around new f.begun none;
+      };
       texts = same;
       encoded = now;
       errors = record { error = λ bits short. errs bits };

@@ -1,5 +1,5 @@
 -- When every question to the runs of a function may be asked.
-use Rattle.std.specs.Prelude.{◌≡◌, nat_lt, Bool, ◌||◌, List, length}
+use Rattle.std.specs.Prelude.{◌≡◌, nat_lt, Bool, ◌||◌, List, length, IfSome}
 use Rattle.bit_net.specs.declared.nodes.Node.{Node}
 use Rattle.flow_ends.specs.Encoded.{IsEncoded}
 use Rattle.location_texts.specs.Seen.{texts}
@@ -8,19 +8,26 @@ use Rattle.sc_world.specs.Source.{Source}
 use Rattle.sc_world.specs.Layout.{Layout}
 use Rattle.error_laws.specs.Errors.{all_of_params}
 use Rattle.walk_laws.specs.Objects.{HasObjects}
-use Rattle.fn_facts.specs.Seen.{given}
-use Rattle.fn_facts.specs.Showing.{HasErrorsOf, IsReady, ShowsNumber}
+use Rattle.fn_facts.specs.declared.around.Around.{Around}
+use Rattle.fn_facts.specs.Seen.{begins, given}
+use Rattle.fn_facts.specs.Showing.{HasErrorsOf, IsReady, Shows, ShowsNumber}
+use Rattle.fn_questions.specs.declared.facts.Begun.{Begun}
 use Rattle.fn_questions.specs.declared.facts.Facts.{Facts}
 
 -- there is a location, or no call acts by a summary with an item of a location that is reached from a global
 abbrev pub errs_at_locations : Source → Layout → Bool
 errs_at_locations s p = nat_lt 0 (length p.locations) || all_of_params s p
 
+-- the gate holds exactly where the row of the location begins so
+abbrev pub ShowsBegin : Around → List Node → Begun → Type 0
+ShowsBegin a ns b = Shows a ns (λ o. begins o b.at b.row) b.gate.at
+
 -- what was made of the runs is right in the net
 pub record AreFacts (ns : List Node) (f : Facts) : Type 0 where
   pub ready : IsReady f.around ns
   pub objects : HasObjects (env f.around.here).layout
   pub given : ShowsNumber f.around ns given f.given.bits.items
+  pub begun : IfSome f.begun (ShowsBegin f.around ns)
 
 -- The gates tell the runs of the function, texts are of its layout, and its runs end by errors at its locations alone. It stays so while the
 -- net grows.

@@ -1,20 +1,21 @@
 //! The gate of every question.
 
-ghost use Rattle.std.specs.Prelude.{IfOk};
+ghost use Rattle.std.specs.Prelude.{◌≡◌, IfOk};
 ghost use Rattle.bit_net.specs.Runs.{Grown};
 ghost use Rattle.flow_ends.specs.Encoded.{IsAnswer};
 ghost use Rattle.location_texts.specs.Seen as spelled;
 ghost use Rattle.run_questions.specs.Seen.{query};
 ghost use Rattle.run_world.specs.Seen.{env};
 ghost use Rattle.sc_world.specs.Shows as spec;
+ghost use Rattle.fn_facts.specs.Seen as seen;
 ghost use Rattle.fn_facts.specs.Showing.{Shows};
 ghost use Rattle.fn_questions.specs.Asking.{AreFacts, IsReadyToAsk};
 
-use crate::facts::Facts;
+use crate::facts::{Begun, Facts};
 use crate::kinds::{cell_from, result_from};
 use crate::rows::{Pointed, has_changed, has_exit_row, has_out_row, has_param_row};
 use bit_net::{Gate, Net, OutOfMemory};
-use fn_facts::{ends_at, ends_at_text, has_lock_row, param_object, sets, touches, writes};
+use fn_facts::{begins, ends_at, ends_at_text, has_lock_row, param_object, sets, touches, writes};
 use fn_walks::{escape_from, loses, loss_from, walked};
 use run_questions::Query;
 use sc_base::Pos;
@@ -32,14 +33,37 @@ impl<'p, 'm, 'f> Facts<'p, 'm, 'f> {
         Ok(exits)
     }
 
-    // Holds where the run has that row of a location.
-    fn locks(&self, net: &mut Net, at: u32, row: Row) -> Result<Gate, OutOfMemory>
-        requires facts { AreFacts net.old self.now }
+    // Holds where a row of a location begins so.
+    fn begins(&mut self, net: &mut Net, at: u32, row: Row) -> Result<Gate, OutOfMemory>
+        requires facts { AreFacts net.old self.old }
         ensures grown { Grown net.old net.new }
-        ensures ok { IfOk result (λ r. Shows self.now.around net.new (λ o. spec.says (spelled.texts self.now.texts) o (spec.Locks at row)) r.at) }
+        ensures facts { AreFacts net.new self.new }
+        ensures around { self.new.around ≡ self.old.around }
+        ensures texts { self.new.texts ≡ self.old.texts }
+        ensures ok { IfOk result (λ r. Shows self.old.around net.new (λ o. seen.begins o at row) r.at) }
     {
+        if let Some(begun) = self.begun
+            && begun.is_begin_of(at, row)
+        {
+            return Ok(begun.gate);
+        }
         let given = self.given.bits.as_slice();
-        let locks = has_lock_row(&self.around, net, given, at, row)?;
+        let gate = begins(&self.around, net, given, at, row)?;
+        self.begun = Some(Begun { at, row, gate });
+        Ok(gate)
+    }
+
+    // Holds where the run has that row of a location.
+    fn locks(&mut self, net: &mut Net, at: u32, row: Row) -> Result<Gate, OutOfMemory>
+        requires facts { AreFacts net.old self.old }
+        ensures grown { Grown net.old net.new }
+        ensures facts { AreFacts net.new self.new }
+        ensures around { self.new.around ≡ self.old.around }
+        ensures texts { self.new.texts ≡ self.old.texts }
+        ensures ok { IfOk result (λ r. Shows self.old.around net.new (λ o. spec.says (spelled.texts self.old.texts) o (spec.Locks at row)) r.at) }
+    {
+        let begins = self.begins(net, at, row)?;
+        let locks = has_lock_row(&self.around, net, begins, at, row)?;
         Ok(locks)
     }
 
@@ -93,34 +117,39 @@ impl<'p, 'm, 'f> Facts<'p, 'm, 'f> {
     }
 
     // Holds where the run answers yes.
-    fn says(&self, net: &mut Net, asked: Query) -> Result<Gate, OutOfMemory>
-        requires facts { AreFacts net.old self.now }
+    #[tactic(auto, using(crate::proofs::Ready::facts_grow))]
+    fn says(&mut self, net: &mut Net, asked: Query) -> Result<Gate, OutOfMemory>
+        requires facts { AreFacts net.old self.old }
         ensures grown { Grown net.old net.new }
-        ensures ok { IfOk result (λ r. Shows self.now.around net.new (λ o. spec.says (spelled.texts self.now.texts) o (query asked.entry)) r.at) }
+        ensures facts { AreFacts net.new self.new }
+        ensures around { self.new.around ≡ self.old.around }
+        ensures texts { self.new.texts ≡ self.old.texts }
+        ensures ok { IfOk result (λ r. Shows self.old.around net.new (λ o. spec.says (spelled.texts self.old.texts) o (query asked.entry)) r.at) }
     {
-        let around = &self.around;
         match asked {
             Query::Exits(row) => self.exits(net, row),
-            Query::Touches(at) => touches(around, net, at),
+            Query::Touches(at) => touches(&self.around, net, at),
             Query::Locks(at, row) => self.locks(net, at, row),
             Query::Changes(n) => self.changes(net, n),
             Query::Params(n, row) => self.params(net, n, row),
-            Query::Sets(n) => sets(around, net, n),
+            Query::Sets(n) => sets(&self.around, net, n),
             Query::Outs(n, row) => self.outs(net, n, row),
-            Query::Writes(at) => writes(around, net, at),
-            Query::EndsAt(at) => Ok(ends_at(around, net, at)),
-            Query::Errs(text) => ends_at_text(around, &self.texts, net, text),
+            Query::Writes(at) => writes(&self.around, net, at),
+            Query::EndsAt(at) => Ok(ends_at(&self.around, net, at)),
+            Query::Errs(text) => ends_at_text(&self.around, &self.texts, net, text),
             Query::Leaks(pos) => self.leaks(net, pos),
         }
     }
 
     /// The gate of a question: it holds for just those choices whose run answers yes. Any question may be asked after it, also where memory
     /// was refused.
-    pub fn question(&self, net: &mut Net, asked: Query) -> Result<Gate, OutOfMemory>
-        requires ready { IsReadyToAsk net.old self.now }
+    pub fn question(&mut self, net: &mut Net, asked: Query) -> Result<Gate, OutOfMemory>
+        requires ready { IsReadyToAsk net.old self.old }
         ensures grown { Grown net.old net.new }
-        ensures ready { IsReadyToAsk net.new self.now }
-        ensures ok { IfOk result (λ r. IsAnswer (env self.now.around.here).source (spelled.texts self.now.texts) net.new (query asked.entry) r.at) }
+        ensures ready { IsReadyToAsk net.new self.new }
+        ensures around { self.new.around ≡ self.old.around }
+        ensures texts { self.new.texts ≡ self.old.texts }
+        ensures ok { IfOk result (λ r. IsAnswer (env self.old.around.here).source (spelled.texts self.old.texts) net.new (query asked.entry) r.at) }
     {
         let says = self.says(net, asked)?;
         Ok(says)

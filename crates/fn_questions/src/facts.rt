@@ -1,6 +1,6 @@
 //! What is known of a function before questions are asked.
 
-ghost use Rattle.std.specs.Prelude.{◌≡◌, ◌<◌, ◌^◌, false, length, IfOk, IfSome, MatchOption};
+ghost use Rattle.std.specs.Prelude.{◌≡◌, ◌<◌, ◌^◌, false, length, IfOk, IfSome, IsTrue, MatchOption};
 ghost use Rattle.bit_net.specs.Runs.{Grown};
 ghost use Rattle.flow_ends.specs.Encoded.{IsEncoded};
 ghost use Rattle.location_texts.specs.Seen as spelled;
@@ -9,11 +9,32 @@ ghost use Rattle.walk_laws.specs.Objects.{HasObjects};
 ghost use Rattle.fn_questions.specs.Asking.{IsReadyToAsk, errs_at_locations as errs_there};
 
 use crate::erring::errs_at_locations;
-use bit_net::{Net, OutOfMemory};
+use bit_net::{Gate, Net, OutOfMemory};
 use bit_words::Word;
 use error_laws::errors_are_at_locations;
 use fn_facts::{Around, entry_number};
 use location_texts::Texts;
+use sum_rows::Row;
+
+/// How a row of a location begins, as a gate.
+#[derive(Clone, Copy, Debug)]
+pub struct Begun {
+    pub at: u32,
+    pub row: Row,
+    /// Holds where the row begins so.
+    pub gate: Gate,
+}
+
+impl Begun {
+    /// Whether a row of a location begins so.
+    pub fn is_begin_of(&self, at: u32, row: Row) -> bool
+        ensures at { IsTrue result → self.now.at ≡ at }
+        ensures given { IsTrue result → self.now.row.given ≡ row.given }
+        ensures before { IsTrue result → self.now.row.before ≡ row.before }
+    {
+        self.at == at && self.row.given == row.given && self.row.before == row.before
+    }
+}
 
 /// What is known of a function before questions are asked.
 #[derive(Drop)]
@@ -24,6 +45,8 @@ pub struct Facts<'p, 'm, 'f> {
     pub texts: Texts<'p, 'f>,
     /// The entry bits as a number.
     pub given: Word,
+    /// How the row of a location begins that was asked for last: rows that begin alike are asked for one after the other.
+    pub begun: Option<Begun>,
 }
 
 impl<'p, 'm, 'f> Facts<'p, 'm, 'f> {
@@ -52,6 +75,7 @@ impl<'p, 'm, 'f> Facts<'p, 'm, 'f> {
             around,
             texts,
             given,
+            begun: None,
         }))
     }
 }
