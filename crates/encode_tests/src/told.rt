@@ -102,14 +102,15 @@ fn are_touched(values: &[bool], touched: &[Gate], slots: &[Slot]) -> bool {
 // Whether no run ended before the function does, nor at a location.
 fn none_ended(values: &[bool], fates: &Fates) -> bool {
     holds(values, fates.over) == Some(false)
+        && holds(values, fates.stopped) == Some(false)
         && which_hold(values, fates.bads.as_slice()) == Some((0, 0))
-        && which_hold(values, fates.touched.as_slice()) == Some((0, 0))
 }
 
 // Whether the run ended by an error at that location and at no other.
 fn erred_at(values: &[bool], fates: &Fates, at: u32, slots: &[Slot]) -> bool {
     holds(values, fates.over) == Some(true)
         && which_hold(values, fates.bads.as_slice()) == Some((1, at as usize))
+        && holds(values, fates.stopped) == Some(true)
         && are_touched(values, fates.touched.as_slice(), slots)
 }
 

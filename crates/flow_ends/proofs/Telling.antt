@@ -46,7 +46,3 @@ put_at f k l x b e = by (nat_eq k l) refl
     by : (t : Bool) → nat_eq k l ≡ t → (if t then x else f l) ≡ (if t then (f l || b) else f l)
     by true is = e ∙ ap (λ j. f j || b) (eqb-true k l is)
     by false is = refl
-
-pub never_put : (t x now y : Bool) → now ≡ false → (if t then (x || (now && y)) else x) ≡ x
-never_put true x now y e = ap (λ b. x || (b && y)) e ∙ or_false x
-never_put false x now y e = refl
