@@ -1,6 +1,7 @@
 -- Nodes that make no step: what holds before each kind of them holds behind it.
 use Rattle.std.proofs.Common.{◌≡◌, ℕ, zero, suc, ◌+◌, ◌≤◌, nat_eq, Bool, true, false, not, ◌&&◌, ◌||◌, if◌then◌else◌, Option, Some, None, List, [], ◌∷◌, length, slice_get, refl, sym, ◌∙◌, ap, subst, arith}
 use Rattle.std.proofs.lemmas.Bool.{eq-eqb}
+use Rattle.bit_net.specs.declared.nodes.Gate.{Gate}
 use Rattle.bit_net.specs.declared.nodes.Node.{Node as Gates}
 use Rattle.bit_net.specs.Runs.{Runs, Grown, Gives, Always}
 use Rattle.gl_store.specs.declared.values.Val.{Val}
