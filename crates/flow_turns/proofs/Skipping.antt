@@ -1,5 +1,5 @@
 -- A node that drops a value of type `void`: a temp keeps it of which nothing is said, and all else stays.
-use Rattle.std.proofs.Common.{◌≡◌, ℕ, zero, suc, ◌+◌, nat_eq, Bool, true, false, not, ◌&&◌, ◌||◌, Some, List, [], ◌∷◌, length, slice_get, slice_index_or, refl, sym, ◌∙◌, ap, subst, arith}
+use Rattle.std.proofs.Common.{◌≡◌, ℕ, zero, suc, ◌+◌, nat_eq, Bool, true, false, ◌&&◌, ◌||◌, List, [], ◌∷◌, length, slice_get, slice_index_or, refl, sym, ◌∙◌, ap, subst}
 use Rattle.std.proofs.lemmas.Bool.{and_parts, ne_eqb, eqb-false, eqb-true}
 use Rattle.bit_net.specs.declared.nodes.Node.{Node as Gates}
 use Rattle.run_store.specs.Concrete.{Cell, Nothing}
@@ -8,15 +8,14 @@ use Rattle.sc_world.specs.Source.{Source}
 use Rattle.sc_world.specs.Layout.{Layout}
 use Rattle.sc_world.specs.World.{Run, ◌>>=◌, done, bit_at}
 use Rattle.sc_world.specs.Eval.{Want, Value, Place', convert}
-use Rattle.flow_graph.specs.Nodes.{Node, Keep, Kept, temp, slot, keep, with_at, reads, act}
-use Rattle.flow_graph.specs.Conditions.{Held, InTemp, InSlot, among, kept_by, onward}
-use Rattle.flow_graph.specs.Laws.{GoesOn, IsBehind}
-use Rattle.flow_types.specs.Kinds.{Kinds, ValueOf, FitsOver, IsFor}
+use Rattle.flow_graph.specs.Nodes.{Keep, Kept, temp, keep, with_at, reads, act}
+use Rattle.flow_graph.specs.Conditions.{Held, InTemp, InSlot, among}
+use Rattle.flow_types.specs.Kinds.{Kinds}
 use Rattle.flow_types.specs.Nodes.{NodeFits}
 use Rattle.flow_ways.specs.declared.ways.Ways.{Ways}
 use Rattle.flow_ways.specs.Held.{held, AreSplits}
 use Rattle.flow_ways.specs.Steps.{Comes}
-use Rattle.flow_stages.specs.Stage.{Choice, View, unread}
+use Rattle.flow_stages.specs.Stage.{unread}
 use Rattle.flow_stages.specs.Laws.{ends_now}
 use Rattle.flow_stages.proofs.ByKind.{step}
 use Rattle.flow_stages.proofs.OfNodes.{nodes_are_at, nodes_go_on_at, asked_before}
@@ -26,7 +25,7 @@ use Rattle.flow_turns.specs.declared.temps.Temps.{Temps}
 use Rattle.flow_turns.specs.Kept.{HasKept, HaveKept, is_for_void, val_at}
 use Rattle.gl_store.specs.Meets.{Meets}
 use Rattle.run_laws.specs.Fits.{IsPlaceOf}
-use Rattle.flow_turns.specs.Before.{IsHere, IsAt, GoesBy, drops, drops_value, seen, arrived}
+use Rattle.flow_turns.specs.Before.{IsHere, GoesBy, drops, drops_value, seen, arrived}
 use Rattle.flow_turns.proofs.Turning.{fits_at}
 
 void_is : (t : Ty) → is_void t ≡ true → t ≡ Void

@@ -1,5 +1,5 @@
 -- Questions that are asked.
-use Rattle.std.proofs.Common.{◌≡◌, ◌⊎◌, ℕ, ◌<◌, ◌≤◌, ◌^◌, nat_eq, nat_lt, Bool, true, false, ◌&&◌, ◌||◌, List, length, map, Option, Some, None, tt, inl, inr, refl, sym, ◌∙◌, ap, subst, arith}
+use Rattle.std.proofs.Common.{◌≡◌, ◌⊎◌, ℕ, ◌<◌, ◌≤◌, ◌^◌, nat_eq, nat_lt, Bool, true, false, ◌&&◌, ◌||◌, List, length, map, Option, Some, None, inl, inr, refl, sym, ◌∙◌, ap, subst, arith}
 use Rattle.std.specs.List.{list_all}
 use Rattle.std.specs.Prelude.{IfSome}
 use Rattle.std.proofs.lemmas.Bool.{ltb-true}
@@ -98,6 +98,19 @@ ready_to_ask_grows old new f g r =
       texts = r.texts;
       encoded = encoded_grows (env f.around.here).source (env f.around.here).layout old new f.around.encoded.now g r.encoded;
       errors = r.errors;
+    }
+
+-- the same of what was asked once more
+pub asked_on : (old new : List Node) (f f' : Facts) → Grown old new → IsReadyToAsk old f → AreFacts new f' → f'.around ≡ f.around → f'.texts ≡ f.texts
+    → IsReadyToAsk new f'
+asked_on old new f f' g r facts around spelled =
+    record {
+      facts = facts;
+      texts = ap (λ t. (texts t).layout) spelled ∙ (r.texts ∙ sym (ap (λ (a : Around). (env a.here).layout) around));
+      encoded =
+          subst (λ (a : Around). IsEncoded (env a.here).source (env a.here).layout new a.encoded.now) (sym around)
+          (encoded_grows (env f.around.here).source (env f.around.here).layout old new f.around.encoded.now g r.encoded);
+      errors = subst (λ (a : Around). HasErrorsOf (env a.here).source (env a.here).layout) (sym around) r.errors;
     }
 
 -- A gate that shows what runs answer is the answer.

@@ -1,4 +1,4 @@
-use Rattle.std.proofs.Common.{sym, ◌∙◌}
+use Rattle.std.proofs.Common.{refl, sym, ◌∙◌}
 use Rattle.run_world.specs.Seen.{env}
 use Rattle.fn_questions.proofs.Ready.{errs_so, new_ready}
 use Rattle.fn_questions.proofs.facts.Facts.new.Goals as goal
@@ -13,4 +13,4 @@ returns-clause-ok c =
     new_ready _ _ _ c.requires.few c.requires.texts c.requires.encoded c.requires.objects
     (errs_so s p (c.errors_are_at_locations.ensures.some s p) (c.errors_are_at_locations.ensures.none s p)
     (sym c.errs_at_locations.ensures ∙ c.if-not-errs_at_locations.false))
-    c.in_ok-given.ensures.grown c.in_ok-given.ensures.ok
+    c.in_ok-given.ensures.grown c.in_ok-given.ensures.ok refl
