@@ -10,7 +10,11 @@ mod beside;
 #[cfg(test)]
 mod calls;
 #[cfg(test)]
+mod expressions;
+#[cfg(test)]
 mod generated;
+#[cfg(test)]
+mod machines;
 #[cfg(test)]
 mod programs;
 #[cfg(test)]
@@ -21,3 +25,5 @@ mod setting;
 mod statements;
 #[cfg(test)]
 mod told;
+#[cfg(test)]
+mod worked;
