@@ -85,18 +85,22 @@ fn draw_all(numbers: &mut Numbers, net: &mut Net) -> Result<(), OutOfMemory>
     Ok(())
 }
 
-/// Whether both gates hold for a choice.
-fn hold(alloc: Global, net: &Net, gates: [Gate; 2], choice: &[bool]) -> Result<bool, OutOfMemory>
+/// Whether all these gates hold for a choice.
+fn hold(alloc: Global, net: &Net, gates: &[Gate], choice: &[bool]) -> Result<bool, OutOfMemory>
     requires inputs { length choice.now ≡ input_count net.now }
 {
     let mut values = vec![in alloc; false; net.len()]?;
     net.values_into(choice, &mut values);
-    let [first, second] = gates;
-    Ok(values.get(first.at).copied() == Some(true) && values.get(second.at).copied() == Some(true))
+    for gate in gates {
+        if values.get(gate.at).copied() != Some(true) {
+            return Ok(false);
+        }
+    }
+    Ok(true)
 }
 
-/// The first choice for which both gates hold, by trying all in order.
-fn first_tried(alloc: Global, net: &Net, gates: [Gate; 2]) -> Result<Option<Vec<bool>>, OutOfMemory>
+/// The first choice for which all these gates hold, by trying all in order.
+fn first_tried(alloc: Global, net: &Net, gates: &[Gate]) -> Result<Option<Vec<bool>>, OutOfMemory>
     requires inputs { input_count net.now ≡ 8 }
 {
     let mut choice = vec![in alloc; false; INPUTS]?;
@@ -132,7 +136,7 @@ fn asked(
     let gates = [any_gate(numbers, net), any_gate(numbers, net)];
     let found = questions.first(net, &gates)?;
     let holds = questions.some(net, &gates)?;
-    let tried = first_tried(alloc, net, gates)?;
+    let tried = first_tried(alloc, net, &gates)?;
     if are_same(&found, &tried) && holds == tried.is_some() {
         Ok(Some(holds))
     } else {
