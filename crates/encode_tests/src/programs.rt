@@ -30,6 +30,12 @@ pub struct Row {
     pub errors: [u64; 3],
 }
 
+/// Programs over a machine of states that a text spells.
+pub struct Machined {
+    pub spelled: &'static str,
+    pub rows: &'static [Row],
+}
+
 // The verdicts of kept callees.
 fn verdicts_of(alloc: Global, kept: &[u32], done: &[Verdict]) -> Option<Vec<Verdict>> {
     let mut verdicts = Vec::new(alloc);
@@ -164,5 +170,12 @@ fn holds(alloc: Global, spelled: &str, row: &Row) -> bool {
 pub fn all_hold(rt: &impl Abort, alloc: Global, spelled: &str, rows: &[Row]) {
     for row in rows {
         assert!(rt; holds(alloc, spelled, row), "{}", row.text);
+    }
+}
+
+/// The same of programs over machines of their own.
+pub fn all_hold_over(rt: &impl Abort, alloc: Global, machines: &[Machined]) {
+    for over in machines {
+        all_hold(rt, alloc, over.spelled, over.rows);
     }
 }

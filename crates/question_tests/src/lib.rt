@@ -2,3 +2,5 @@
 #![tactic(auto)]
 
 mod asked;
+#[cfg(test)]
+mod first_choices;
