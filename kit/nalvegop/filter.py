@@ -8,17 +8,15 @@ given with the reason.
 
 from __future__ import annotations
 
-from bisect import bisect_right
 from collections.abc import Callable, Iterable
 from dataclasses import dataclass, field
 from functools import cached_property
-from itertools import accumulate
 
 from .counted import OFFSET, CountedPointers
 from .segments import KEYWORDS, Segment, Unit
 from .shadows import Shadow, Shadows, other_name
 from .statics import Static, Statics
-from .tokens import Sheet, Token, tokens_of
+from .tokens import LineIndex, Sheet, Token, tokens_of
 from .verdicts import At
 
 _ASM = {"asm", "__asm", "__asm__"}
@@ -65,7 +63,7 @@ class Filter:
         self.tokens = [*tokens_of(text)]
         self.unit = Unit(self.tokens)
         self.partner = self.unit.partner
-        self._lines = _LineIndex(text)
+        self._lines = LineIndex(text)
         self._is_own = is_own
         self.counts: dict[str, int] = {}
         self._renamed: dict[str, str] = {}
@@ -551,18 +549,3 @@ def _with_tails(text: str, tails: dict[int, list[str]]) -> str:
     for line, more in tails.items():
         lines[line - 1] = " ".join([lines[line - 1], *more])
     return "\n".join(lines)
-
-
-class _LineIndex:
-    """The line of a place in a text."""
-
-    def __init__(self, text: str) -> None:
-        lengths = [len(it) + 1 for it in text.split("\n")]
-        self._starts = [0, *accumulate(lengths)]
-
-    def line(self, at: int) -> int:
-        return bisect_right(self._starts, at)
-
-    def at(self, at: int) -> At:
-        line = self.line(at)
-        return At(line, at - self._starts[line - 1] + 1)
