@@ -11,11 +11,12 @@ from functools import cached_property
 from .checker import Checker, NotChecked, OutOfMemory, OutOfTime
 from .compilations import Compilation
 from .filter import MODEL_HEAD, PART, Filter, Filtered
-from .findings import Finding, Step, Teller, one_of_each_array
+from .findings import OBJECT, Finding, Step, Teller, one_of_each_array
 from .leaks import Leaks
 from .lines import LineMap, Place, SourceFiles
 from .machines import operations
 from .noise import Comments
+from .observed import Observers, Values
 from .preprocess import Models, NotPreprocessed, fitting_models, preprocessed, width_model
 from .reasons import Reason, words_of
 from .segments import Segment
@@ -32,7 +33,7 @@ _EFFECTS = _ON_LOCKS | {*"malloc calloc kmalloc kzalloc free kfree".split()}
 _CONTAINER = "container_of gives another object each time"
 _COUNTED = "arithmetic on a pointer gives another object each time"
 _OFFSET = "the number that offsetof gives is not known"
-_UNSURE = {"nalvegop_object": _CONTAINER, "nalvegop_entry": "which entries a list has is not known"}
+_UNSURE = {OBJECT: _CONTAINER, "nalvegop_entry": "which entries a list has is not known"}
 
 
 @dataclass(frozen=True)
@@ -77,6 +78,9 @@ class FileCheck:
         self.files = SourceFiles(it.folder)
         self.result = FileResult(shown(it.folder, it.file))
         self.end = time.monotonic() + options.seconds
+        # Of functions that were checked for themselves: what was unknown then.
+        self._unknown_to: dict[str, set[str]] = {}
+        self._observed: dict[str, tuple[Observers, Function] | None] = {}
 
     def run(self) -> FileResult:
         try:
@@ -150,6 +154,7 @@ class FileCheck:
             self.result.without_calls[name] = sorted(it.removeprefix(MODEL_HEAD) for it in lost)
         if not whole:
             unknown.add(name)
+        self._unknown_to[name] = {*unknown} if whole and whole is not alone else called
         return whole or alone
 
     def _answer(self, name: str, unknown: set[str], waiting: int) -> Verdicts | None:
@@ -157,11 +162,38 @@ class FileCheck:
         where there are none in its time or memory."""
         if time.monotonic() >= self.end:
             return None
+        return self._checked(self._one_by_one.run(only=[name], without=unknown).text, waiting)
+
+    def _checked(self, text: str, waiting: int) -> Verdicts | None:
         try:
-            text = self._one_by_one.run(only=[name], without=unknown).text
             return self.options.checker.check(text, self.model, self._share(waiting), self.renamed)
         except (OutOfTime, OutOfMemory):
             return None
+
+    def _values(self, function: Function, report: Report) -> list[Values]:
+        """Returns what each run of a report begins with and what its calls give, as far as that can be told."""
+        if function.name not in self._observed:
+            self._observed[function.name] = self._look(function.name)
+        found = self._observed[function.name]
+        seen = next((it for it in found[1].reports if (it.kind, it.about, it.at) == (report.kind, report.about, report.at)), None) if found else None
+        if not found or not seen or len(seen.runs) != len(report.runs):
+            return [Values() for _ in report.runs]
+        return [found[0].values(run, other) or Values() for run, other in zip(report.runs, seen.runs)]
+
+    def _look(self, name: str) -> tuple[Observers, Function] | None:
+        """Checks a function with statements in it that tell values; None where there is no answer."""
+        for with_numbers in (True, False):
+            if time.monotonic() >= self.end:
+                return None
+            observers = Observers(self._one_by_one.run(only=[name], without=self._unknown_to.get(name, ())).text, name, with_numbers)
+            try:
+                verdicts = self._checked(observers.text, 1)
+            except (NotChecked, NotVerdicts):
+                return None
+            found = next((it for it in verdicts.functions if it.name == name and not it.skip), None) if verdicts else None
+            if found:
+                return observers, found
+        return None
 
     def _with_unknown(self, name: str, unknown: set[str]) -> Function | None:
         """Returns what is known of one function where those in `unknown` are so, or None where there is no answer."""
@@ -238,7 +270,7 @@ class FileCheck:
     def _finding(self, teller: Teller, function: Function, report: Report, lost: Mapping[str, frozenset[str]], doubts: list[str]) -> Finding:
         """Tells a report. One on a lock may be false where a call on its path may lock or unlock, and is not followed; a
         leak where one may have freed the memory."""
-        made = teller.finding(function, report)
+        made = teller.finding(function, report, self._values(function, report))
         if doubts:
             made.marks.append(f"{' or '.join(map(repr, doubts))} may have freed it or given it away")
         calls = {it.word for run in report.runs for it in run.events if it.kind == "call"}

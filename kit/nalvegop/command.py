@@ -8,8 +8,8 @@ import io
 import json
 import os
 import sys
-from collections.abc import Iterable, Iterator
-from typing import NoReturn, TextIO
+from collections.abc import Callable, Iterable, Iterator
+from typing import NoReturn
 
 from . import VERSION
 from .check import FileResult, Options, check_file
@@ -101,16 +101,15 @@ def _common(it: argparse.ArgumentParser) -> None:
     it.add_argument("--unproved", action="store_true", help="compile saturn_check from its sources, once, and prove nothing")
 
 
-def _number(low: int, high: int) -> "type[int]":
-    class Number(int):
-        def __new__(cls, word: str) -> "Number":
-            value = int(word)
-            if not low <= value <= high:
-                raise argparse.ArgumentTypeError(f"it is a number from {low} to {high}")
-            return super().__new__(cls, value)
+def _number(low: int, high: int) -> Callable[[str], int]:
+    """Returns what reads a number from one to another one."""
 
-    Number.__name__ = "number"
-    return Number
+    def read(word: str) -> int:
+        if not word.isdecimal() or not low <= int(word) <= high:
+            raise argparse.ArgumentTypeError(f"{word!r} is no number from {low} to {high}")
+        return int(word)
+
+    return read
 
 
 class Trouble(Exception):
@@ -349,7 +348,7 @@ def _explain_number(number: int, source: str | None) -> int:
         raise Trouble(f"{source}: {getattr(error, 'strerror', None) or error!r}", Status.NOT_ALL) from error
     if not 0 < number <= len(stories):
         raise Trouble(f"{source} has {len(stories)} findings", Status.WORDS)
-    _print(iter(stories[number - 1]))
+    _print(stories[number - 1])
     return Status.FOUND
 
 
@@ -362,6 +361,6 @@ def _rows(it: argparse.Namespace, flags: list[str]) -> int:
     return Status.CLEAN
 
 
-def _print(lines: Iterator[str], out: TextIO | None = None) -> None:
+def _print(lines: Iterable[str]) -> None:
     for line in lines:
-        print(line, file=out or sys.stdout)
+        print(line)

@@ -8,17 +8,18 @@ given with the reason.
 
 from __future__ import annotations
 
-from bisect import bisect_right
+from collections import Counter
 from collections.abc import Callable, Iterable
 from dataclasses import dataclass, field
 from functools import cached_property
-from itertools import accumulate
 
+from .block_types import BlockType, BlockTypes
 from .counted import OFFSET, CountedPointers
+from .old_parameters import OldParameters
 from .segments import KEYWORDS, Segment, Unit
 from .shadows import Shadow, Shadows, other_name
 from .statics import Static, Statics
-from .tokens import Sheet, Token, tokens_of
+from .tokens import LineIndex, Sheet, Token, tokens_of
 from .verdicts import At
 
 _ASM = {"asm", "__asm", "__asm__"}
@@ -65,7 +66,7 @@ class Filter:
         self.tokens = [*tokens_of(text)]
         self.unit = Unit(self.tokens)
         self.partner = self.unit.partner
-        self._lines = _LineIndex(text)
+        self._lines = LineIndex(text)
         self._is_own = is_own
         self.counts: dict[str, int] = {}
         self._renamed: dict[str, str] = {}
@@ -74,6 +75,8 @@ class Filter:
         self._static_names: dict[str, str] = {}
         self._static_at: dict[int, str] = {}
         self._tails: dict[int, list[str]] = {}
+        # The tags that types of bodies get, by the token of the brace.
+        self._tags_at: dict[int, str] = {}
         # (it is declared by the models; without them there is none)
         self._has_part = {PART, NUMBER} <= frozenset[str]().union(*(it.declares for it in self.unit.segments))
         self._shadows = Shadows(self.tokens, self.partner, self.unit.typedefs())
@@ -169,6 +172,7 @@ class Filter:
             return
         self._words(segment.first, segment.end)
         self._rename_shadows(segment)
+        self._block_types(segment)
         self._static_locals(segment)
         if self._has_part:
             self._offsets(segment, self._counted_pointers(segment))
@@ -216,14 +220,59 @@ class Filter:
                 self._put(self.tokens[at], self._renamed[shadow.name])
             self._count("names")
 
+    def _block_types(self, segment: Segment) -> None:
+        """Declares a type of the body before the function. In its place stays what it is the type of, if there is something."""
+        if not self._has_room_before(segment):
+            return
+        types = BlockTypes(self.tokens, self.partner)
+        found = [*types.of(*segment.body)]
+        declared, left = Counter(name for it in found for name in it.names), set[str]()
+        for it in found:
+            words = {token.text for token in self.tokens[it.first : it.end]}
+            tag = self.tokens[it.tag].text if it.tag is not None else "" if it.is_typedef else self._tag_in_place(it)
+            if tag is None or words & left or any(declared[name] > 1 or not self._stands_only_in(segment, name) for name in it.names):
+                left |= it.names
+                continue
+            self._tails.setdefault(self._line(segment.first - 1), []).append(types.text(it, tag))
+            is_alone = it.is_typedef or it.closing + 2 == it.end
+            self._blank(it.first if is_alone else it.opening, it.end if is_alone else it.closing + 1)
+            if not is_alone and it.tag is None:
+                self._put(self.tokens[it.opening], tag)
+            self._count("types")
+
+    def _stands_only_in(self, segment: Segment, name: str) -> bool:
+        first, last = self._first_and_last[name]
+        return segment.first <= first and last < segment.end
+
+    def _tag_in_place(self, it: BlockType) -> str | None:
+        """Returns a tag for a type without one, of one letter: it stands in place of the brace. None where there is none."""
+        if it.opening in self._tags_at or self.tokens[it.head].end == self.tokens[it.opening].start:
+            return self._tags_at.get(it.opening)
+        tag = other_name("{", self._taken | {*self._renamed.values(), *self._static_names, *self._tags_at.values()})
+        if tag:
+            self._tags_at[it.opening] = tag
+        return tag
+
+    @cached_property
+    def _first_and_last(self) -> dict[str, tuple[int, int]]:
+        """The first and the last token with each name."""
+        found: dict[str, tuple[int, int]] = {}
+        for at, it in enumerate(self.tokens):
+            if it.is_word:
+                found[it.text] = found.get(it.text, (at,))[0], at
+        return found
+
+    def _has_room_before(self, segment: Segment) -> bool:
+        """Returns whether a line ends between what stands before a function and the function: more can stand there."""
+        return segment.first > 0 and self._line(segment.first - 1) < self._line(segment.first)
+
     def _static_locals(self, segment: Segment) -> None:
         """Declares a static variable before the function, under another name; of a constant number goes the word alone."""
         brace, end = segment.body
         for it in self._statics.of(brace, end):
             if self._statics.is_constant(it):
                 self._blank(it.first, it.first + 1)
-            elif segment.first and self._line(segment.first - 1) < self._line(segment.first):
-                # (a line ends before the function, and there is room behind it)
+            elif self._has_room_before(segment):
                 self._declare_before(segment, it)
 
     def _declare_before(self, segment: Segment, it: Static) -> None:
@@ -394,28 +443,22 @@ class Filter:
         return False
 
     def _old_parameters(self, segment: Segment) -> None:
-        """`int f(a, b) int a; char *b; {` becomes `int f(      int a, char *b) {`, where the order is the same."""
+        """`int f(a, b) int a; char *b; {` becomes `int f(      int a, char *b) {`, where the order is the same. Else the list is
+        written anew behind the line in which the old one ends."""
+        old = OldParameters.read(self.tokens, self.partner, segment)
+        if not old:
+            return
         opening, closing = segment.parameters
-        brace = segment.body[0]
-        if self.tokens[brace - 1].text != ";" or closing < 0:
+        if old.is_in_order:
+            self._blank(opening + 1, closing + 1)
+            for at in old.ends:
+                self._put(self.tokens[at], ")" if at == old.ends[-1] else ",")
+        elif self._line(closing) < self._line(segment.body[0]) and not {*old.names} & self.unit.typedefs():
+            self._blank(opening, segment.body[0])
+            self._tails.setdefault(self._line(closing), []).append(old.text())
+        else:
             return
-        names = [it.text for it in self.tokens[opening + 1 : closing] if it.is_word]
-        ends = [i for i in range(closing + 1, brace) if self.tokens[i].text == ";" and self._is_outside(i, closing + 1)]
-        declared = [self.tokens[i - 1].text if self.tokens[i - 1].text != "]" else self._named_array(i - 1) for i in ends]
-        if declared != names:
-            return
-        self._blank(opening + 1, closing + 1)
-        for i in ends:
-            self._put(self.tokens[i], ")" if i == ends[-1] else ",")
         self._count("knr")
-
-    def _is_outside(self, at: int, first: int) -> bool:
-        return not any(self.partner[i] > at for i in range(first, at) if self.tokens[i].text in ("(", "[", "{"))
-
-    def _named_array(self, at: int) -> str:
-        while self.tokens[at].text == "]":
-            at = self.partner[at] - 1
-        return self.tokens[at].text
 
     def _asm_statements(self, first: int, end: int) -> None:
         """Blanks `asm(..);` without outputs: no value of the run comes from it. What it does to memory is lost."""
@@ -551,18 +594,3 @@ def _with_tails(text: str, tails: dict[int, list[str]]) -> str:
     for line, more in tails.items():
         lines[line - 1] = " ".join([lines[line - 1], *more])
     return "\n".join(lines)
-
-
-class _LineIndex:
-    """The line of a place in a text."""
-
-    def __init__(self, text: str) -> None:
-        lengths = [len(it) + 1 for it in text.split("\n")]
-        self._starts = [0, *accumulate(lengths)]
-
-    def line(self, at: int) -> int:
-        return bisect_right(self._starts, at)
-
-    def at(self, at: int) -> At:
-        line = self.line(at)
-        return At(line, at - self._starts[line - 1] + 1)

@@ -5,10 +5,12 @@ from __future__ import annotations
 import hashlib
 import re
 from collections import Counter
+from collections.abc import Sequence
 from dataclasses import dataclass, field
 
 from .filter import NUMBER, PART
 from .lines import LineMap, Place, SourceFiles, decoded
+from .observed import Values
 from .preprocess import model_names
 from .segments import KEYWORDS
 from .tokens import OPENING, partners, tokens_of
@@ -20,8 +22,8 @@ KINDS = {
     "inner": "an operation on a lock that callers do not know is an error, for example of a local one",
     "leak": "memory that was allocated is neither freed, nor given to anyone, when the function ends",
 }
-# The object that models/linux.h gives to operations without an argument.
-PROCESSOR = "nalvegop_cpu"
+# The object that models/linux.h gives to operations without an argument, and what there stands for container_of.
+PROCESSOR, OBJECT = "nalvegop_cpu", "nalvegop_object"
 _LOCKS = {"spin_lock", "mutex_lock", "pthread_mutex_lock"}
 _UNLOCKS = {"spin_unlock", "mutex_unlock", "pthread_mutex_unlock"}
 
@@ -36,11 +38,13 @@ class Step:
 
 @dataclass
 class Path:
-    """A run that shows a finding; `head` says how it differs from the others, where there are several."""
+    """A run that shows a finding. `head` says how it differs from the others, where there are several, and with which values
+    it begins: of those, `entry` has what conditions on the path test."""
 
     head: str
     steps: list[Step]
     choice: str
+    entry: dict[str, str] = field(default_factory=dict)
 
 
 @dataclass
@@ -97,8 +101,9 @@ class Teller:
     def place(self, at: At) -> Place:
         return self.map.place(at.line, at.column)
 
-    def finding(self, function: Function, report: Report) -> Finding:
-        paths = [self._path(function, report, run, number) for number, run in enumerate(report.runs)]
+    def finding(self, function: Function, report: Report, values: Sequence[Values]) -> Finding:
+        """Tells a report; `values`: what is known of each of its runs."""
+        paths = [self._path(function, report, number, values[number]) for number in range(len(report.runs))]
         place = self._main_place(function, report)
         made = Finding(report.kind, function.name, place, self._message(function, report), paths)
         made.known_by, made.about = self._known_by(function, report), report.about
@@ -242,19 +247,37 @@ class Teller:
 
     # ---- paths
 
-    def _path(self, function: Function, report: Report, run: Run, number: int) -> Path:
-        # (what the filter puts in place of a pointer or of a number is no call of the source's)
-        shown = [it for it in run.events if it.kind != "call" or self._called(it) not in (PART, NUMBER)]
-        steps = [Step(self.place(it.at), self._step(function, report, run, it)) for it in shown]
-        head = ""
+    def _path(self, function: Function, report: Report, number: int, values: Values) -> Path:
+        run = report.runs[number]
+        steps = list[Step]()
+        for at, it in enumerate(run.events):
+            # (what the filter puts in place of a pointer or of a number is no call of the source's)
+            if it.kind != "call" or self._called(it) not in (PART, NUMBER):
+                gave = _gives(values.gave[at]) if at in values.gave and it.word not in (PART, OBJECT) else ""
+                steps.append(Step(self.place(it.at), self._step(function, report, run, it) + gave))
+        entry = self._tested(run, values)
+        return Path(self._head(function, report, number, entry), steps, run.choice, entry)
+
+    def _head(self, function: Function, report: Report, number: int, entry: dict[str, str]) -> str:
+        """Says how a run differs from the others of its report, and with what it begins."""
+        begins = [f"'{name}' is {value}" for name, value in entry.items()]
         if report.kind == "double" and len(report.runs) > 1:
             rows = self._double_rows(function, report)
             state = rows[number].before if number < len(rows) else None
-            head = f"if {self._named(report.about)} is {_state(state)} at entry"
+            return f"if {_listed([f'{self._named(report.about)} is {_state(state)}', *begins])} at entry"
+        where = f"where {_listed(begins)} at entry" if begins else ""
         if report.kind == "ambiguous":
             rows = self._ambiguous_rows(function, report)
             head = f"a run that leaves it {_state(rows[number].after)}" if len(rows) > number else f"run {number + 1}"
-        return Path(head, steps, run.choice)
+            return f"{head}, {where}" if where else head
+        return f"a run {where}" if where else ""
+
+    def _tested(self, run: Run, values: Values) -> dict[str, str]:
+        """Returns the values at entry of what conditions on the path test."""
+        texts = [re.sub(r"\s", "", self._condition_text(it.at)) for it in run.events if it.kind in ("if", "loop", "switch")]
+        # (`*p` tests what p points to, and not p)
+        tests = {name: re.compile(rf"(?<![\w.>])(?<!^\*)(?<![^\w)\]]\*){re.escape(name)}(?![\w.]|->)") for name in values.entry}
+        return {name: value for name, value in values.entry.items() if any(tests[name].search(it) for it in texts)}
 
     def _step(self, function: Function, report: Report, run: Run, it: Event) -> str:
         if it.kind == "call":
@@ -314,6 +337,15 @@ def _rows_about(function: Function, report: Report) -> list[Row]:
 
 def _state(name: str | None) -> str:
     return {"U": "unlocked", "L": "locked", None: "unknown"}.get(name, f"'{name}'")
+
+
+def _gives(value: str) -> str:
+    """Returns the end of a step: what a call gives."""
+    return f" and does not give {value.removeprefix('not ')}" if value.startswith("not ") else f" and gives {value}"
+
+
+def _listed(texts: list[str]) -> str:
+    return " and ".join([", ".join(texts[:-1]), texts[-1]] if len(texts) > 1 else texts)
 
 
 def _quoted(name: str) -> str:

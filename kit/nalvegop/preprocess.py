@@ -105,7 +105,8 @@ def _widths(compiler: str, flags: tuple[str, ...], folder: str) -> tuple[str, st
 
 def width_model(it: Compilation) -> str:
     """Returns `lp64` or `ilp32`, whichever has the widths of long and of pointers with which the file is compiled."""
-    flags = tuple(word for word in it.flags if word.startswith("-m") or word.startswith("--target") or word == "-target")
+    # (gcc takes some of -m only with one of -f: -mcmodel=kernel wants -fno-pie)
+    flags = tuple(word for word in it.flags if word.startswith(("-m", "-f", "--target")) or word == "-target")
     flags = it.flags if "-target" in flags else flags
     widths = _widths(it.compiler, flags, it.folder)
     if widths == ("4", "4"):

@@ -57,7 +57,7 @@ class Ending:
 ENDING = Ending()
 
 
-def ran(words: Sequence[str], folder: str, seconds: float) -> "subprocess.CompletedProcess[bytes]":
+def ran(words: Sequence[str], folder: str, seconds: float) -> subprocess.CompletedProcess[bytes]:
     """Runs a program in a folder. subprocess.TimeoutExpired where it has not ended after so many seconds."""
     with ENDING.put_off():
         with subprocess.Popen(words, cwd=folder, stdin=subprocess.DEVNULL, stdout=subprocess.PIPE, stderr=subprocess.PIPE, start_new_session=True) as it:

@@ -5,7 +5,7 @@ from __future__ import annotations
 from typing import Any
 
 from .check import FileResult
-from .findings import Finding
+from .findings import Finding, Path
 from .lines import Place
 from .reasons import Reason
 from .rows import story
@@ -35,7 +35,6 @@ def _passed_over(name: str, why: Reason) -> dict[str, Any]:
 
 
 def _finding(it: Finding, result: FileResult) -> dict[str, Any]:
-    paths = [{"head": path.head, "choice": path.choice, "steps": [{**_place(step.place), "text": step.text} for step in path.steps]} for path in it.paths]
     return {
         "kind": it.kind,
         "function": it.function,
@@ -43,9 +42,14 @@ def _finding(it: Finding, result: FileResult) -> dict[str, Any]:
         "message": it.message,
         "unsure": it.marks,
         "known_by": it.known_by,
-        "paths": paths,
+        "paths": [_path(path) for path in it.paths],
         "story": [*story(it, result)],
     }
+
+
+def _path(it: Path) -> dict[str, Any]:
+    steps = [{**_place(step.place), "text": step.text} for step in it.steps]
+    return {"head": it.head, "entry": it.entry, "choice": it.choice, "steps": steps}
 
 
 def _place(it: Place) -> dict[str, Any]:

@@ -63,7 +63,8 @@ class _Log:
         steps = [
             {"location": {**self._location(step.place), "message": {"text": step.text}}, "executionOrder": number} for number, step in enumerate(path.steps, 1)
         ]
-        flow: dict[str, Any] = {"threadFlows": [{"locations": steps}]}
+        begins = {name: {"text": value} for name, value in path.entry.items()}
+        flow: dict[str, Any] = {"threadFlows": [{**({"initialState": begins} if begins else {}), "locations": steps}]}
         return {"message": {"text": path.head}, **flow} if path.head else flow
 
     def _location(self, place: Place) -> dict[str, Any]:

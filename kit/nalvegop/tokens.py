@@ -3,8 +3,12 @@
 from __future__ import annotations
 
 import re
+from bisect import bisect_right
 from collections.abc import Iterator, Sequence
+from itertools import accumulate
 from typing import NamedTuple
+
+from .verdicts import At
 
 _PARTS = r"""
     | [ \t\v\f\r]+ | \n+ | \\\r?\n
@@ -71,6 +75,21 @@ def partners(tokens: Sequence[Token]) -> list[int]:
             found[at] = open_ones.pop()
             found[found[at]] = at
     return found
+
+
+class LineIndex:
+    """The lines and columns of a text's bytes."""
+
+    def __init__(self, text: str) -> None:
+        lengths = [len(it) + 1 for it in text.split("\n")]
+        self._starts = [0, *accumulate(lengths)]
+
+    def line(self, at: int) -> int:
+        return bisect_right(self._starts, at)
+
+    def at(self, at: int) -> At:
+        line = self.line(at)
+        return At(line, at - self._starts[line - 1] + 1)
 
 
 class Sheet:

@@ -1,8 +1,7 @@
 """What a check says, as data, whichever way it came: from the exact text of `saturn_check`, or from its JSON.
 
-The text has all rows, reports and events. It does not have: the values at entry that a choice stands for, what each
-call gave, the types of parameters, and places in the source. `Function.asides` and `Run.says` are None where they are
-not known, and nothing is made up for them.
+Both have all rows, reports and events. Neither has the values that a run begins with, what its calls gave, or why runs
+were set aside; `observed` asks for values.
 """
 
 from __future__ import annotations
@@ -59,7 +58,6 @@ class Event:
     at: At
     kind: str
     word: str = ""
-    gave: Any = None
 
     @property
     def holds(self) -> bool:
@@ -72,7 +70,6 @@ class Run:
 
     choice: str
     events: list[Event]
-    says: list[Any] | None = None
 
 
 @dataclass(frozen=True)
@@ -248,7 +245,7 @@ def _json_row(row: dict[str, Any]) -> Row:
 
 
 def _json_event(it: dict[str, Any], location: str) -> Event:
-    return Event(_json_at(it["place"]), it["kind"], _json_word(it, location), it.get("gave"))
+    return Event(_json_at(it["place"]), it["kind"], _json_word(it, location))
 
 
 def _json_word(it: dict[str, Any], location: str) -> str:
@@ -268,6 +265,6 @@ def _json_word(it: dict[str, Any], location: str) -> str:
 
 
 def _json_report(it: dict[str, Any]) -> Report:
-    runs = [Run(run["choice"], [_json_event(event, run["location"]) for event in run["events"]], run.get("says")) for run in it["runs"]]
+    runs = [Run(run["choice"], [_json_event(event, run["location"]) for event in run["events"]]) for run in it["runs"]]
     about = it["path"]["text"] if "path" in it else it["runs"][0]["location"] if it["kind"] == "inner" else ""
     return Report(it["kind"], about, _json_at(it["place"]) if "place" in it else None, runs)

@@ -53,7 +53,7 @@ def program(room: str, text: str) -> str:
     return path
 
 
-def nalvegop(*words: str, at: str, checker: str | None = None) -> "subprocess.CompletedProcess[str]":
+def nalvegop(*words: str, at: str, checker: str | None = None) -> subprocess.CompletedProcess[str]:
     """Runs the command in a folder."""
     env = {**os.environ, "NALVEGOP_CHECKER": checker or built_checker() or "/nonexistent"}
     env.pop("CC", None)

@@ -14,12 +14,10 @@ import unittest
 from collections.abc import Callable
 from typing import TypeVar
 
-from nalvegop.check import FileResult
-from nalvegop.findings import Finding, Path, Step, one_of_each_array
+from nalvegop.findings import Finding, one_of_each_array
 from nalvegop.lines import Place
 from nalvegop.show_html import coloured
-from nalvegop.show_sarif import sarif
-from tests.support import COMMAND, KIT, folder, nalvegop, needs_checker, program
+from tests.support import COMMAND, folder, nalvegop, needs_checker, program
 
 _EMPTY = "total functions 0 skipped 0 rows 0 reports 0"
 _NOTHING = f'case "$1" in --help) ;; *) echo "{_EMPTY}" ;; esac'
@@ -246,35 +244,6 @@ class Statuses(unittest.TestCase):
 
 
 class Forms(unittest.TestCase):
-    def result(self) -> FileResult:
-        place = Place("a b/it's.c", 3, 7)
-        steps = [Step(place, "'malloc' is called"), Step(Place("/usr/include/x.h", 4, 1), "'f' ends")]
-        return FileResult("a b/it's.c", findings=[Finding("leak", "f", place, "memory <is> lost", [Path("a run", steps, "d4")], "sum")], late=["g"])
-
-    def test_sarif(self) -> None:
-        log = json.loads(json.dumps(sarif([self.result(), FileResult("b.c", failure="why")], 2)))
-        run = log["runs"][0]
-        self.assertEqual(log["version"], "2.1.0")
-        self.assertEqual(run["results"][0]["locations"][0]["physicalLocation"]["artifactLocation"], {"uri": "a%20b/it%27s.c", "uriBaseId": "SRCROOT"})
-        self.assertEqual(
-            run["results"][0]["codeFlows"][0]["threadFlows"][0]["locations"][1]["location"]["physicalLocation"]["artifactLocation"]["uri"],
-            "file:///usr/include/x.h",
-        )
-        self.assertEqual(run["tool"]["driver"]["rules"][run["results"][0]["ruleIndex"]]["id"], "leak")
-        self.assertEqual(len(run["invocations"][0]["toolExecutionNotifications"]), 2)
-
-    def test_sarif_is_valid(self) -> None:
-        try:
-            import jsonschema
-        except ImportError:
-            self.skipTest("there is no jsonschema")
-        with open(os.path.join(KIT, "tests", "sarif-part.schema.json"), encoding="utf-8") as it:
-            schema = json.load(it)
-        bare = FileResult("c.c", findings=[Finding("double", "f", Place("c.c", 0, 0), "m", [Path("", [], "none")], "sum")])
-        cases: list[list[FileResult]] = [[], [self.result()], [bare], [FileResult("b.c", failure="why"), self.result()]]
-        for results in cases:
-            jsonschema.validate(json.loads(json.dumps(sarif(results, 1))), schema)
-
     @needs_checker
     def test_json_and_html(self) -> None:
         with folder(a__c=_LOST) as room:

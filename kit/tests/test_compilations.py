@@ -94,6 +94,7 @@ class Preprocessing(unittest.TestCase):
             file = os.path.join(room, "a.c")
             self.assertEqual(width_model(of_flags([file], ["gcc"])[0]), "lp64")
             self.assertEqual(width_model(of_flags([file], ["gcc", "-m32"])[0]), "ilp32")
+            self.assertEqual(width_model(of_flags([file], ["gcc", "-fno-PIE", "-mcmodel=kernel", "-DX=("])[0]), "lp64")
 
     def test_models_that_fit(self) -> None:
         with folder(k__c="#include <linux/slab.h>\n", u__c="#include <stdio.h>\n#include <linux/if.h>\n", n__c="int x;\n") as room:

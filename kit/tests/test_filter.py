@@ -52,8 +52,25 @@ class Steps(unittest.TestCase):
     def test_old_parameters(self) -> None:
         self.becomes("int f(a, b)\n int a;\n char *b;\n{ return a; }", "int f( int a, char *b) { return a; }")
 
-    def test_old_parameters_in_another_order_stay(self) -> None:
-        self.becomes("int f(a, b) char *b; int a; { return a; }", "int f(a, b) char *b; int a; { return a; }")
+    def behind_lines(self, before: str, *after: str) -> None:
+        """As `becomes`, line by line: more may stand in all lines but the last one. A tag is new."""
+        made = filtered(before).text.split("\n")
+        self.assertEqual([squeezed(it) for it in made], [*after])
+        self.assertEqual([it for it in moved(made[-1], before.split("\n")[-1]) if it != "A"], [])
+
+    def test_old_parameters_in_another_order(self) -> None:
+        new = "int f ( int a , char * * b , struct s * c , int d , int ( * e ) ( int ) )"
+        self.behind_lines("int f(a, b, c, d, e)\n char **b; register struct s *c;\n int (*e)(int), a;\n{ return a; }", new, "", "", "{ return a; }")
+        self.behind_lines("long f(a, b)\n unsigned char a[2], b;\n{ return b; }", "long f ( unsigned char a [ 2 ] , unsigned char b )", "", "{ return b; }")
+
+    def test_old_parameters_that_stay(self) -> None:
+        for text in (
+            "int f(a, b) char *b; int a; { return a; }",
+            "int f(a, b)\n char *b; char *c;\n{ return 1; }",
+            "int f(a, b)\n char *b; int b;\n{ return 1; }",
+        ):
+            self.assertEqual(squeezed(filtered(text).text), squeezed(text))
+        self.assertNotIn("knr", filtered("typedef int t; int f(a, t)\n int t, a;\n{ return t; }").counts)
 
     def test_loops_that_run_once(self) -> None:
         self.becomes("void f(int a) { do { a++; } while (0); }", "void f(int a) { { a++; } }")
@@ -179,6 +196,37 @@ class Steps(unittest.TestCase):
         self.assertEqual([squeezed(it) for it in lines[3:6]], ["", "if (a) { g(callB); }", "return callA++ + A[0];"])
         self.assertEqual(made.renamed, {"callA": "calls", "A": "b", "callB": "calls"})
         self.assertEqual([it for it in moved("\n".join(["", *lines[1:]]), before) if it not in made.renamed], [])
+
+    def test_types_in_blocks(self) -> None:
+        for inside, before, left in (
+            ("struct s { int a; } v, *p;", "struct s { int a ; } ;", "struct s v, *p;"),
+            ("struct s { int a; }; struct s v;", "struct s { int a ; } ;", "struct s v;"),
+            ("const struct { int a; } v = { 1 };", "struct A { int a ; } ;", "const struct A v = { 1 };"),
+            ("union { int a; char b; } u;", "union A { int a ; char b ; } ;", "union A u;"),
+            ("enum { ONE, TWO = 3 }; g(TWO);", "enum A { ONE , TWO = 3 } ;", "g(TWO);"),
+            ("typedef struct { int a; } t, *p; t v;", "typedef struct { int a ; } t , * p ;", "t v;"),
+            ("typedef char t; t v;", "typedef char t ;", "t v;"),
+            ("if (n) { struct s { int a; } v; g(&v); }", "struct s { int a ; } ;", "if (n) { struct s v; g(&v); }"),
+        ):
+            self.behind_lines(f"int n;\nint f(void)\n{{ {inside} return n; }}", f"int n; {before}", "int f(void)", f"{{ {left} return n; }}")
+
+    def test_types_in_blocks_that_stay(self) -> None:
+        other = "int s, ONE;\n"
+        for inside in (
+            "struct s { int a; } v;",
+            "enum { ONE } v;",
+            "typedef int s; s v;",
+            "struct t { char a[sizeof(n)]; } v;",
+            "static struct t { int a; } v;",
+            "struct{ int a; } v;",
+            "{ struct t { int a; } v; } { struct t { int b; } v; }",
+            "struct s { int a; }; typedef struct s t; t v;",
+            "struct s { int a; }; struct t { struct s b; } v;",
+        ):
+            text = f"{other}int f(int n)\n{{ {inside} return n; }}\nint h(void)\n{{ return s + ONE; }}"
+            self.assertEqual(squeezed(filtered(text).text), squeezed(text))
+        text = "int n; int f(void) { struct s { int a; } v; return n; }"
+        self.becomes(text, text)
 
     def test_static_locals_of_two_functions(self) -> None:
         made = filtered("int a;\nint f(void)\n{ static int n; return n++; }\nint g(void)\n{ static int n; return n++ + a; }")

@@ -5,6 +5,7 @@ from __future__ import annotations
 import os
 import signal
 import subprocess
+import time
 import unittest
 from typing import Any
 from unittest import mock
@@ -31,7 +32,7 @@ class Programs(unittest.TestCase):
             self.addCleanup(signal.signal, number, handler)
         self.enterContext(mock.patch("nalvegop.processes.ENDING", self.ending))
 
-    def ran_with(self, before: int | None, after: int | None) -> "subprocess.CompletedProcess[bytes]":
+    def ran_with(self, before: int | None, after: int | None) -> subprocess.CompletedProcess[bytes]:
         """Runs a program for up to 20 seconds, with a signal just before it begins or just after, when only Popen knows it."""
         begun = self.begun
 
@@ -62,7 +63,10 @@ class Programs(unittest.TestCase):
             ran(["sh", "-c", "sleep 300 & echo $!; wait"], ".", 5)
         number = int(caught.exception.stdout or b"0")
         self.assertGreater(number, 0)
-        # (whoever takes it over may not have seen yet that it ended)
+        # (where the machine is busy it ends a little later, and whoever takes it over may not have seen it yet)
+        end = time.monotonic() + 60
+        while state_of(number) not in ("Z", "X", "gone") and time.monotonic() < end:
+            time.sleep(0.05)
         self.assertIn(state_of(number), ("Z", "X", "gone"))
 
     def test_a_signal_waits_and_comes_once(self) -> None:
