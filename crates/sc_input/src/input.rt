@@ -8,7 +8,6 @@ ghost use Rattle.sc_input.specs.Input.{RefuseBytes, RefuseFile, RefuseTree};
 
 use crate::refusal::Refusal;
 use fsm_spec::MachineSpec;
-use line_marks::LineMarks;
 use name_interner::Interner;
 use sc_base::{Files, List, NameId, Names, OutOfMemory};
 use sc_lexer::{LexAnswer, tokens};
@@ -21,7 +20,7 @@ use transfer::{ReadError, read_file};
 const MOST_BYTES: usize = 8_388_608;
 
 /// The files of a check, read.
-#[derive(Drop)]
+#[derive(Debug, Drop)]
 pub struct Input {
     /// The texts of the names that trees have by number.
     pub names: Names,
@@ -29,8 +28,6 @@ pub struct Input {
     pub files: List<NameId>,
     /// The trees of the files, in order.
     pub units: List<Unit>,
-    /// The line markers of the files, in order.
-    pub marks: List<LineMarks>,
     /// The machine of states, if one is named.
     pub machine: Option<MachineSpec>,
     /// How many bytes were read.
@@ -46,8 +43,6 @@ pub struct Reading {
     pub files: List<NameId>,
     /// The trees of the files, in order.
     pub units: List<Unit>,
-    /// The line markers of the files, in order.
-    pub marks: List<LineMarks>,
     /// The machine of states, if one is named.
     pub machine: Option<MachineSpec>,
     /// How many bytes were read.
@@ -63,7 +58,6 @@ impl Reading {
             names,
             files,
             units,
-            marks,
             machine,
             used,
         } = self;
@@ -72,7 +66,6 @@ impl Reading {
             names,
             files,
             units,
-            marks,
             machine,
             used,
         })
@@ -150,22 +143,18 @@ pub fn with_file<'a, F: Files>(
         mut names,
         files: mut ids,
         mut units,
-        mut marks,
         machine,
         used,
     } = reading;
     let id = names.intern(name)?;
     let bytes = bytes_within(alloc, files, used, name)?;
     let unit = tree(alloc, &mut names, units.len() as u32, name, &bytes)?;
-    let file_marks = LineMarks::read(alloc, &bytes)?;
     ids.push(id)?;
     units.push(unit)?;
-    marks.push(file_marks)?;
     Ok(Reading {
         names,
         files: ids,
         units,
-        marks,
         machine,
         used: used + bytes.len(),
     })
