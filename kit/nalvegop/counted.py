@@ -1,4 +1,5 @@
-"""Pointers that are counted from a pointer to bytes: `(char *)p + n`, `((char *)p) + n - 1`, `(char *)p - offsetof(T, m)`.
+"""Pointers that are counted from a pointer to bytes: `(char *)p + n`, `((char *)p) + n - 1`, `(char *)p - offsetof(T, m)`; or
+by way of a number, as in `(T *)((uintptr_t)p - offsetof(T, m))`.
 
 The checker does not follow where such a pointer leads. The filter puts an unknown object in its place, as the models do
 with container_of: the pointer that it is counted from goes away to it.
@@ -15,6 +16,8 @@ from .tokens import Token
 # What the macro offsetof gives.
 OFFSET = "__builtin_offsetof"
 _BYTES = {*"char unsigned signed const void uint8_t int8_t u8".split()}
+# A number of this type has all of a pointer.
+_ADDRESSES = ({"uintptr_t"}, {"intptr_t"}, {"unsigned", "long"}, {"long"}, {"size_t"})
 _NUMBERS = {*"char short int long unsigned signed const size_t ssize_t ptrdiff_t uintptr_t intptr_t off_t u8 u16 u32 u64".split()}
 # What may stand before the cast: then it is the cast that the counting begins with, and no operand of something else.
 _BEFORE = {*"( [ { } ; , = ? : == != < > <= >= && || return".split()}
@@ -61,7 +64,19 @@ class CountedPointers:
             if end == at + 1 or self._changes(at + 1, end) or self.tokens[at].text == "-" and not self._is_number(at + 1):
                 return None
             at = end
+        if self._is_address(begins[1] - 1) and not self._is_pointer_again(begins[0], end):
+            return None
         return Counted(begins[0], begins[1], begins[2], operator, end)
+
+    def _is_address(self, closing: int) -> bool:
+        """Returns whether a cast, by its closing bracket, makes a number of a pointer."""
+        return {it.text for it in self.tokens[self.partner[closing] + 1 : closing]} in _ADDRESSES
+
+    def _is_pointer_again(self, first: int, end: int) -> bool:
+        """Returns whether all of the bracket that ends here is cast to a pointer."""
+        closing = first - 2
+        is_whole = self.tokens[first - 1].text == "(" and self.partner[first - 1] == end and self.tokens[closing].text == ")"
+        return is_whole and self.partner[closing] < closing and self.tokens[closing - 1].text == "*"
 
     def _is_used_at_once(self, before: int) -> bool:
         """Returns whether bytes are read or written there, as in `*((char *)p + n)`: an unknown object would have no type."""
@@ -102,9 +117,9 @@ class CountedPointers:
         return at if at < behind - 1 and self.tokens[at].text == "&" and self.tokens[at - 1].text == ")" and self._is_cast(self.partner[at - 1]) else at + 1
 
     def _is_cast(self, opening: int) -> bool:
-        """Returns whether a bracket holds a type as `char *`."""
+        """Returns whether a bracket holds a type as `char *`, or one of a number that has all of a pointer."""
         texts = [it.text for it in self.tokens[opening + 1 : self.partner[opening]]] if self.partner[opening] > opening else []
-        return len(texts) > 1 and texts[-1] == "*" and all(it in _BYTES for it in texts[:-1])
+        return len(texts) > 1 and texts[-1] == "*" and all(it in _BYTES for it in texts[:-1]) or {*texts} in _ADDRESSES
 
     # ---- what it is counted by
 

@@ -7,7 +7,6 @@ from collections.abc import Callable, Sequence
 from .tokens import Token
 
 _TYPES = {"struct", "union", "enum"}
-_TYPE_WORDS = _TYPES | {*"void char short int long signed unsigned _Bool float double const".split()}
 _WORDS = {
     **dict.fromkeys(("asm", "__asm", "__asm__"), "asm with outputs"),
     **dict.fromkeys(("typeof", "__typeof", "__typeof__"), "typeof of an expression"),
@@ -37,8 +36,9 @@ def _is_type_in_block(tokens: Sequence[Token], partner: list[int], at: int, text
 
 
 def _is_compound_literal(tokens: Sequence[Token], partner: list[int], at: int, text: str, behind: str) -> bool:
+    # (behind a word stands the head of a statement, as `if (a) {`)
     opening = partner[at] if text == ")" and behind == "{" else -1
-    return opening > 0 and tokens[opening + 1].text in _TYPE_WORDS and not tokens[opening - 1].is_word
+    return opening > 0 and tokens[opening + 1].is_word and not tokens[opening - 1].is_word
 
 
 _FORMS: dict[str, Callable[[Sequence[Token], list[int], int, str, str], bool]] = {

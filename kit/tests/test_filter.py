@@ -162,6 +162,8 @@ class Steps(unittest.TestCase):
             ("(char *)&p->q - (size_t)n == p", "nv_at( &p->q ) == p"),
             ("(char *)p + nalvegop_int()", "nv_at( p )"),
             ("(char *)((char *)p + 1) + (n - 2)", "nv_at( (nv_at( p ) ) )"),
+            ("(struct t *)((uintptr_t)(p) - (uintptr_t)8)", "(struct t *)(nv_at((p) ) )"),
+            ("(char *)((unsigned long)p->q + n)", "(char *)(nv_at( p->q ) )"),
         ):
             self.tightly(f"{part}void f(struct s *p, int n) {{ g({before}); }}", f"{part}void f(struct s *p, int n) {{ g({after}); }}")
 
@@ -171,6 +173,12 @@ class Steps(unittest.TestCase):
             "*(char *)p + n",
             "(struct t *)(char *)p + n",
             "(char *)p - (char *)q",
+            "(uintptr_t)p - 8",
+            "((uintptr_t)p - 8)",
+            "(long)((uintptr_t)p - 8)",
+            "(struct t *)((uintptr_t)p - 8 - q)",
+            "h((uintptr_t)p - 8)",
+            "(struct t *)((int)p - 8)",
             "(char *)p - q",
             "(char *)p + n - q",
             "(char *)p + n++",

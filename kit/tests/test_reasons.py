@@ -25,6 +25,7 @@ class Guesses(unittest.TestCase):
             ("enum { A, B } state = A;", ("a type that is declared in a block", "enum")),
             ("a++; union u { int a; } u;", ("a type that is declared in a block", "union")),
             ("a = g((struct s){ 1, 2 });", ("a compound literal", "){")),
+            ("if (a) { b = (t){ 1, 2 }; }", ("a compound literal", "){")),
             ("a = a ?: 3;", ("?: without a second operand", "?:")),
             ("switch (a) { case 1 ... 3: a++; }", ("a range of cases", "...")),
             ('asm("" : "=r"(a));', ("asm with outputs", 'asm(""')),
