@@ -165,6 +165,14 @@ f0(0);
         exits: [264; 3],
         errors: [0; 3],
     },
+];
+
+#[test]
+fn first_of_locks(rt: HostRuntime) {
+    all_hold(&rt, rt.alloc(), "", FIRST);
+}
+
+const SECOND: &[Row] = &[
     Row {
         text: "\
 typedef struct{int v;}spinlock_t;
@@ -287,6 +295,14 @@ void f2(_Bool *p0)
         exits: [132; 3],
         errors: [320; 3],
     },
+];
+
+#[test]
+fn second_of_locks(rt: HostRuntime) {
+    all_hold(&rt, rt.alloc(), "", SECOND);
+}
+
+const THIRD: &[Row] = &[
     Row {
         text: "\
 typedef struct{int v;}spinlock_t;
@@ -420,14 +436,6 @@ return (*p3 != 0x80000000);
         exits: [73; 3],
         errors: [144, 152, 152],
     },
-];
-
-#[test]
-fn first_of_locks(rt: HostRuntime) {
-    all_hold(&rt, rt.alloc(), "", FIRST);
-}
-
-const SECOND: &[Row] = &[
     Row {
         text: "\
 typedef struct{int v;}spinlock_t;
@@ -504,6 +512,14 @@ return ga[1];
         exits: [36; 3],
         errors: [64; 3],
     },
+];
+
+#[test]
+fn third_of_locks(rt: HostRuntime) {
+    all_hold(&rt, rt.alloc(), "", THIRD);
+}
+
+const FOURTH: &[Row] = &[
     Row {
         text: "\
 typedef struct{int v;}spinlock_t;
@@ -715,6 +731,14 @@ f0(0);
         exits: [4; 3],
         errors: [4; 3],
     },
+];
+
+#[test]
+fn fourth_of_locks(rt: HostRuntime) {
+    all_hold(&rt, rt.alloc(), "", FOURTH);
+}
+
+const FIFTH: &[Row] = &[
     Row {
         text: "\
 typedef struct{int v;}spinlock_t;
@@ -798,6 +822,14 @@ return *p0;
         exits: [18; 3],
         errors: [24; 3],
     },
+];
+
+#[test]
+fn fifth_of_locks(rt: HostRuntime) {
+    all_hold(&rt, rt.alloc(), "", FIFTH);
+}
+
+const SIXTH: &[Row] = &[
     Row {
         text: "\
 typedef struct{int v;}spinlock_t;
@@ -819,15 +851,8 @@ if (0) f0(&p0->on, &p0->on, &p0->m, ('a' || p0->on));
         exits: [352; 3],
         errors: [32; 3],
     },
-];
-
-#[test]
-fn second_of_locks(rt: HostRuntime) {
-    all_hold(&rt, rt.alloc(), "", SECOND);
-}
-
-const THIRD: &[Row] = &[Row {
-    text: "\
+    Row {
+        text: "\
 typedef struct{int v;}spinlock_t;
 struct node { spinlock_t lock; struct node *next; _Bool flag; char *buf; char v; _Bool arr[2]; };
 struct pair { spinlock_t m; _Bool on; struct pair *up; };
@@ -864,12 +889,13 @@ f1(0, 0);
 v0;
 }
 ",
-    choices: [432; 3],
-    exits: [136; 3],
-    errors: [8; 3],
-}];
+        choices: [432; 3],
+        exits: [136; 3],
+        errors: [8; 3],
+    },
+];
 
 #[test]
-fn third_of_locks(rt: HostRuntime) {
-    all_hold(&rt, rt.alloc(), "", THIRD);
+fn sixth_of_locks(rt: HostRuntime) {
+    all_hold(&rt, rt.alloc(), "", SIXTH);
 }

@@ -301,6 +301,14 @@ return (char)0x80000000;
             errors: [10; 3],
         }],
     },
+];
+
+#[test]
+fn first_of_machines(rt: HostRuntime) {
+    all_hold_over(&rt, rt.alloc(), FIRST);
+}
+
+const SECOND: &[Machined] = &[
     Machined {
         spelled: "\
 machine m2
@@ -476,14 +484,6 @@ return p0;
             errors: [1; 3],
         }],
     },
-];
-
-#[test]
-fn first_of_machines(rt: HostRuntime) {
-    all_hold_over(&rt, rt.alloc(), FIRST);
-}
-
-const SECOND: &[Machined] = &[
     Machined {
         spelled: "\
 machine irq
@@ -665,6 +665,14 @@ return 1;
             errors: [5; 3],
         }],
     },
+];
+
+#[test]
+fn second_of_machines(rt: HostRuntime) {
+    all_hold_over(&rt, rt.alloc(), SECOND);
+}
+
+const THIRD: &[Machined] = &[
     Machined {
         spelled: "\
 machine m2
@@ -766,6 +774,14 @@ if (ask()) f0(p0->on);
             errors: [256; 3],
         }],
     },
+];
+
+#[test]
+fn third_of_machines(rt: HostRuntime) {
+    all_hold_over(&rt, rt.alloc(), THIRD);
+}
+
+const FOURTH: &[Machined] = &[
     Machined {
         spelled: "\
 machine out
@@ -954,22 +970,15 @@ return (nd.on <= (255 || nd.on));
             errors: [0; 3],
         }],
     },
-];
-
-#[test]
-fn second_of_machines(rt: HostRuntime) {
-    all_hold_over(&rt, rt.alloc(), SECOND);
-}
-
-const THIRD: &[Machined] = &[Machined {
-    spelled: "\
+    Machined {
+        spelled: "\
 machine out
 states on off x1 held
 op spin_unlock zero on>! off>on x1>off held>x1
 op irq_off void on>! off>on x1>off held>x1
 ",
-    rows: &[Row {
-        text: "\
+        rows: &[Row {
+            text: "\
 typedef struct{int v;}spinlock_t;
 _Bool ask(void);
 _Bool f0(_Bool p0)
@@ -991,13 +1000,14 @@ v0 = spin_unlock(p0);
 if (v0) f1(p0, 0, v0);
 }
 ",
-        choices: [514; 3],
-        exits: [154; 3],
-        errors: [72; 3],
-    }],
-}];
+            choices: [514; 3],
+            exits: [154; 3],
+            errors: [72; 3],
+        }],
+    },
+];
 
 #[test]
-fn third_of_machines(rt: HostRuntime) {
-    all_hold_over(&rt, rt.alloc(), THIRD);
+fn fourth_of_machines(rt: HostRuntime) {
+    all_hold_over(&rt, rt.alloc(), FOURTH);
 }

@@ -155,6 +155,14 @@ if (v0) kfree(w);
         exits: [148; 3],
         errors: [0; 3],
     },
+];
+
+#[test]
+fn first_of_makers(rt: HostRuntime) {
+    all_hold(&rt, rt.alloc(), "", FIRST);
+}
+
+const SECOND: &[Row] = &[
     Row {
         text: "\
 void f0(_Bool **p0)
@@ -442,6 +450,14 @@ f0(&w, &w);
         exits: [76; 3],
         errors: [0; 3],
     },
+];
+
+#[test]
+fn second_of_makers(rt: HostRuntime) {
+    all_hold(&rt, rt.alloc(), "", SECOND);
+}
+
+const THIRD: &[Row] = &[
     Row {
         text: "\
 void ext(void *p);
@@ -540,14 +556,6 @@ if (w) free(w);
         exits: [88; 3],
         errors: [0; 3],
     },
-];
-
-#[test]
-fn first_of_makers(rt: HostRuntime) {
-    all_hold(&rt, rt.alloc(), "", FIRST);
-}
-
-const SECOND: &[Row] = &[
     Row {
         text: "\
 typedef struct{int v;}spinlock_t;
@@ -735,6 +743,14 @@ return p0;
         exits: [112; 3],
         errors: [0; 3],
     },
+];
+
+#[test]
+fn third_of_makers(rt: HostRuntime) {
+    all_hold(&rt, rt.alloc(), "", THIRD);
+}
+
+const FOURTH: &[Row] = &[
     Row {
         text: "\
 typedef struct{int v;}spinlock_t;
@@ -925,8 +941,15 @@ if (p1) spin_unlock(w);
         exits: [162; 3],
         errors: [32; 3],
     },
-    Row {
-        text: "\
+];
+
+#[test]
+fn fourth_of_makers(rt: HostRuntime) {
+    all_hold(&rt, rt.alloc(), "", FOURTH);
+}
+
+const FIFTH: &[Row] = &[Row {
+    text: "\
 typedef struct{int v;}spinlock_t;
 void ext(void *p);
 _Bool f2(_Bool **p0);
@@ -962,13 +985,12 @@ kfree(v0);
 return p0;
 }
 ",
-        choices: [544; 3],
-        exits: [280; 3],
-        errors: [0; 3],
-    },
-];
+    choices: [544; 3],
+    exits: [280; 3],
+    errors: [0; 3],
+}];
 
 #[test]
-fn second_of_makers(rt: HostRuntime) {
-    all_hold(&rt, rt.alloc(), "", SECOND);
+fn fifth_of_makers(rt: HostRuntime) {
+    all_hold(&rt, rt.alloc(), "", FIFTH);
 }

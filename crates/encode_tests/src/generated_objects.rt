@@ -282,6 +282,14 @@ spin_lock(&p0->m);
         exits: [18; 3],
         errors: [2; 3],
     },
+];
+
+#[test]
+fn first_of_objects(rt: HostRuntime) {
+    all_hold(&rt, rt.alloc(), "", FIRST);
+}
+
+const SECOND: &[Row] = &[
     Row {
         text: "\
 typedef struct{int v;}spinlock_t;
@@ -379,6 +387,6 @@ return *p0;
 ];
 
 #[test]
-fn first_of_objects(rt: HostRuntime) {
-    all_hold(&rt, rt.alloc(), "", FIRST);
+fn second_of_objects(rt: HostRuntime) {
+    all_hold(&rt, rt.alloc(), "", SECOND);
 }

@@ -1,5 +1,5 @@
 //! Nets of a generator: the first choice for which two gates hold, by gates and the learning solver, beside trying all choices in order.
-ghost use Rattle.std.specs.Prelude.{◌≡◌, ◌<◌, ◌≤◌, length, IfOk};
+ghost use Rattle.std.specs.Prelude.{◌≡◌, ◌<◌, length};
 ghost use Rattle.bit_net.specs.Circuit.{input_count};
 ghost use Rattle.bit_net.specs.Runs.{Grown};
 ghost use Rattle.gate_questions.specs.Ready.{IsReady};
@@ -31,16 +31,14 @@ struct Numbers {
 }
 
 impl Numbers {
-    /// The next number below a bound.
-    fn below(&mut self, bound: usize) -> usize
-        requires { 0 < bound }
-        ensures { result < bound }
-    {
+    /// The next number below a bound, or 0 where that is 0.
+    fn below(&mut self, bound: usize) -> usize {
         self.state = self
             .state
             .wrapping_mul(6364136223846793005)
             .wrapping_add(1442695040888963407);
-        (self.state >> 33) as usize % bound
+        let number = (self.state >> 33) as usize;
+        if bound == 0 { 0 } else { number % bound }
     }
 }
 
@@ -48,31 +46,29 @@ impl Numbers {
 fn any_gate(numbers: &mut Numbers, net: &Net) -> Gate
     ensures { result.at < length net.now }
 {
-    let never = net.constant(false);
-    let gates = net.len();
-    if gates == 0 {
-        return never;
-    }
-    Gate {
-        at: numbers.below(gates),
+    let at = numbers.below(net.len());
+    if at < net.len() {
+        Gate { at }
+    } else {
+        net.constant(false)
     }
 }
 
 /// Makes a gate of others.
-fn draw(numbers: &mut Numbers, net: &mut Net) -> Result<Gate, OutOfMemory>
+fn draw(numbers: &mut Numbers, net: &mut Net) -> Result<(), OutOfMemory>
     ensures { Grown net.old net.new }
 {
     let a = any_gate(numbers, net);
     let b = any_gate(numbers, net);
     let c = any_gate(numbers, net);
-    let made = match numbers.below(5) {
+    match numbers.below(5) {
         0 => net.and(a, b)?,
         1 => net.or(a, b)?,
         2 => net.xor(a, b)?,
         3 => net.not(a)?,
         _ => net.mux(a, b, c)?,
     };
-    Ok(made)
+    Ok(())
 }
 
 /// Makes gates of others, one after the other.
