@@ -6,7 +6,7 @@ ghost use Rattle.gate_questions.specs.Ready.{IsReady};
 
 use bit_net::{Gate, Net};
 use choice_search::step;
-use gate_questions::{OutOfMemory, Questions, what_may_be_asked_stays};
+use gate_questions::{OutOfMemory, Questions};
 use sat_cdcl::Cdcl;
 use std::alloc::Global;
 
@@ -141,20 +141,32 @@ fn asked(
 }
 
 /// Asks several times about one net: for how many questions there is a choice; none where an answer is not the right one.
-fn asked_about_one(alloc: Global, numbers: &mut Numbers) -> Result<Option<u32>, OutOfMemory> {
-    what_may_be_asked_stays();
-    let mut net = Net::new(alloc, INPUTS)?;
-    let lanes = vec![in alloc; 0; INPUTS]?;
-    let mut questions = Questions::new(alloc, Cdcl::new(alloc), lanes);
-    draw_all(numbers, &mut net)?;
+fn asked_often(
+    alloc: Global,
+    numbers: &mut Numbers,
+    net: &Net,
+    questions: &mut Questions<Cdcl>,
+) -> Result<Option<u32>, OutOfMemory>
+    requires inputs { input_count net.now ≡ 8 }
+    requires ready { IsReady net.now questions.old }
+{
     let mut count = 0u32;
     for _question in 0..ASKED {
-        match asked(alloc, numbers, &net, &mut questions)? {
+        match asked(alloc, numbers, net, questions)? {
             Some(holds) => count = count.saturating_add(u32::from(holds)),
             None => return Ok(None),
         }
     }
     Ok(Some(count))
+}
+
+/// The same about a net of the generator.
+fn asked_about_one(alloc: Global, numbers: &mut Numbers) -> Result<Option<u32>, OutOfMemory> {
+    let mut net = Net::new(alloc, INPUTS)?;
+    draw_all(numbers, &mut net)?;
+    let lanes = vec![in alloc; 0; INPUTS]?;
+    let mut questions = Questions::new(alloc, Cdcl::new(alloc), lanes);
+    asked_often(alloc, numbers, &net, &mut questions)
 }
 
 /// For how many of all questions there is a choice; none where an answer is not the right one.
