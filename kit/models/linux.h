@@ -59,6 +59,12 @@
 #if __has_include(<linux/bitops.h>)
 #include <linux/bitops.h>
 #endif
+#if __has_include(<linux/jump_label.h>)
+#include <linux/jump_label.h>
+#endif
+#if __has_include(<linux/percpu.h>)
+#include <linux/percpu.h>
+#endif
 #if __has_include(<linux/bits.h>)
 #include <linux/bits.h>
 #endif
@@ -475,6 +481,27 @@ static inline void nalvegop_take_and_give(spinlock_t *lock)
 #define hlist_del_init(n) ((void)(n))
 #define hlist_empty(h) ((void)(h), nalvegop_more())
 #define INIT_HLIST_NODE(n) ((void)(n))
+
+/* A branch that the kernel rewrites in its own code goes either way, and its key is not looked at. What each processor has
+   of a variable is one variable. */
+#undef static_branch_likely
+#undef static_branch_unlikely
+#undef static_branch_enable
+#undef static_branch_disable
+#undef static_branch_inc
+#undef static_branch_dec
+#undef this_cpu_ptr
+#undef raw_cpu_ptr
+#undef per_cpu_ptr
+#define static_branch_likely(x) nalvegop_more()
+#define static_branch_unlikely(x) nalvegop_more()
+#define static_branch_enable(x) ((void)0)
+#define static_branch_disable(x) ((void)0)
+#define static_branch_inc(x) ((void)0)
+#define static_branch_dec(x) ((void)0)
+#define this_cpu_ptr(p) (p)
+#define raw_cpu_ptr(p) (p)
+#define per_cpu_ptr(p, c) ((void)(c), (p))
 
 /* One thread is followed: what others see, and when, is not. */
 #undef READ_ONCE
