@@ -1,5 +1,5 @@
 //! Nets of a generator: the first choice for which two gates hold, by gates and the learning solver, beside trying all choices in order.
-ghost use Rattle.std.specs.Prelude.{◌≡◌, ◌<◌, length};
+ghost use Rattle.std.specs.Prelude.{◌≡◌, ◌<◌, length, OnOk};
 ghost use Rattle.bit_net.specs.Circuit.{input_count};
 ghost use Rattle.bit_net.specs.Runs.{Grown};
 ghost use Rattle.gate_questions.specs.Ready.{IsReady};
@@ -73,7 +73,7 @@ fn draw(numbers: &mut Numbers, net: &mut Net) -> Result<(), OutOfMemory>
 
 /// Makes gates of others, one after the other.
 fn draw_all(numbers: &mut Numbers, net: &mut Net) -> Result<(), OutOfMemory>
-    ensures { Grown net.old net.new }
+    ensures { OnOk result (Grown net.old net.new) }
 {
     for _gate in 0..DRAWN {
         draw(numbers, net)?;
