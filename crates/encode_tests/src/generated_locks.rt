@@ -34,40 +34,6 @@ f0(p1, 0);
     Row {
         text: "\
 typedef struct{int v;}spinlock_t;
-struct pair { spinlock_t m; _Bool on; struct pair *up; };
-void ext(void *p);
-void f3(struct pair *);
-_Bool f0(_Bool p0, _Bool p1)
-{
-;
-;
-return p0;
-}
-_Bool f1(_Bool p0, struct pair *p1)
-{
-;
-if (p0) pthread_mutex_lock(&p1->m);
-ext(&p1->on);
-return f0(3, 7);
-}
-_Bool f2(struct pair *p0)
-{
-f1(p0->on, (p0->on ? p0 : p0));
-!p0->on;
-return 1;
-}
-void f3(struct pair *p0)
-{
-p0->on = ((p0->on + p0->on) && !p0->on);
-}
-",
-        choices: [1172; 3],
-        exits: [48; 3],
-        errors: [80; 3],
-    },
-    Row {
-        text: "\
-typedef struct{int v;}spinlock_t;
 void f0(spinlock_t *, _Bool );
 void f0(spinlock_t *p0, _Bool p1)
 {
@@ -87,33 +53,6 @@ f1((p1 / p1));
         choices: [18; 3],
         exits: [5; 3],
         errors: [4; 3],
-    },
-    Row {
-        text: "\
-typedef struct{int v;}spinlock_t;
-struct pair { spinlock_t m; _Bool on; struct pair *up; };
-_Bool ask(void);
-_Bool f0(spinlock_t *p0, char p1)
-{
-struct pair *v0 = 0;
-spin_lock(p0);
-return p1;
-}
-_Bool f1(spinlock_t *p0)
-{
-0x80000000;
-f0(p0, 1);
-return ask();
-}
-void f2(struct pair *p0, _Bool p1, struct pair *p2, spinlock_t *p3)
-{
-;
-spin_lock(&p2->m);
-}
-",
-        choices: [1600; 3],
-        exits: [386; 3],
-        errors: [392; 3],
     },
     Row {
         text: "\
@@ -165,14 +104,6 @@ f0(0);
         exits: [264; 3],
         errors: [0; 3],
     },
-];
-
-#[test]
-fn first_of_locks(rt: HostRuntime) {
-    all_hold(&rt, rt.alloc(), "", FIRST);
-}
-
-const SECOND: &[Row] = &[
     Row {
         text: "\
 typedef struct{int v;}spinlock_t;
@@ -198,6 +129,14 @@ f0(p1);
         exits: [13; 3],
         errors: [160; 3],
     },
+];
+
+#[test]
+fn first_of_locks(rt: HostRuntime) {
+    all_hold(&rt, rt.alloc(), "", FIRST);
+}
+
+const SECOND: &[Row] = &[
     Row {
         text: "\
 typedef struct{int v;}spinlock_t;
@@ -265,8 +204,15 @@ if (!p0) f0((p0 ? (struct pair *)0 : 0), !p0);
         exits: [1058; 3],
         errors: [0; 3],
     },
-    Row {
-        text: "\
+];
+
+#[test]
+fn second_of_locks(rt: HostRuntime) {
+    all_hold(&rt, rt.alloc(), "", SECOND);
+}
+
+const THIRD: &[Row] = &[Row {
+    text: "\
 typedef struct{int v;}spinlock_t;
 struct pair { spinlock_t m; _Bool on; struct pair *up; };
 void ext(void *p);
@@ -291,18 +237,17 @@ void f2(_Bool *p0)
 *p0 = 1;
 }
 ",
-        choices: [1096; 3],
-        exits: [132; 3],
-        errors: [320; 3],
-    },
-];
+    choices: [1096; 3],
+    exits: [132; 3],
+    errors: [320; 3],
+}];
 
 #[test]
-fn second_of_locks(rt: HostRuntime) {
-    all_hold(&rt, rt.alloc(), "", SECOND);
+fn third_of_locks(rt: HostRuntime) {
+    all_hold(&rt, rt.alloc(), "", THIRD);
 }
 
-const THIRD: &[Row] = &[
+const FOURTH: &[Row] = &[
     Row {
         text: "\
 typedef struct{int v;}spinlock_t;
@@ -400,6 +345,14 @@ spin_lock(p2);
         exits: [24; 3],
         errors: [56; 3],
     },
+];
+
+#[test]
+fn fourth_of_locks(rt: HostRuntime) {
+    all_hold(&rt, rt.alloc(), "", FOURTH);
+}
+
+const FIFTH: &[Row] = &[
     Row {
         text: "\
 typedef struct{int v;}spinlock_t;
@@ -435,32 +388,6 @@ return (*p3 != 0x80000000);
         choices: [609; 3],
         exits: [73; 3],
         errors: [144, 152, 152],
-    },
-    Row {
-        text: "\
-typedef struct{int v;}spinlock_t;
-struct node { spinlock_t lock; struct node *next; _Bool flag; char *buf; char v; _Bool arr[2]; };
-struct pair { spinlock_t m; _Bool on; struct pair *up; };
-_Bool f0(_Bool *p0, struct pair *p1)
-{
-*p0 = 1;
-return p1->on;
-}
-void f1(_Bool p0, struct node *p1)
-{
-spin_lock(&p1->lock);
-}
-_Bool f3(struct pair *p0, _Bool *p1, struct node *p2)
-{
-spin_lock(&p0->m);
-f0(0, p0);
-;
-return *p1;
-}
-",
-        choices: [1168; 3],
-        exits: [36; 3],
-        errors: [260; 3],
     },
     Row {
         text: "\
@@ -515,11 +442,11 @@ return ga[1];
 ];
 
 #[test]
-fn third_of_locks(rt: HostRuntime) {
-    all_hold(&rt, rt.alloc(), "", THIRD);
+fn fifth_of_locks(rt: HostRuntime) {
+    all_hold(&rt, rt.alloc(), "", FIFTH);
 }
 
-const FOURTH: &[Row] = &[
+const SIXTH: &[Row] = &[
     Row {
         text: "\
 typedef struct{int v;}spinlock_t;
@@ -659,6 +586,14 @@ f0(v0, 0, 0, v0);
         exits: [129; 3],
         errors: [0; 3],
     },
+];
+
+#[test]
+fn sixth_of_locks(rt: HostRuntime) {
+    all_hold(&rt, rt.alloc(), "", SIXTH);
+}
+
+const SEVENTH: &[Row] = &[
     Row {
         text: "\
 typedef struct{int v;}spinlock_t;
@@ -689,30 +624,6 @@ void f3(spinlock_t *p0, struct pair *p1)
     Row {
         text: "\
 typedef struct{int v;}spinlock_t;
-struct pair { spinlock_t m; _Bool on; struct pair *up; };
-void ext(void *p);
-void f0(spinlock_t *p0, spinlock_t *p1)
-{
-if (0x80000000) spin_lock(p0);
-ext(0);
-}
-_Bool f1(_Bool p0, char p1, _Bool p2)
-{
-return p2;
-}
-void f2(_Bool *p0, _Bool p1, spinlock_t *p2, struct pair *p3)
-{
-ext(p3);
-spin_lock(p2);
-}
-",
-        choices: [1296; 3],
-        exits: [1092; 3],
-        errors: [68; 3],
-    },
-    Row {
-        text: "\
-typedef struct{int v;}spinlock_t;
 _Bool gf;
 void f0(spinlock_t *p0)
 {
@@ -730,55 +641,6 @@ f0(0);
         choices: [32; 3],
         exits: [4; 3],
         errors: [4; 3],
-    },
-];
-
-#[test]
-fn fourth_of_locks(rt: HostRuntime) {
-    all_hold(&rt, rt.alloc(), "", FOURTH);
-}
-
-const FIFTH: &[Row] = &[
-    Row {
-        text: "\
-typedef struct{int v;}spinlock_t;
-struct pair { spinlock_t m; _Bool on; struct pair *up; };
-_Bool ga[2];
-void f0(void)
-{
-if (300) 1u;
-;
-}
-void f1(struct pair *p0, _Bool p1, _Bool *p2, _Bool p3)
-{
-short v0 = -1;
-spinlock_t own;
-char arr[3] = {1, 2,};
-if (((_Bool)&own == p0->on)) { mutex_lock(&own); { int x1 = 300; spin_lock(&p0->m); } }
-{ arr[1] = 255; f0(); if (p0->on) { if (*p2) { f0(); spin_unlock(&own); } } }
-out:
-spin_unlock(&own);
-}
-_Bool f2(_Bool p0, struct pair *p1, spinlock_t *p2, struct pair *p3)
-{
-p3 = p3;
-;
-(*p3) = (*p1);
-return p0;
-}
-void f3(spinlock_t *p0, spinlock_t *p1)
-{
-struct pair *v0 = 0;
-int v1 = 0;
-struct pair nd;
-ga[(unsigned)1u] = -1;
-{ int x1 = f2((v1 != v0->on), v0, p0, v0); f0(); }
-{ if (!v0->on) { spin_lock(p0); { if (nd.on) { spin_unlock(p1); pthread_mutex_unlock(p1); spin_unlock(p1); } nd.up = 0; ((nd.on >> nd.on) == nd.on); } } spin_lock(&v0->m); }
-}
-",
-        choices: [2177; 3],
-        exits: [321; 3],
-        errors: [160; 3],
     },
     Row {
         text: "\
@@ -821,35 +683,6 @@ return *p0;
         choices: [848; 3],
         exits: [18; 3],
         errors: [24; 3],
-    },
-];
-
-#[test]
-fn fifth_of_locks(rt: HostRuntime) {
-    all_hold(&rt, rt.alloc(), "", FIFTH);
-}
-
-const SIXTH: &[Row] = &[
-    Row {
-        text: "\
-typedef struct{int v;}spinlock_t;
-struct pair { spinlock_t m; _Bool on; struct pair *up; };
-void f0(_Bool *p0, _Bool *p1, spinlock_t *p2, _Bool p3)
-{
-unsigned v0;
-struct pair nd;
-switch (mutex_trylock(p2)) { case 0: spin_unlock(&nd.m); break; case -1: mutex_lock(&nd.m); case 2: mutex_unlock(&nd.m); break; }
-if ((~(nd.on))) { { _Bool x1 = (1, (*p1 > *p0)); pthread_mutex_unlock(p2); } }
-*p1 = nd.on;
-}
-void f1(struct pair *p0)
-{
-if (0) f0(&p0->on, &p0->on, &p0->m, ('a' || p0->on));
-}
-",
-        choices: [1280; 3],
-        exits: [352; 3],
-        errors: [32; 3],
     },
     Row {
         text: "\
@@ -896,6 +729,188 @@ v0;
 ];
 
 #[test]
-fn sixth_of_locks(rt: HostRuntime) {
-    all_hold(&rt, rt.alloc(), "", SIXTH);
+fn seventh_of_locks(rt: HostRuntime) {
+    all_hold(&rt, rt.alloc(), "", SEVENTH);
+}
+
+const EIGHTH: &[Row] = &[
+    Row {
+        text: "\
+typedef struct{int v;}spinlock_t;
+struct node { spinlock_t lock; struct node *next; _Bool flag; char *buf; char v; _Bool arr[2]; };
+struct pair { spinlock_t m; _Bool on; struct pair *up; };
+_Bool f0(_Bool *, struct node *, _Bool );
+_Bool f0(_Bool *p0, struct node *p1, _Bool p2)
+{
+*p0 = 1;
+return p2;
+}
+void f1(_Bool p0)
+{
+if (p0) f0(&p0, 0, p0);
+}
+_Bool f3(struct pair *p0, _Bool p1, _Bool p2, _Bool p3)
+{
+;
+return p2;
+}
+",
+        choices: [104; 3],
+        exits: [70; 3],
+        errors: [0; 3],
+    },
+    Row {
+        text: "\
+typedef struct{int v;}spinlock_t;
+struct node { spinlock_t lock; struct node *next; _Bool flag; char *buf; char v; _Bool arr[2]; };
+struct pair { spinlock_t m; _Bool on; struct pair *up; };
+_Bool f0(struct node *);
+void f2(struct pair *, spinlock_t *, struct pair *);
+_Bool f0(struct node *p0)
+{
+return 300;
+}
+void f2(struct pair *p0, spinlock_t *p1, struct pair *p2)
+{
+spin_lock(p1);
+}
+_Bool f3(struct pair *p0)
+{
+if (p0->on) spin_lock(&p0->m);
+return p0->on;
+}
+",
+        choices: [100; 3],
+        exits: [32; 3],
+        errors: [20; 3],
+    },
+    Row {
+        text: "\
+typedef struct{int v;}spinlock_t;
+struct node { spinlock_t lock; struct node *next; _Bool flag; char *buf; char v; _Bool arr[2]; };
+struct pair { spinlock_t m; _Bool on; struct pair *up; };
+void ext(void *p);
+void f0(struct pair *p0, struct node *p1)
+{
+;
+ext(p0);
+}
+void f1(_Bool *p0)
+{
+
+}
+void f2(struct pair *p0)
+{
+struct pair *v0;
+struct pair *v1 = p0;
+f0(p0, 0);
+if (!v0->on) { (*p0) = (*v0); }
+}
+",
+        choices: [88; 3],
+        exits: [24; 3],
+        errors: [0; 3],
+    },
+    Row {
+        text: "\
+typedef struct{int v;}spinlock_t;
+struct pair { spinlock_t m; _Bool on; struct pair *up; };
+void ext(void *p);
+void f0(_Bool *p0, _Bool p1, struct pair *p2)
+{
+if (p2->on) { if (!p2->on) { ; { if (p1) { spin_lock(&p2->m); spin_unlock(&p2->m); spin_unlock(&p2->m); } spin_lock(&p2->m); p0 = ((*p0 <= p1) ? (_Bool *)0 : 0); } spin_unlock(&p2->m); } }
+spin_lock(&p2->m);
+}
+char f1(_Bool p0)
+{
+_Bool v0 = p0;
+struct pair *v1 = (v0 ? (struct pair *)0 : 0);
+struct pair nd;
+{ do { { 255; } ; } while (v1->on); nd = (*v1); f0(&p0, 300, 0); }
+ext(\"ab\");
+v0;
+return v1->on;
+}
+char f2(_Bool p0, _Bool *p1)
+{
+*p1 = !*p1;
+return p0;
+}
+",
+        choices: [536; 3],
+        exits: [136; 3],
+        errors: [128; 3],
+    },
+    Row {
+        text: "\
+typedef struct{int v;}spinlock_t;
+struct node { spinlock_t lock; struct node *next; _Bool flag; char *buf; char v; _Bool arr[2]; };
+struct pair { spinlock_t m; _Bool on; struct pair *up; };
+_Bool f0(spinlock_t *p0, spinlock_t *p1)
+{
+char arr[3] = {};
+struct pair nd = {};
+{ spin_lock(p0); }
+do { if ((255 >= (0x80000000 ? nd.on : nd.on))) { continue; switch ((arr[2] || arr[0])) { case 1: mutex_lock(p0); break; case -1: ; break; } } } while ((nd.on / nd.on));
+}
+_Bool f1(struct pair *p0)
+{
+f0(&p0->m, &p0->m);
+return (~(p0->on));
+}
+void f2(_Bool p0)
+{
+if (p0) (p0 > (~(p0)));
+;
+}
+_Bool f3(struct node *p0)
+{
+;
+return p0->flag;
+}
+",
+        choices: [290; 3],
+        exits: [10; 3],
+        errors: [36; 3],
+    },
+];
+
+#[test]
+fn eighth_of_locks(rt: HostRuntime) {
+    all_hold(&rt, rt.alloc(), "", EIGHTH);
+}
+
+const NINTH: &[Row] = &[Row {
+    text: "\
+typedef struct{int v;}spinlock_t;
+void ext(void *p);
+char f0(_Bool p0, char p1)
+{
+if (!p0) ;
+return sizeof(int);
+}
+_Bool f1(_Bool p0)
+{
+;
+return (p0 || p0);
+}
+void f2(_Bool p0)
+{
+_Bool *v0 = 0;
+spinlock_t own;
+{ { int x1 = ((2 < *v0) < (7 > 0x80000000)); pthread_mutex_unlock(&own); } if (*v0) { if (!*v0) { f0(!p0, (p0 && -1)); spin_unlock(&own); p0 = (p0 & p0); } else { spin_unlock(&own); } } spin_lock(&own); }
+spin_unlock(&own);
+ext(v0);
+out:
+p0;
+}
+",
+    choices: [1026; 3],
+    exits: [514; 3],
+    errors: [0; 3],
+}];
+
+#[test]
+fn ninth_of_locks(rt: HostRuntime) {
+    all_hold(&rt, rt.alloc(), "", NINTH);
 }

@@ -135,45 +135,6 @@ p2;
     },
     Machined {
         spelled: "\
-machine m2
-states U on
-op down zero U>on on>!
-op up void U>on on>!
-",
-        rows: &[Row {
-            text: "\
-typedef struct{int v;}spinlock_t;
-struct pair { spinlock_t m; _Bool on; struct pair *up; };
-spinlock_t gl;
-_Bool f0(_Bool p0)
-{
-_Bool v0;
-struct pair *v1;
-if (2) { if ((v0 && p0)) { if ((v0 > (v1->on && 'a'))) { if (!v0) { up(&gl); } goto out; } } }
-{ up(&gl); }
-out:
-up(&gl);
-return v0;
-}
-void f1(struct pair *p0, _Bool p1)
-{
-down(&p0->m);
-if (p1) f0(p0->on);
-}
-void f2(_Bool *p0)
-{
-(128 + *p0);
-*p0 = !*p0;
-if (*p0) f0(*p0);
-}
-",
-            choices: [1156; 3],
-            exits: [160; 3],
-            errors: [340; 3],
-        }],
-    },
-    Machined {
-        spelled: "\
 machine irq
 states _ L U off
 op spin_lock zero _>L L>U U>L off>!
@@ -229,6 +190,14 @@ return ('a' && 128);
             errors: [8; 3],
         }],
     },
+];
+
+#[test]
+fn first_of_machines(rt: HostRuntime) {
+    all_hold_over(&rt, rt.alloc(), FIRST);
+}
+
+const SECOND: &[Machined] = &[
     Machined {
         spelled: "\
 machine ref
@@ -299,50 +268,6 @@ return (char)0x80000000;
             choices: [176; 3],
             exits: [41; 3],
             errors: [10; 3],
-        }],
-    },
-];
-
-#[test]
-fn first_of_machines(rt: HostRuntime) {
-    all_hold_over(&rt, rt.alloc(), FIRST);
-}
-
-const SECOND: &[Machined] = &[
-    Machined {
-        spelled: "\
-machine m2
-states U x1 off
-op rcu_in zero U>! x1>U off>x1
-op irq_on void U>! x1>off off>x1
-op down void U>! x1>! off>x1
-op irq_off void U>! x1>off off>!
-",
-        rows: &[Row {
-            text: "\
-typedef struct{int v;}spinlock_t;
-struct pair { spinlock_t m; _Bool on; struct pair *up; };
-void ext(void *p);
-void down(spinlock_t *l) { ext(l); }
-void f0(struct pair *p0, _Bool *p1)
-{
-ext(p1);
-p0->on = 1;
-}
-void f1(struct pair *p0)
-{
-down(&p0->m);
-}
-void f2(spinlock_t *p0)
-{
-down(p0);
-down(p0);
-f1(0);
-}
-",
-            choices: [1128; 3],
-            exits: [528; 3],
-            errors: [40; 3],
         }],
     },
     Machined {
@@ -484,6 +409,14 @@ return p0;
             errors: [1; 3],
         }],
     },
+];
+
+#[test]
+fn second_of_machines(rt: HostRuntime) {
+    all_hold_over(&rt, rt.alloc(), SECOND);
+}
+
+const THIRD: &[Machined] = &[
     Machined {
         spelled: "\
 machine irq
@@ -668,82 +601,11 @@ return 1;
 ];
 
 #[test]
-fn second_of_machines(rt: HostRuntime) {
-    all_hold_over(&rt, rt.alloc(), SECOND);
+fn third_of_machines(rt: HostRuntime) {
+    all_hold_over(&rt, rt.alloc(), THIRD);
 }
 
-const THIRD: &[Machined] = &[
-    Machined {
-        spelled: "\
-machine m2
-states _ held off
-op spin_lock zero _>off held>off off>!
-op mutex_lock zero _>held held>off off>!
-op down void _>! held>_ off>held",
-        rows: &[Row {
-            text: "\
-typedef struct{int v;}spinlock_t;
-struct pair { spinlock_t m; _Bool on; struct pair *up; };
-void f0(spinlock_t *p0, _Bool *p1)
-{
-mutex_lock(p0);
-}
-void f1(_Bool p0)
-{
-char v0 = p0;
-struct pair nd;
-if (0) { { f0(&nd.m, &p0); f0((p0 ? 0 : &nd.m), (nd.on ? 0 : &p0)); } ; spin_lock(&nd.m); }
-down(&nd.m);
-out:
-spin_lock(&nd.m);
-if (nd.on) f0(&nd.m, 0);
-}
-_Bool f2(struct pair *p0)
-{
-mutex_lock(&p0->m);
-return p0->on;
-}
-",
-            choices: [1408; 3],
-            exits: [1120; 3],
-            errors: [96; 3],
-        }],
-    },
-    Machined {
-        spelled: "\
-machine irq
-states L x1 held
-op up zero L>L x1>L held>x1
-op irq_on void L>x1 x1>held held>!
-",
-        rows: &[Row {
-            text: "\
-typedef struct{int v;}spinlock_t;
-struct pair { spinlock_t m; _Bool on; struct pair *up; };
-int irq_on();
-_Bool f0(_Bool *p0)
-{
-;
-return *p0;
-}
-_Bool f1(struct pair *p0, _Bool *p1, spinlock_t *p2)
-{
-irq_on(p2);
-irq_on(p2);
-*p1 = 1;
-return --(*p1);
-}
-void f2(_Bool p0, _Bool p1, _Bool *p2)
-{
-;
-if (*p2) f0(&p0);
-}
-",
-            choices: [1168; 3],
-            exits: [136; 3],
-            errors: [384; 3],
-        }],
-    },
+const FOURTH: &[Machined] = &[
     Machined {
         spelled: "\
 machine m2
@@ -774,14 +636,6 @@ if (ask()) f0(p0->on);
             errors: [256; 3],
         }],
     },
-];
-
-#[test]
-fn third_of_machines(rt: HostRuntime) {
-    all_hold_over(&rt, rt.alloc(), THIRD);
-}
-
-const FOURTH: &[Machined] = &[
     Machined {
         spelled: "\
 machine out
@@ -819,6 +673,14 @@ return 1;
             errors: [218; 3],
         }],
     },
+];
+
+#[test]
+fn fourth_of_machines(rt: HostRuntime) {
+    all_hold_over(&rt, rt.alloc(), FOURTH);
+}
+
+const FIFTH: &[Machined] = &[
     Machined {
         spelled: "\
 machine lock
@@ -970,15 +832,22 @@ return (nd.on <= (255 || nd.on));
             errors: [0; 3],
         }],
     },
-    Machined {
-        spelled: "\
+];
+
+#[test]
+fn fifth_of_machines(rt: HostRuntime) {
+    all_hold_over(&rt, rt.alloc(), FIFTH);
+}
+
+const SIXTH: &[Machined] = &[Machined {
+    spelled: "\
 machine out
 states on off x1 held
 op spin_unlock zero on>! off>on x1>off held>x1
 op irq_off void on>! off>on x1>off held>x1
 ",
-        rows: &[Row {
-            text: "\
+    rows: &[Row {
+        text: "\
 typedef struct{int v;}spinlock_t;
 _Bool ask(void);
 _Bool f0(_Bool p0)
@@ -1000,14 +869,13 @@ v0 = spin_unlock(p0);
 if (v0) f1(p0, 0, v0);
 }
 ",
-            choices: [514; 3],
-            exits: [154; 3],
-            errors: [72; 3],
-        }],
-    },
-];
+        choices: [514; 3],
+        exits: [154; 3],
+        errors: [72; 3],
+    }],
+}];
 
 #[test]
-fn fourth_of_machines(rt: HostRuntime) {
-    all_hold_over(&rt, rt.alloc(), FOURTH);
+fn sixth_of_machines(rt: HostRuntime) {
+    all_hold_over(&rt, rt.alloc(), SIXTH);
 }

@@ -5,48 +5,6 @@ use crate::programs::{Row, all_hold};
 const FIRST: &[Row] = &[
     Row {
         text: "\
-_Bool *gd;
-_Bool **gz;
-void f0(void **p0, void *p1)
-{
-
-}
-void f1(_Bool p0, void *p1)
-{
-void *v0;
-_Bool own;
-void *w;
-f0(&w, v0);
-f0(&w, v0);
-;
-kfree(v0);
-;
-}
-void f2(_Bool p0, void **p1)
-{
-void *v0;
-void *w = 0;
-f0(&w, calloc(1));
-if (v0) { f0(&w, calloc(1)); }
-if (v0) { if (!v0) { f0(&v0, v0); } }
-}
-void f3(void)
-{
-void *v0;
-void *w;
-f0(&w, v0);
-if (*gz) free(w);
-if (gz) { if (!*gz) return; }
-if (*gz) kfree(*gz);
-f2(*gd, 0);
-}
-",
-        choices: [1224; 3],
-        exits: [584; 3],
-        errors: [0; 3],
-    },
-    Row {
-        text: "\
 typedef struct{int v;}spinlock_t;
 void ext(void *p);
 void f0(_Bool **p0)
@@ -94,44 +52,6 @@ return kmalloc(1);
     },
     Row {
         text: "\
-void f0(_Bool p0, _Bool **p1)
-{
-if (p0) *p1 = kmalloc(8, 0);
-;
-*p1 = *p1;
-*p1 = kzalloc(1);
-}
-void f1(_Bool p0, _Bool *p1)
-{
-_Bool *v0;
-_Bool *w;
-f0(!p1, &w);
-f0(!p1, &w);
-}
-_Bool f2(_Bool **p0)
-{
-_Bool *v0;
-_Bool *w;
-f0(!*w, &w);
-if (w) free(w);
-*w = p0;
-return *p0;
-}
-void f3(void)
-{
-_Bool *v0 = 0;
-_Bool *w = 0;
-f0(!*v0, &w);
-if (w) kfree(w);
-;
-}
-",
-        choices: [1800; 3],
-        exits: [512; 3],
-        errors: [0; 3],
-    },
-    Row {
-        text: "\
 _Bool f0(void *p0, void **p1)
 {
 void *v0;
@@ -155,14 +75,6 @@ if (v0) kfree(w);
         exits: [148; 3],
         errors: [0; 3],
     },
-];
-
-#[test]
-fn first_of_makers(rt: HostRuntime) {
-    all_hold(&rt, rt.alloc(), "", FIRST);
-}
-
-const SECOND: &[Row] = &[
     Row {
         text: "\
 void f0(_Bool **p0)
@@ -194,6 +106,14 @@ f0(&w);
         exits: [72; 3],
         errors: [0; 3],
     },
+];
+
+#[test]
+fn first_of_makers(rt: HostRuntime) {
+    all_hold(&rt, rt.alloc(), "", FIRST);
+}
+
+const SECOND: &[Row] = &[
     Row {
         text: "\
 void f0(_Bool **p0)
@@ -356,8 +276,15 @@ v0 = w;
         exits: [82; 3],
         errors: [0; 3],
     },
-    Row {
-        text: "\
+];
+
+#[test]
+fn second_of_makers(rt: HostRuntime) {
+    all_hold(&rt, rt.alloc(), "", SECOND);
+}
+
+const THIRD: &[Row] = &[Row {
+    text: "\
 _Bool *gd;
 void f0(void **p0, void *p1, void **p2)
 {
@@ -384,10 +311,17 @@ if (gd) return 1;
 return v1;
 }
 ",
-        choices: [1042; 3],
-        exits: [530; 3],
-        errors: [0; 3],
-    },
+    choices: [1042; 3],
+    exits: [530; 3],
+    errors: [0; 3],
+}];
+
+#[test]
+fn third_of_makers(rt: HostRuntime) {
+    all_hold(&rt, rt.alloc(), "", THIRD);
+}
+
+const FOURTH: &[Row] = &[
     Row {
         text: "\
 _Bool ask(void);
@@ -450,14 +384,6 @@ f0(&w, &w);
         exits: [76; 3],
         errors: [0; 3],
     },
-];
-
-#[test]
-fn second_of_makers(rt: HostRuntime) {
-    all_hold(&rt, rt.alloc(), "", SECOND);
-}
-
-const THIRD: &[Row] = &[
     Row {
         text: "\
 void ext(void *p);
@@ -490,6 +416,14 @@ return !p0;
         exits: [112; 3],
         errors: [0; 3],
     },
+];
+
+#[test]
+fn fourth_of_makers(rt: HostRuntime) {
+    all_hold(&rt, rt.alloc(), "", FOURTH);
+}
+
+const FIFTH: &[Row] = &[
     Row {
         text: "\
 typedef struct{int v;}spinlock_t;
@@ -554,51 +488,6 @@ if (w) free(w);
 ",
         choices: [304; 3],
         exits: [88; 3],
-        errors: [0; 3],
-    },
-    Row {
-        text: "\
-typedef struct{int v;}spinlock_t;
-_Bool ask(void);
-_Bool **gz;
-_Bool f2(_Bool p0);
-void f0(_Bool p0, spinlock_t **p1)
-{
-spinlock_t *n = malloc(1); if (!n) return; *p1 = n;
-spin_lock(*p1);
-if (!ask()) spin_unlock(*p1);
-if (p0) return;
-}
-void f1(void)
-{
-void *v0 = 0;
-spinlock_t *w;
-f0(w, &w);
-free(w);
-while (w) { ; }
-;
-}
-_Bool f2(_Bool p0)
-{
-void *v0;
-spinlock_t *w = 0;
-f0(v0, &w);
-free(w);
-spin_lock(w);
-if (!1) spin_lock(w);
-if (!1) { f0(p0, &w); }
-return !v0;
-}
-void f3(void *p0)
-{
-void *v0;
-spinlock_t *w = 0;
-f0(!w, &w);
-if (*gz) free(w);
-}
-",
-        choices: [1188; 3],
-        exits: [353; 3],
         errors: [0; 3],
     },
     Row {
@@ -669,6 +558,14 @@ return v0;
         exits: [226; 3],
         errors: [0; 3],
     },
+];
+
+#[test]
+fn fifth_of_makers(rt: HostRuntime) {
+    all_hold(&rt, rt.alloc(), "", FIFTH);
+}
+
+const SIXTH: &[Row] = &[
     Row {
         text: "\
 typedef struct{int v;}spinlock_t;
@@ -743,14 +640,6 @@ return p0;
         exits: [112; 3],
         errors: [0; 3],
     },
-];
-
-#[test]
-fn third_of_makers(rt: HostRuntime) {
-    all_hold(&rt, rt.alloc(), "", THIRD);
-}
-
-const FOURTH: &[Row] = &[
     Row {
         text: "\
 typedef struct{int v;}spinlock_t;
@@ -823,6 +712,14 @@ return 1;
         exits: [80; 3],
         errors: [0; 3],
     },
+];
+
+#[test]
+fn sixth_of_makers(rt: HostRuntime) {
+    all_hold(&rt, rt.alloc(), "", SIXTH);
+}
+
+const SEVENTH: &[Row] = &[
     Row {
         text: "\
 _Bool f0(void *p0, void *p1, void **p2)
@@ -897,59 +794,16 @@ return !v0;
         exits: [416; 3],
         errors: [0; 3],
     },
-    Row {
-        text: "\
-typedef struct{int v;}spinlock_t;
-void *gw;
-void f0(_Bool p0, spinlock_t **p1)
-{
-if (1) *p1 = kzalloc(1, 0); else *p1 = *p1;
-}
-spinlock_t *f1(spinlock_t *p0, spinlock_t **p1)
-{
-*p1 = malloc(1); if (!*p1) return 0;
-spin_lock(*p1);
-if (p1) spin_lock(*p1);
-free(*p1);
-if (p0) return *p1;
-return *p1;
-}
-void f2(_Bool p0)
-{
-spinlock_t *v0;
-spinlock_t *w;
-f0(w, &w);
-if (p0) { f0(w, &w); }
-spin_lock(w);
-if (p0) spin_unlock(w);
-f0(!w, &w);
-if (!v0) return;
-if (gw) kfree(gw);
-}
-void f3(_Bool p0, _Bool p1)
-{
-char *v0;
-spinlock_t *w;
-f0(p0, &w);
-if (!p0) free(w);
-spin_lock(w);
-if (p1) spin_unlock(w);
-;
-}
-",
-        choices: [1232; 3],
-        exits: [162; 3],
-        errors: [32; 3],
-    },
 ];
 
 #[test]
-fn fourth_of_makers(rt: HostRuntime) {
-    all_hold(&rt, rt.alloc(), "", FOURTH);
+fn seventh_of_makers(rt: HostRuntime) {
+    all_hold(&rt, rt.alloc(), "", SEVENTH);
 }
 
-const FIFTH: &[Row] = &[Row {
-    text: "\
+const EIGHTH: &[Row] = &[
+    Row {
+        text: "\
 typedef struct{int v;}spinlock_t;
 void ext(void *p);
 _Bool f2(_Bool **p0);
@@ -985,12 +839,202 @@ kfree(v0);
 return p0;
 }
 ",
-    choices: [544; 3],
-    exits: [280; 3],
+        choices: [544; 3],
+        exits: [280; 3],
+        errors: [0; 3],
+    },
+    Row {
+        text: "\
+typedef struct{int v;}spinlock_t;
+spinlock_t *gk;
+void f0(void *p0, void **p1)
+{
+void *v0;
+_Bool own;
+*p1 = kzalloc(1, 0); if (!*p1) return;
+}
+void f1(void)
+{
+void *v0;
+void *v1;
+void *w = 0;
+f0(gk, &w);
+spin_lock(gk);
+if (!1) spin_lock(gk);
+;
+}
+",
+        choices: [160; 3],
+        exits: [68; 3],
+        errors: [4; 3],
+    },
+    Row {
+        text: "\
+typedef struct{int v;}spinlock_t;
+struct box { _Bool on; struct box *up; spinlock_t m; };
+_Bool ask(void);
+_Bool *gd;
+void f0(struct box **p0, _Bool p1);
+void f0(struct box **p0, _Bool p1)
+{
+*p0 = calloc(1, 1); if (!*p0) return;
+}
+_Bool f1(_Bool p0)
+{
+struct box *v0;
+struct box *w;
+f0(&w, !ask());
+f0(&w, !ask());
+return p0;
+}
+_Bool f2(void)
+{
+void *v0;
+struct box **z = 0;
+struct box *w;
+f0(&w, 1);
+;
+;
+if (!v0) return 1;
+return gd;
+}
+",
+        choices: [256; 3],
+        exits: [96; 3],
+        errors: [0; 3],
+    },
+];
+
+#[test]
+fn eighth_of_makers(rt: HostRuntime) {
+    all_hold(&rt, rt.alloc(), "", EIGHTH);
+}
+
+const NINTH: &[Row] = &[Row {
+    text: "\
+void ext(void *p);
+_Bool f0(_Bool **p0, _Bool **p1)
+{
+return *p0;
+}
+void f2(_Bool p0)
+{
+_Bool *v0;
+_Bool *w;
+f0(&w, &w);
+ext(w);
+}
+",
+    choices: [1028; 3],
+    exits: [516; 3],
     errors: [0; 3],
 }];
 
 #[test]
-fn fifth_of_makers(rt: HostRuntime) {
-    all_hold(&rt, rt.alloc(), "", FIFTH);
+fn ninth_of_makers(rt: HostRuntime) {
+    all_hold(&rt, rt.alloc(), "", NINTH);
+}
+
+const TENTH: &[Row] = &[
+    Row {
+        text: "\
+void f0(_Bool **p0, _Bool **p1)
+{
+
+}
+_Bool f1(_Bool p0, void *p1)
+{
+void *v0;
+_Bool *w = 0;
+f0(&w, &w);
+;
+if (p0) return 1;
+return !p0;
+}
+",
+        choices: [1032; 3],
+        exits: [1032; 3],
+        errors: [0; 3],
+    },
+    Row {
+        text: "\
+typedef struct{int v;}spinlock_t;
+struct box { _Bool on; struct box *up; spinlock_t m; };
+void ext(void *p);
+spinlock_t *gk;
+_Bool f0(struct box **p0)
+{
+*p0 = kmalloc(8, 0); if (!*p0) return 0;
+while (*p0 == *p0) { *p0 = *p0; }
+return *p0 != *p0;
+}
+void f1(_Bool p0)
+{
+struct box *v0 = 0;
+struct box *v1;
+struct box *w;
+if (!f0(&w)) return;
+}
+void f2(void)
+{
+spinlock_t *v0;
+struct box **z = 0;
+struct box *w;
+if (f0(&w)) free(w);
+if (w != w) spin_unlock(gk);
+ext(z);
+}
+",
+        choices: [112; 3],
+        exits: [18; 3],
+        errors: [0; 3],
+    },
+];
+
+#[test]
+fn tenth_of_makers(rt: HostRuntime) {
+    all_hold(&rt, rt.alloc(), "", TENTH);
+}
+
+const ELEVENTH: &[Row] = &[Row {
+    text: "\
+void ext(void *p);
+_Bool *f0(_Bool **p0)
+{
+_Bool **z = 0;
+_Bool *n = malloc(1); if (!n) return 0; *p0 = n;
+*p0 = kmalloc(8, 0);
+return *p0;
+}
+void f1(void)
+{
+_Bool *v0;
+_Bool **z = &v0;
+_Bool *w;
+f0(&w);
+ext(w);
+;
+*v0 = *z;
+}
+_Bool f2(_Bool p0)
+{
+_Bool *v0 = &p0;
+_Bool *v1;
+_Bool *w;
+f0(&w);
+if (v0) free(w);
+*w = *w;
+;
+free(w);
+return p0;
+}
+",
+    choices: [704; 3],
+    exits: [384; 3],
+    errors: [0; 3],
+}];
+
+#[test]
+fn eleventh_of_makers(rt: HostRuntime) {
+    all_hold(&rt, rt.alloc(), "", ELEVENTH);
 }

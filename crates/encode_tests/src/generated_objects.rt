@@ -73,6 +73,14 @@ return mutex_trylock(&p0->m);
         exits: [224; 3],
         errors: [64; 3],
     },
+];
+
+#[test]
+fn first_of_objects(rt: HostRuntime) {
+    all_hold(&rt, rt.alloc(), "", FIRST);
+}
+
+const SECOND: &[Row] = &[
     Row {
         text: "\
 _Bool f1(_Bool p0, _Bool *p1)
@@ -94,35 +102,6 @@ if (++(v0)) { *v1; 128; f1((*v1 != 1u), v1); }
         choices: [20; 3],
         exits: [10; 3],
         errors: [0; 3],
-    },
-    Row {
-        text: "\
-typedef struct{int v;}spinlock_t;
-struct node { spinlock_t lock; struct node *next; _Bool flag; char *buf; char v; _Bool arr[2]; };
-struct pair { spinlock_t m; _Bool on; struct pair *up; };
-struct pair *gq;
-char *f2(spinlock_t *, struct pair *, spinlock_t *, _Bool );
-char *f0(struct node *p0, _Bool *p1)
-{
-return 0;
-}
-void f1(spinlock_t *p0)
-{
-unsigned char v0 = sizeof(int);
-{ int x1 = ((v0 ^ v0) <= (-1 << gq->on)); spin_lock(p0); }
-}
-char *f2(spinlock_t *p0, struct pair *p1, spinlock_t *p2, _Bool p3)
-{
-spinlock_t own;
-char arr[3];
-struct pair nd;
-f1(p2);
-return kzalloc(sizeof(struct pair));
-}
-",
-        choices: [1184; 3],
-        exits: [112; 3],
-        errors: [144; 3],
     },
     Row {
         text: "\
@@ -282,14 +261,6 @@ spin_lock(&p0->m);
         exits: [18; 3],
         errors: [2; 3],
     },
-];
-
-#[test]
-fn first_of_objects(rt: HostRuntime) {
-    all_hold(&rt, rt.alloc(), "", FIRST);
-}
-
-const SECOND: &[Row] = &[
     Row {
         text: "\
 typedef struct{int v;}spinlock_t;
@@ -357,8 +328,15 @@ return f0(0, 0);
         exits: [64; 3],
         errors: [0; 3],
     },
-    Row {
-        text: "\
+];
+
+#[test]
+fn second_of_objects(rt: HostRuntime) {
+    all_hold(&rt, rt.alloc(), "", SECOND);
+}
+
+const THIRD: &[Row] = &[Row {
+    text: "\
 typedef struct{int v;}spinlock_t;
 struct node { spinlock_t lock; struct node *next; _Bool flag; char *buf; char v; _Bool arr[2]; };
 spinlock_t gl;
@@ -380,13 +358,12 @@ _Bool f2(char *p0)
 return *p0;
 }
 ",
-        choices: [1057; 3],
-        exits: [513; 3],
-        errors: [16, 24, 24],
-    },
-];
+    choices: [1057; 3],
+    exits: [513; 3],
+    errors: [16, 24, 24],
+}];
 
 #[test]
-fn second_of_objects(rt: HostRuntime) {
-    all_hold(&rt, rt.alloc(), "", SECOND);
+fn third_of_objects(rt: HostRuntime) {
+    all_hold(&rt, rt.alloc(), "", THIRD);
 }
