@@ -2,8 +2,8 @@
 
 `sarif.schema.json` has all objects of the document (OASIS, chapter 3). It was written for these tests, since no package of
 Debian has the schema of OASIS. Names of members, their types and which of them must be there were held against two packages
-that were made from that one, python3-sarif-python-om and golang-github-haya14busa-go-sarif-dev; bounds are those of the
-document.
+that were made from that one, python3-sarif-python-om and golang-github-haya14busa-go-sarif-dev. Bounds, and which arrays have
+no element twice, were written from knowledge of the document and held against nothing.
 """
 
 from __future__ import annotations
