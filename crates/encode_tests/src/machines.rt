@@ -2,7 +2,7 @@
 
 use crate::programs::{Machined, Row, all_hold_over};
 
-const MACHINES: &[Machined] = &[
+const SMALL: &[Machined] = &[
     Machined {
         spelled: "\
 machine gate
@@ -74,6 +74,9 @@ op file_lose void closed>! read>! write>! done>!
             },
         ],
     },
+];
+
+const MIDDLE: &[Machined] = &[
     Machined {
         spelled: "\
 machine depth
@@ -138,6 +141,9 @@ op only_d void a>! b>! c>! d>d e>! f>!
             },
         ],
     },
+];
+
+const LARGE: &[Machined] = &[
     Machined {
         spelled: "\
 machine week
@@ -205,6 +211,16 @@ op full void s0>! s1>! s2>! s3>! s4>! s5>! s6>! s7>s0
 ];
 
 #[test]
-fn machines_of_two_to_eight_states(rt: HostRuntime) {
-    all_hold_over(&rt, rt.alloc(), MACHINES);
+fn machines_of_two_and_four_states(rt: HostRuntime) {
+    all_hold_over(&rt, rt.alloc(), SMALL);
+}
+
+#[test]
+fn machines_of_five_and_six_states(rt: HostRuntime) {
+    all_hold_over(&rt, rt.alloc(), MIDDLE);
+}
+
+#[test]
+fn machines_of_seven_and_eight_states(rt: HostRuntime) {
+    all_hold_over(&rt, rt.alloc(), LARGE);
 }
