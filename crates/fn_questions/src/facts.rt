@@ -31,6 +31,7 @@ impl Begun {
         ensures at { IsTrue result → self.now.at ≡ at }
         ensures given { IsTrue result → self.now.row.given ≡ row.given }
         ensures before { IsTrue result → self.now.row.before ≡ row.before }
+        ensures all { self.now.at ≡ at → self.now.row.given ≡ row.given → self.now.row.before ≡ row.before → IsTrue result }
     {
         self.at == at && self.row.given == row.given && self.row.before == row.before
     }
