@@ -2,7 +2,7 @@
 ghost use Rattle.std.specs.Prelude.{◌≡◌, ℕ, ◌+◌, ◌<◌, ◌≤◌, Bool, true, false, not, ◌&&◌, ◌||◌, if◌then◌else◌, List, [], ◌∷◌, ◌++◌, length, take, slice_get, IfOk, OnOk, OnErr, IfSome, IsTrue, Some, ◌↔◌};
 ghost use Rattle.bit_net.specs.Value.{bit_at, xor, table, values};
 ghost use Rattle.bit_net.specs.Circuit.{first_nodes, input_count, ReadsBelow, IsCircuit};
-ghost use Rattle.bit_net.specs.Runs.{Grown, Gives, Always};
+ghost use Rattle.bit_net.specs.Runs.{Grown, Gives, Always, AreAsBoth};
 
 use crate::OutOfMemory;
 use std::alloc::Global;
@@ -37,8 +37,8 @@ pub struct Net {
     alloc: Global,
     nodes: Vec<Node>,
 
-    /// Where a node was last put. It is a hint: a place is used only where that very node still stands there.
-    places: HashMap<Node, usize>,
+    /// Where a node with that key was last put. It is a hint: a place is used only where the very node still stands there.
+    places: HashMap<u64, usize>,
 }
 
 impl Model for Net {
@@ -132,13 +132,73 @@ impl Net {
         requires b { b.at < length self.old }
         ensures grown { Grown self.old self.new }
         ensures ok { IfOk result (λ r. Gives self.new r.at (λ choice v. v a.at && v b.at)) }
+        ensures front { take (length self.old) self.new ≡ self.old }
         ensures err { OnErr result (self.new ≡ self.old) }
     {
-        match self.folded_and(a, b) {
-            Some(gate) => Ok(gate),
-            None if a.at < b.at => self.gate_of(Node::And(a, b)),
-            None => self.gate_of(Node::And(b, a)),
+        if let Some(gate) = self.folded_and(a, b) {
+            return Ok(gate);
         }
+        if let Some((one, other)) = self.shared(a, b) {
+            return self.both(one, other);
+        }
+        if let Some((one, other)) = self.shared(b, a) {
+            return self.both(one, other);
+        }
+        self.both(a, b)
+    }
+
+    /// The gate of two operands, the earlier one first.
+    fn both(&mut self, a: Gate, b: Gate) -> Result<Gate, OutOfMemory>
+        requires a { a.at < length self.old }
+        requires b { b.at < length self.old }
+        ensures grown { Grown self.old self.new }
+        ensures ok { IfOk result (λ r. Gives self.new r.at (λ choice v. v a.at && v b.at)) }
+        ensures front { take (length self.old) self.new ≡ self.old }
+        ensures err { OnErr result (self.new ≡ self.old) }
+    {
+        if a.at < b.at {
+            self.gate_of(Node::And(a, b))
+        } else {
+            self.gate_of(Node::And(b, a))
+        }
+    }
+
+    /// Where `b` holds where two gates do, and `a` with one of them has a gate already: that gate, and the other one.
+    fn shared(&self, a: Gate, b: Gate) -> Option<(Gate, Gate)>
+        requires a { a.at < length self.now }
+        requires b { b.at < length self.now }
+        ensures { IfSome result (λ pair. AreAsBoth self.now a.at b.at pair.0.at pair.1.at) }
+    {
+        self.sound();
+        match self.node(b) {
+            Node::And(x, y) => {
+                if let Some(one) = self.gate_of_both(a, x) {
+                    return Some((one, y));
+                }
+                if let Some(one) = self.gate_of_both(a, y) {
+                    return Some((one, x));
+                }
+                None
+            }
+            _ => None,
+        }
+    }
+
+    /// The gate that holds where both gates do, if there is one already.
+    fn gate_of_both(&self, a: Gate, b: Gate) -> Option<Gate>
+        ensures { IfSome result (λ r. Gives self.now r.at (λ choice v. v a.at && v b.at)) }
+    {
+        self.sound();
+        if a.at < b.at {
+            if let Some(gate) = self.gate_with(Node::And(a, b)) {
+                return Some(gate);
+            }
+        } else {
+            if let Some(gate) = self.gate_with(Node::And(b, a)) {
+                return Some(gate);
+            }
+        }
+        None
     }
 
     /// Holds where at least one of the gates holds.
@@ -241,7 +301,7 @@ impl Net {
     fn gate_with(&self, node: Node) -> Option<Gate>
         ensures { IfSome result (λ r. slice_get self.now r.at ≡ Some node) }
     {
-        let at = *self.places.get(&node)?;
+        let at = *self.places.get(&key_of(&node))?;
         if at < self.nodes.len() && self.nodes[at] == node {
             return Some(Gate { at });
         }
@@ -297,7 +357,45 @@ impl Net {
         if self.are_opposite(a, b) {
             return self.xor(c, b);
         }
+        if let Some(other) = self.other_operand(a, b) {
+            return self.turned(b, c, other);
+        }
+        if let Some(other) = self.other_operand(b, a) {
+            return self.turned_beside(a, c, other);
+        }
         self.gate_of(Node::Mux(c, a, b))
+    }
+
+    /// Has the value of `b`, and the opposite where both other gates hold.
+    fn turned(&mut self, b: Gate, c: Gate, other: Gate) -> Result<Gate, OutOfMemory>
+        requires b { b.at < length self.old }
+        requires c { c.at < length self.old }
+        requires other { other.at < length self.old }
+        ensures grown { Grown self.old self.new }
+        ensures ok { IfOk result (λ r. Gives self.new r.at (λ choice v. xor (v b.at) (v c.at && v other.at))) }
+        ensures err { OnErr result (self.new ≡ self.old) }
+    {
+        self.sound();
+        let gates = self.len();
+        let both = self.and(c, other)?;
+        let made = self.xor(b, both);
+        self.or_back(gates, made)
+    }
+
+    /// Has the value of `a`, and the opposite where `c` does not hold and `other` does.
+    fn turned_beside(&mut self, a: Gate, c: Gate, other: Gate) -> Result<Gate, OutOfMemory>
+        requires a { a.at < length self.old }
+        requires c { c.at < length self.old }
+        requires other { other.at < length self.old }
+        ensures grown { Grown self.old self.new }
+        ensures ok { IfOk result (λ r. Gives self.new r.at (λ choice v. xor (v a.at) (not (v c.at) && v other.at))) }
+        ensures err { OnErr result (self.new ≡ self.old) }
+    {
+        self.sound();
+        let gates = self.len();
+        let both = self.and_inverse(c, other)?;
+        let made = self.xor(a, both);
+        self.or_back(gates, made)
     }
 
     /// Holds where `c` does not and `b` does. Where `c` is made by `xor` of `b` and another gate, that is where both of these hold.
@@ -306,6 +404,7 @@ impl Net {
         requires b { b.at < length self.old }
         ensures grown { Grown self.old self.new }
         ensures ok { IfOk result (λ r. Gives self.new r.at (λ choice v. not (v c.at) && v b.at)) }
+        ensures front { take (length self.old) self.new ≡ self.old }
         ensures err { OnErr result (self.new ≡ self.old) }
     {
         if let Some(other) = self.other_operand(c, b) {
@@ -442,16 +541,35 @@ impl Net {
     }
 }
 
+/// The key by which a node is looked for: in nets of up to a million gates each node has one of its own. Of two nodes with one key the
+/// later one is found.
+fn key_of(node: &Node) -> u64 {
+    match *node {
+        Node::Constant(b) => key(0, b as usize, 0, 0),
+        Node::Input(k) => key(1, k, 0, 0),
+        Node::Not(a) => key(2, a.at, 0, 0),
+        Node::And(a, b) => key(3, a.at, b.at, 0),
+        Node::Or(a, b) => key(4, a.at, b.at, 0),
+        Node::Xor(a, b) => key(5, a.at, b.at, 0),
+        Node::Mux(c, a, b) => key(6, c.at, a.at, b.at),
+    }
+}
+
+/// A kind and three numbers in one word.
+fn key(kind: u64, first: usize, second: usize, third: usize) -> u64 {
+    kind ^ ((first as u64) << 3) ^ ((second as u64) << 23) ^ ((third as u64) << 43)
+}
+
 /// Adds a node behind the others, and notes its place.
 fn put(
     nodes: &mut Vec<Node>,
-    places: &mut HashMap<Node, usize>,
+    places: &mut HashMap<u64, usize>,
     node: Node,
 ) -> Result<(), OutOfMemory>
     ensures ok { OnOk result (nodes.new.items ≡ nodes.old.items ++ node ∷ []) }
     ensures err { OnErr result (nodes.new.items ≡ nodes.old.items) }
 {
-    places.insert(node, nodes.len())?;
+    places.insert(key_of(&node), nodes.len())?;
     nodes.push(node)?;
     Ok(())
 }
