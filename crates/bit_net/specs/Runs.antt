@@ -1,6 +1,6 @@
 -- How the clauses here and above speak of a net: by any assignment v of a value to each gate number that the net has for a choice.
 -- So no definition above this file mentions two nets, and what was said of an older net stays true while the net grows.
-use Rattle.std.specs.Prelude.{◌≡◌, ℕ, ◌<◌, ◌≤◌, Bool, List, length, Some, slice_get}
+use Rattle.std.specs.Prelude.{◌≡◌, ℕ, ◌<◌, ◌≤◌, Bool, ◌&&◌, List, length, Some, slice_get}
 use Rattle.bit_net.specs.declared.nodes.Node.{Node}
 use Rattle.bit_net.specs.Value.{value, table}
 use Rattle.bit_net.specs.Circuit.{input_count}
@@ -23,6 +23,12 @@ pub record Gives (ns : List Node) (g : ℕ) (of : (choice v : ℕ → Bool) → 
 -- the fact holds of the values that the gates of the net have, for every choice
 pub record Always (ns : List Node) (P : (choice v : ℕ → Bool) → Type 0) : Type 0 where
   pub holds : (choice v : ℕ → Bool) → Runs ns choice v → P choice v
+
+-- two gates of the net that both hold just where a and b both do
+pub record AreAsBoth (ns : List Node) (a b one other : ℕ) : Type 0 where
+  pub first : one < length ns
+  pub second : other < length ns
+  pub same : Always ns (λ choice v. (v one && v other) ≡ (v a && v b))
 
 -- v fits the table of each node of the net
 pub record Fits (ns : List Node) (choice v : ℕ → Bool) : Type 0 where

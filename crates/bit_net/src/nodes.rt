@@ -2,7 +2,7 @@
 ghost use Rattle.std.specs.Prelude.{◌≡◌, ℕ, ◌+◌, ◌<◌, ◌≤◌, Bool, true, false, not, ◌&&◌, ◌||◌, if◌then◌else◌, List, [], ◌∷◌, ◌++◌, length, take, slice_get, IfOk, OnOk, OnErr, IfSome, IsTrue, Some, ◌↔◌};
 ghost use Rattle.bit_net.specs.Value.{bit_at, xor, table, values};
 ghost use Rattle.bit_net.specs.Circuit.{first_nodes, input_count, ReadsBelow, IsCircuit};
-ghost use Rattle.bit_net.specs.Runs.{Grown, Gives, Always};
+ghost use Rattle.bit_net.specs.Runs.{Grown, Gives, Always, AreAsBoth};
 
 use crate::OutOfMemory;
 use std::alloc::Global;
@@ -132,13 +132,73 @@ impl Net {
         requires b { b.at < length self.old }
         ensures grown { Grown self.old self.new }
         ensures ok { IfOk result (λ r. Gives self.new r.at (λ choice v. v a.at && v b.at)) }
+        ensures front { take (length self.old) self.new ≡ self.old }
         ensures err { OnErr result (self.new ≡ self.old) }
     {
-        match self.folded_and(a, b) {
-            Some(gate) => Ok(gate),
-            None if a.at < b.at => self.gate_of(Node::And(a, b)),
-            None => self.gate_of(Node::And(b, a)),
+        if let Some(gate) = self.folded_and(a, b) {
+            return Ok(gate);
         }
+        if let Some((one, other)) = self.shared(a, b) {
+            return self.both(one, other);
+        }
+        if let Some((one, other)) = self.shared(b, a) {
+            return self.both(one, other);
+        }
+        self.both(a, b)
+    }
+
+    /// The gate of two operands, the earlier one first.
+    fn both(&mut self, a: Gate, b: Gate) -> Result<Gate, OutOfMemory>
+        requires a { a.at < length self.old }
+        requires b { b.at < length self.old }
+        ensures grown { Grown self.old self.new }
+        ensures ok { IfOk result (λ r. Gives self.new r.at (λ choice v. v a.at && v b.at)) }
+        ensures front { take (length self.old) self.new ≡ self.old }
+        ensures err { OnErr result (self.new ≡ self.old) }
+    {
+        if a.at < b.at {
+            self.gate_of(Node::And(a, b))
+        } else {
+            self.gate_of(Node::And(b, a))
+        }
+    }
+
+    /// Where `b` holds where two gates do, and `a` with one of them has a gate already: that gate, and the other one.
+    fn shared(&self, a: Gate, b: Gate) -> Option<(Gate, Gate)>
+        requires a { a.at < length self.now }
+        requires b { b.at < length self.now }
+        ensures { IfSome result (λ pair. AreAsBoth self.now a.at b.at pair.0.at pair.1.at) }
+    {
+        self.sound();
+        match self.node(b) {
+            Node::And(x, y) => {
+                if let Some(one) = self.gate_of_both(a, x) {
+                    return Some((one, y));
+                }
+                if let Some(one) = self.gate_of_both(a, y) {
+                    return Some((one, x));
+                }
+                None
+            }
+            _ => None,
+        }
+    }
+
+    /// The gate that holds where both gates do, if there is one already.
+    fn gate_of_both(&self, a: Gate, b: Gate) -> Option<Gate>
+        ensures { IfSome result (λ r. Gives self.now r.at (λ choice v. v a.at && v b.at)) }
+    {
+        self.sound();
+        if a.at < b.at {
+            if let Some(gate) = self.gate_with(Node::And(a, b)) {
+                return Some(gate);
+            }
+        } else {
+            if let Some(gate) = self.gate_with(Node::And(b, a)) {
+                return Some(gate);
+            }
+        }
+        None
     }
 
     /// Holds where at least one of the gates holds.
@@ -297,7 +357,45 @@ impl Net {
         if self.are_opposite(a, b) {
             return self.xor(c, b);
         }
+        if let Some(other) = self.other_operand(a, b) {
+            return self.turned(b, c, other);
+        }
+        if let Some(other) = self.other_operand(b, a) {
+            return self.turned_beside(a, c, other);
+        }
         self.gate_of(Node::Mux(c, a, b))
+    }
+
+    /// Has the value of `b`, and the opposite where both other gates hold.
+    fn turned(&mut self, b: Gate, c: Gate, other: Gate) -> Result<Gate, OutOfMemory>
+        requires b { b.at < length self.old }
+        requires c { c.at < length self.old }
+        requires other { other.at < length self.old }
+        ensures grown { Grown self.old self.new }
+        ensures ok { IfOk result (λ r. Gives self.new r.at (λ choice v. xor (v b.at) (v c.at && v other.at))) }
+        ensures err { OnErr result (self.new ≡ self.old) }
+    {
+        self.sound();
+        let gates = self.len();
+        let both = self.and(c, other)?;
+        let made = self.xor(b, both);
+        self.or_back(gates, made)
+    }
+
+    /// Has the value of `a`, and the opposite where `c` does not hold and `other` does.
+    fn turned_beside(&mut self, a: Gate, c: Gate, other: Gate) -> Result<Gate, OutOfMemory>
+        requires a { a.at < length self.old }
+        requires c { c.at < length self.old }
+        requires other { other.at < length self.old }
+        ensures grown { Grown self.old self.new }
+        ensures ok { IfOk result (λ r. Gives self.new r.at (λ choice v. xor (v a.at) (not (v c.at) && v other.at))) }
+        ensures err { OnErr result (self.new ≡ self.old) }
+    {
+        self.sound();
+        let gates = self.len();
+        let both = self.and_inverse(c, other)?;
+        let made = self.xor(a, both);
+        self.or_back(gates, made)
     }
 
     /// Holds where `c` does not and `b` does. Where `c` is made by `xor` of `b` and another gate, that is where both of these hold.
@@ -306,6 +404,7 @@ impl Net {
         requires b { b.at < length self.old }
         ensures grown { Grown self.old self.new }
         ensures ok { IfOk result (λ r. Gives self.new r.at (λ choice v. not (v c.at) && v b.at)) }
+        ensures front { take (length self.old) self.new ≡ self.old }
         ensures err { OnErr result (self.new ≡ self.old) }
     {
         if let Some(other) = self.other_operand(c, b) {

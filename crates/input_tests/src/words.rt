@@ -3,7 +3,7 @@
 
 use crate::given::owned;
 use saturn_words::{
-    BenchWords, CheckWords, NoWords, RunWords, bench_words, check_words, run_words,
+    BenchWords, CheckWords, Format, NoWords, RunWords, bench_words, check_words, run_words,
 };
 use sc_base::OutOfMemory;
 use sc_tree::ctype::Widths;
@@ -76,6 +76,7 @@ fn has_defaults(asked: &CheckWords) -> bool {
         && asked.options.machine.is_none()
         && asked.options.files.len() == 1
         && asked.options.files[0] == "a.c"
+        && asked.format == Format::Text
         && asked.jobs == 1
 }
 
@@ -101,6 +102,8 @@ const CHECK: &[&str] = &[
     "b.c",
     "--machine",
     "m",
+    "--format",
+    "json",
     "--jobs",
     "64",
     "a.c",
@@ -111,6 +114,7 @@ fn has_options(asked: &CheckWords) -> bool {
         && asked.options.reach == 4
         && asked.options.widths == Widths::Lp64
         && is_word(asked.options.machine, "m")
+        && asked.format == Format::Json
         && asked.jobs == 64
 }
 

@@ -54,11 +54,12 @@ options models more =
     number_option (codes "depth") (pos 1) (pos 8) ∷ number_option (codes "reach") (pos 1) (pos 4)
     ∷ word_option (codes "model") models ∷ text_option (codes "machine") ∷ more
 
--- `saturn_check [--depth D] [--reach R] [--model M] [--machine FILE] [--jobs J] FILE ..`
-unfoldable pub check_command : Bor (List (Bor Text)) → App
-check_command models =
+-- `saturn_check [--depth D] [--reach R] [--model M] [--machine FILE] [--format WORD] [--jobs J] FILE ..`
+unfoldable pub check_command : (models formats : Bor (List (Bor Text))) → App
+check_command models formats =
     command (codes "saturn_check")
-    (options models (number_option (codes "jobs") (pos 1) (pos 64) ∷ files_argument ∷ []))
+    (options models
+    (word_option (codes "format") formats ∷ number_option (codes "jobs") (pos 1) (pos 64) ∷ files_argument ∷ []))
 
 -- `saturn_run [--depth D] [--reach R] [--model M] [--machine FILE] --function NAME --choice HEX FILE ..`
 unfoldable pub run_command : Bor (List (Bor Text)) → App
@@ -83,9 +84,20 @@ model_words = codes "ilp32" ∷ codes "lp64" ∷ []
 abbrev pub AreModels : Bor (List (Bor Text)) → Type 0
 AreModels models = map (λ word. word.now) models.now ≡ model_words
 
--- The command of a program. `clap` keeps the words of `--model` as references; where they lie in memory is open.
+-- the words that `--format` takes
+abbrev pub format_words : List Text
+format_words = codes "text" ∷ codes "json" ∷ []
+
+-- the texts behind these references are the words of `--format`
+abbrev pub AreFormats : Bor (List (Bor Text)) → Type 0
+AreFormats formats = map (λ word. word.now) formats.now ≡ format_words
+
+-- The command of a program. `clap` keeps the words of `--model` and `--format` as references; where they lie in memory is
+-- open.
 abbrev pub IsCheck : App → Type 0
-IsCheck command = (models : Bor (List (Bor Text))) × AreModels models × (command ≡ check_command models)
+IsCheck command =
+    (models : Bor (List (Bor Text))) × AreModels models
+    × (formats : Bor (List (Bor Text))) × AreFormats formats × (command ≡ check_command models formats)
 
 abbrev pub IsRun : App → Type 0
 IsRun command = (models : Bor (List (Bor Text))) × AreModels models × (command ≡ run_command models)

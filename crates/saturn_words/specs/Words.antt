@@ -13,6 +13,8 @@ use Rattle.sc_tree.specs.declared.ctype.Widths.{Widths}
 use Rattle.sc_tree.specs.declared.ctype.Widths.TheVariants.{Ilp32, Lp64}
 use Rattle.saturn_words.specs.declared.asked.BenchWords.{BenchWords}
 use Rattle.saturn_words.specs.declared.asked.CheckWords.{CheckWords}
+use Rattle.saturn_words.specs.declared.asked.Format.{Format}
+use Rattle.saturn_words.specs.declared.asked.Format.TheVariants as form
 use Rattle.saturn_words.specs.declared.asked.Options.{Options}
 use Rattle.saturn_words.specs.declared.asked.RunWords.{RunWords}
 use Rattle.saturn_words.specs.declared.words.NoWords.{NoWords}
@@ -30,6 +32,11 @@ abbrev pub widths_of : Option Text → Widths
 widths_of None = Ilp32
 widths_of (Some word) = if bytes_eq word (codes "lp64") then Lp64 else Ilp32
 
+-- the form of the output that `--format` names, text if the words do not have it
+abbrev pub format_of : Option Text → Format
+format_of None = form.Text
+format_of (Some word) = if bytes_eq word (codes "json") then form.Json else form.Text
+
 pub record HaveOptions (rows : List Row) (asked : Options) : Type 0 where
   pub depth : asked.depth ≡ number_or 2 (codes "depth") rows
   pub depth_fits : (1 ≤ asked.depth) × (asked.depth ≤ 8)
@@ -41,6 +48,7 @@ pub record HaveOptions (rows : List Row) (asked : Options) : Type 0 where
 
 pub record HaveCheck (rows : List Row) (asked : CheckWords) : Type 0 where
   pub options : HaveOptions rows asked.options
+  pub format : asked.format ≡ format_of (first_of (codes "format") rows)
   pub jobs : asked.jobs ≡ number_or 1 (codes "jobs") rows
   pub jobs_fit : (1 ≤ asked.jobs) × (asked.jobs ≤ 64)
 

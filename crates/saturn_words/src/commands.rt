@@ -116,10 +116,15 @@ fn with_options<'a>(
 }
 
 /// The command of `saturn_check`.
-pub fn check_command<'a>(alloc: Global, models: &'a [&'a str]) -> Result<Command<'a>, AllocError>
-    ensures { IfOk result (λ made. app_of made ≡ check_command models.entry) }
+pub fn check_command<'a>(
+    alloc: Global,
+    models: &'a [&'a str],
+    formats: &'a [&'a str],
+) -> Result<Command<'a>, AllocError>
+    ensures { IfOk result (λ made. app_of made ≡ check_command models.entry formats.entry) }
 {
     with_options(alloc, "saturn_check", models)?
+        .arg(word_option(alloc, "format", formats, "the form of the output (text)"))?
         .arg(number_option(
             alloc,
             "jobs",

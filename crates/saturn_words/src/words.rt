@@ -25,6 +25,9 @@ pub enum NoWords {
 // The words of `--model`.
 static MODELS: [&str; 2] = ["ilp32", "lp64"];
 
+// The words of `--format`.
+static FORMATS: [&str; 2] = ["text", "json"];
+
 // Why a parse found nothing.
 fn no_words(alloc: Global, error: &Error) -> NoWords
     ensures { (command : App) (words : List (List ℕ)) → HasKind (faults command words) error.now
@@ -52,7 +55,7 @@ pub fn check_words<'a>(alloc: Global, words: &'a [String]) -> Result<CheckWords<
     ensures nothing { IfErr result (λ why. (command : App) × IsCheck command
         × AskForNothing command (map string_bytes words.entry.now) why) }
 {
-    let command = match check_command(alloc, MODELS.as_slice()) {
+    let command = match check_command(alloc, MODELS.as_slice(), FORMATS.as_slice()) {
         Ok(command) => command,
         Err(_) => return Err(NoWords::Memory),
     };

@@ -1,0 +1,27 @@
+-- Of a typed program with a plan the JSON of its verdicts is said.
+use Rattle.std.proofs.Common.{◌≡◌, ◌∙◌, ℕ, List, sym, ap, ap₂}
+use Rattle.std.specs.List.{list_any}
+use Rattle.line_marks.specs.declared.marks.Mark.{Mark}
+use Rattle.sum_rows.specs.declared.report.Verdict.{Verdict}
+use Rattle.plan_core.specs.declared.plan.Plan.{Plan}
+use Rattle.sc_typed.specs.declared.program.Program.{Program}
+use Rattle.whole_checks.specs.Typed.{Sources, typed}
+use Rattle.program_verdicts.specs.Verdicts.{verdicts}
+use Rattle.whole_checks.specs.Said.{Said, Whole, has_report, said, said_with}
+use Rattle.whole_checks.specs.Planned.{IsPlanned}
+use Rattle.whole_checks.proofs.Whole.{whole_is_said}
+use Rattle.json_checks.specs.Checked.{json_of, json_said, json_with, with_bytes}
+
+-- in place of the text that is said of the same files
+pub in_place : (s : Sources) (marks : List (List Mark)) (depth reach : ℕ) (x : Said) → said s depth reach ≡ x
+    → json_said s marks depth reach ≡ with_bytes (json_of marks depth reach (typed s)) x
+unfolding json_said
+in_place s marks depth reach x is = ap (with_bytes (json_of marks depth reach (typed s))) is
+
+pub json_is_said : (s : Sources) (p : Program) (plan : Plan) (marks : List (List Mark)) (depth reach : ℕ) (vs : List Verdict) → IsPlanned s p plan
+    → vs ≡ verdicts p depth reach → Whole (json_with p marks depth reach vs) (list_any has_report vs) ≡ json_said s marks depth reach
+json_is_said s p plan marks depth reach vs is made =
+    let bytes : json_with p marks depth reach vs ≡ json_of marks depth reach (typed s) =
+    ap (json_with p marks depth reach) made ∙ ap (json_of marks depth reach) (sym is.typed) in
+    ap (λ (b : List ℕ). Whole b (list_any has_report vs)) bytes
+    ∙ sym (in_place s marks depth reach (said_with p vs) (sym (whole_is_said s p plan depth reach vs is made)))
