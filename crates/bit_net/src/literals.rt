@@ -85,8 +85,9 @@ impl Net {
         }
     }
 
-    /// Whether the second literal is seen to hold where the first does: it is a part of the first, or the opposite of the first is
-    /// a part of its opposite, or the first never holds, or the second always does.
+    /// Whether the second literal is seen to hold where the first does: they are one, or it is a part of the first, or the opposite
+    /// of the first is a part of its opposite, or the first never holds, or the second always does. The parts of a gate are earlier
+    /// gates, so only the later gate is looked into.
     pub(crate) fn leads_to(&self, from: Literal, to: Literal) -> bool
         requires from { from.gate.at < length self.now }
         requires to { to.gate.at < length self.now }
@@ -96,14 +97,24 @@ impl Net {
             gate: self.constant(false),
             negated: false,
         };
-        let needed = self.parts(from);
-        let missed = self.parts(to.opposite());
-        from.is(never)
-            || to.opposite().is(never)
-            || needed.first.is(to)
-            || needed.second.is(to)
-            || missed.first.is(from.opposite())
-            || missed.second.is(from.opposite())
+        let missed = to.opposite();
+        if from.is(to) || from.is(never) || missed.is(never) {
+            return true;
+        }
+        if to.gate.at < from.gate.at {
+            self.needs(from, to)
+        } else {
+            self.needs(missed, from.opposite())
+        }
+    }
+
+    /// Whether the second literal is one of the two that the first is made to need.
+    fn needs(&self, whole: Literal, part: Literal) -> bool
+        requires { whole.gate.at < length self.now }
+        ensures { IsTrue result → Always self.now (λ choice v. leads (holds v whole) (holds v part) ≡ true) }
+    {
+        let needed = self.parts(whole);
+        needed.first.is(part) || needed.second.is(part)
     }
 
     /// Whether b is seen to hold where a does.

@@ -37,8 +37,8 @@ pub struct Net {
     alloc: Global,
     nodes: Vec<Node>,
 
-    /// Where a node was last put. It is a hint: a place is used only where that very node still stands there.
-    places: HashMap<Node, usize>,
+    /// Where a node with that key was last put. It is a hint: a place is used only where the very node still stands there.
+    places: HashMap<u64, usize>,
 }
 
 impl Model for Net {
@@ -301,7 +301,7 @@ impl Net {
     fn gate_with(&self, node: Node) -> Option<Gate>
         ensures { IfSome result (λ r. slice_get self.now r.at ≡ Some node) }
     {
-        let at = *self.places.get(&node)?;
+        let at = *self.places.get(&key_of(&node))?;
         if at < self.nodes.len() && self.nodes[at] == node {
             return Some(Gate { at });
         }
@@ -541,16 +541,35 @@ impl Net {
     }
 }
 
+/// The key by which a node is looked for: in nets of up to a million gates each node has one of its own. Of two nodes with one key the
+/// later one is found.
+fn key_of(node: &Node) -> u64 {
+    match *node {
+        Node::Constant(b) => key(0, b as usize, 0, 0),
+        Node::Input(k) => key(1, k, 0, 0),
+        Node::Not(a) => key(2, a.at, 0, 0),
+        Node::And(a, b) => key(3, a.at, b.at, 0),
+        Node::Or(a, b) => key(4, a.at, b.at, 0),
+        Node::Xor(a, b) => key(5, a.at, b.at, 0),
+        Node::Mux(c, a, b) => key(6, c.at, a.at, b.at),
+    }
+}
+
+/// A kind and three numbers in one word.
+fn key(kind: u64, first: usize, second: usize, third: usize) -> u64 {
+    kind ^ ((first as u64) << 3) ^ ((second as u64) << 23) ^ ((third as u64) << 43)
+}
+
 /// Adds a node behind the others, and notes its place.
 fn put(
     nodes: &mut Vec<Node>,
-    places: &mut HashMap<Node, usize>,
+    places: &mut HashMap<u64, usize>,
     node: Node,
 ) -> Result<(), OutOfMemory>
     ensures ok { OnOk result (nodes.new.items ≡ nodes.old.items ++ node ∷ []) }
     ensures err { OnErr result (nodes.new.items ≡ nodes.old.items) }
 {
-    places.insert(node, nodes.len())?;
+    places.insert(key_of(&node), nodes.len())?;
     nodes.push(node)?;
     Ok(())
 }

@@ -1,5 +1,5 @@
 -- The commands of the three programs, as far as `clap` reads them: which arguments there are, which values they take,
--- and which of them have to be there. The texts of help are no part of it.
+-- and which of them have to be there. The texts of help and of the version are no part of it.
 
 use Rattle.std.specs.Prelude.{◌≡◌, ℤ, pos, List, [], ◌∷◌, map, Some, codes, true}
 use Rattle.std.specs.Borrow.{Bor}
@@ -44,9 +44,9 @@ files_argument = record (new_rule (codes "FILE")) {
 
 -- ---- commands
 
--- the command with this name and these arguments
+-- the command with this name and these arguments, which tells its version
 abbrev pub command : Text → List Rule → App
-command name rules = record { top = record (new_shape name) { rules = rules }; subs = [] }
+command name rules = record { top = record (new_shape name) { rules = rules; has_version = true }; subs = [] }
 
 -- what `saturn_check` and `saturn_run` have in common, but for the files: depth, reach, widths and a machine of states
 abbrev pub options : Bor (List (Bor Text)) → List Rule → List Rule

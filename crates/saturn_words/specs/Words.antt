@@ -1,14 +1,14 @@
 -- What the words of a command line ask for. Which values the words give, and which faults they have, is what `clap`
 -- defines for the command of the program.
 
-use Rattle.std.specs.Prelude.{◌≡◌, ◌≢◌, ⊤, ℕ, List, [], Option, Some, None, codes, map, option_map}
+use Rattle.std.specs.Prelude.{◌≡◌, ◌≢◌, ◌⊎◌, ⊤, ℕ, List, [], Option, Some, None, codes, map, option_map}
 use Rattle.std.specs.Prelude.{if◌then◌else◌, ◌≤◌}
 use Rattle.std.specs.Option.{option_map_or}
 use Rattle.std.specs.Str.{bytes_eq}
 use Rattle.std.specs.Str.Parse.{digits_value, without_leading_plus}
 use Rattle.clap.specs.Words.{App, IsAmong, Kinds, Row, Text, all_of, fault_of, first_of, matches_of, one_of}
 use Rattle.clap.specs.declared.error.kind.ErrorKind.{ErrorKind}
-use Rattle.clap.specs.declared.error.kind.ErrorKind.TheVariants.{DisplayHelp}
+use Rattle.clap.specs.declared.error.kind.ErrorKind.TheVariants.{DisplayHelp, DisplayVersion}
 use Rattle.sc_tree.specs.declared.ctype.Widths.{Widths}
 use Rattle.sc_tree.specs.declared.ctype.Widths.TheVariants.{Ilp32, Lp64}
 use Rattle.saturn_words.specs.declared.asked.BenchWords.{BenchWords}
@@ -64,9 +64,9 @@ pub record HaveBench (rows : List Row) (asked : BenchWords) : Type 0 where
   pub jobs : asked.jobs ≡ number_or 1 (codes "jobs") rows
   pub jobs_fit : (1 ≤ asked.jobs) × (asked.jobs ≤ 64)
 
--- ---- good words, bad words, and a call for help
+-- ---- good words, bad words, and a call for help or for the version
 
--- the faults of the words, of which a call for help is one
+-- the faults of the words, of which calls for help and for the version are some
 unfoldable pub faults : App → List Text → Kinds
 faults command words = fault_of command words
 
@@ -78,13 +78,14 @@ rows_of_words command words = matches_of command words
 abbrev pub Give : App → List Text → List Row → Type 0
 Give command words rows = (faults command words ≡ []) × (rows ≡ rows_of_words command words)
 
--- the words call for help
+-- the words call for help, or for the version
 abbrev pub CallForHelp : App → List Text → Type 0
-CallForHelp command words = IsAmong DisplayHelp (faults command words)
+CallForHelp command words = IsAmong DisplayHelp (faults command words) ⊎ IsAmong DisplayVersion (faults command words)
 
--- the words have a fault other than that
+-- the words have a fault other than these
 abbrev pub HaveFault : App → List Text → Type 0
-HaveFault command words = (kind : ErrorKind) × IsAmong kind (faults command words) × (kind ≢ DisplayHelp)
+HaveFault command words =
+    (kind : ErrorKind) × IsAmong kind (faults command words) × (kind ≢ DisplayHelp) × (kind ≢ DisplayVersion)
 
 -- why the words ask for nothing
 abbrev pub AskForNothing : App → List Text → NoWords → Type 0
