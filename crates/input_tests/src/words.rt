@@ -14,7 +14,7 @@ use std::alloc::Global;
 enum Outcome {
     /// They ask for something.
     Asked,
-    /// They call for help, and there is a text.
+    /// They call for help or for the version, and there is a text.
     Helped,
     /// They have another fault, and there is a text.
     Bad,
@@ -283,8 +283,8 @@ fn words_of_the_others_have_faults(rt: HostRuntime) {
 }
 
 #[test]
-fn help_is_given(rt: HostRuntime) {
-    for word in ["--help", "-h"] {
+fn help_and_version_are_given(rt: HostRuntime) {
+    for word in ["--help", "-h", "--version", "-V"] {
         assert!(rt; is_check(rt.alloc(), &["saturn_check", word], Outcome::Helped));
         assert!(rt; run_outcome(rt.alloc(), &["saturn_run", "a.c", word]) == Ok(Outcome::Helped));
         assert!(rt; bench_outcome(rt.alloc(), &["saturn_bench", "1", word]) == Ok(Outcome::Helped));

@@ -67,11 +67,11 @@ pub data IsFound (options : Options) (format : Format) (outside : Outside) : Due
 abbrev pub Ask : (words : List (List ℕ)) → CheckWords → Type 0
 Ask words asked = (command : App) × IsCheck command × (rows : List Row) × Give command words rows × HaveCheck rows asked
 
--- the words call for help
+-- the words call for help, or for the version
 abbrev pub AskForHelp : (words : List (List ℕ)) → Type 0
 AskForHelp words = (command : App) × IsCheck command × CallForHelp command words
 
--- the words have a fault other than a call for help
+-- the words have a fault other than these calls
 abbrev pub AreBad : (words : List (List ℕ)) → Type 0
 AreBad words = (command : App) × IsCheck command × HaveFault command words
 
