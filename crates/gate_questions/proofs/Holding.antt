@@ -1,9 +1,10 @@
 -- From what a solver knows of the loaded gates to what holds of them for some choice.
 
-use Rattle.std.proofs.Common.{◌≡◌, ℕ, suc, zero, ◌+◌, ◌<◌, ◌≤◌, Bool, true, false, ◌&&◌, List, [], ◌∷◌, ◌++◌, length, map, take, get_or, Option, Some, None, slice_get, refl, sym, subst, ap, ◌∙◌, ⊎_elim, arith}
-use Rattle.std.proofs.lemmas.List.{take_all, take_more, map_push, get_or-map, length-map, ext_get_or}
+use Rattle.std.proofs.Common.{◌≡◌, ℕ, suc, zero, ◌+◌, ◌<◌, ◌≤◌, Bool, true, false, ◌&&◌, List, [], ◌∷◌, ◌++◌, length, map, take, get_or, Option, Some, None, slice_get, refl, sym, subst, ap, ◌∙◌, arith}
+use Rattle.std.proofs.lemmas.List.{take_all, take_more, map_push, get_or-map, length-map}
 use Rattle.std.proofs.lemmas.List.FromFn.{get_or-map-range_with_len, length-map-range_with_len, map-range_with_len_more}
-use Rattle.std.proofs.lemmas.List.Elements.{All-nil, All-cons, All-push, All-head, All-tail}
+use Rattle.std.proofs.lemmas.List.Elements.{All-nil, All-cons, All-head, All-tail}
+use Rattle.std.proofs.lemmas.Option.{slice_get_within}
 use Rattle.std.proofs.lemmas.Bool.{and_parts, and_from, false≢true, false_from_ne_true}
 use Rattle.std.specs.List.{All, list_all, range_with_len}
 use Rattle.std.specs.Prelude.{Vec, MatchOption}
@@ -13,14 +14,14 @@ use Rattle.bit_net.specs.declared.nodes.Node.{Node}
 use Rattle.bit_net.specs.declared.nodes.Node.TheVariants.{Constant, Input}
 use Rattle.bit_net.specs.Value.{bit_at, value}
 use Rattle.bit_net.specs.Circuit.{input_count, IsCircuit}
-use Rattle.bit_net.specs.Runs.{Runs, Grown, Fits}
+use Rattle.bit_net.specs.Runs.{Runs, Fits}
 use Rattle.bit_net.specs.Lanes.{bit, lane, AreLanes}
 use Rattle.sat_base.specs.declared.literal.Lit.{Lit}
-use Rattle.sat_base.specs.Logic.{lit_true, each_true, all_true, satisfied, LitsBelow, Extends}
+use Rattle.sat_base.specs.Logic.{lit_true, each_true, all_true, satisfied, LitsBelow}
 use Rattle.clause_builder.specs.Cones.{lit_at, AgreesWith, HasValues, AreLoaded, opt_true, loaded_value}
-use Rattle.query.specs.Values.{values_of, is_before, Hits, HasNone, IsLeast}
+use Rattle.query.specs.Values.{values_of, is_before, HasNone, IsLeast}
 use Rattle.gate_questions.specs.Holds.{all_hold, SomeHolds, NoneHolds, bits_of, IsFirst}
-use Rattle.gate_questions.specs.Ready.{AreLits, QuestionsState, IsReady, input_gate, input_gates}
+use Rattle.gate_questions.specs.Ready.{AreLits, lit_or, input_lit, input_lits}
 
 head_is : (o q : Option Lit) (os qs : List (Option Lit)) → o ∷ os ≡ q ∷ qs → (o ≡ q) × (os ≡ qs)
 head_is o q os qs is = (cc, cc)
@@ -94,9 +95,6 @@ pub lits_kept : (old new : List (Option Lit)) (gates : List Gate) (lits : List L
     → ((a : ℕ) (l : Lit) → lit_at old a ≡ Some l → lit_at new a ≡ Some l) → AreLits old gates lits → AreLits new gates lits
 lits_kept old new gates lits kept are = record { same = lits_stay old new kept gates lits are.same }
 
-pub lits_like : (loaded : List (Option Lit)) (gates others : List Gate) (lits : List Lit) → gates ≡ others → AreLits loaded gates lits → AreLits loaded others lits
-lits_like loaded gates others lits is are = subst (λ gs. AreLits loaded gs lits) is are
-
 pub lits_none : (loaded : List (Option Lit)) (lits : List Lit) → lits ≡ [] → AreLits loaded [] lits
 lits_none loaded lits is = record { same = ap (map Some) (sym is) }
 
@@ -136,99 +134,119 @@ start_loaded ns loaded vars clauses nothing is none =
 pub gates_below : (n m : ℕ) (gates : List Gate) → m ≡ n → All (λ g. g.at < n) gates → All (λ g. g.at < m) gates
 gates_below n m gates same below = subst (λ k. All (λ g. g.at < k) gates) (sym same) below
 
-pub no_inputs : (gates : List Gate) → gates ≡ [] → gates ≡ input_gates 0
-no_inputs gates is = is
+-- The literals that stand for inputs.
 
-pub one_input_more : (gates more : List Gate) (k : ℕ) (g : Gate) → more ≡ gates ++ g ∷ [] → gates ≡ input_gates k → g ≡ input_gate k
-    → more ≡ input_gates (k + 1)
-one_input_more gates more k g pushed so_far here =
-    pushed ∙ ap (λ gs. gs ++ g ∷ []) so_far ∙ ap (λ x. input_gates k ++ x ∷ []) here ∙ sym (map-range_with_len_more input_gate 0 k k (omega arith))
+pub no_inputs : (loaded : List (Option Lit)) (never : Lit) (bits : List Lit) → bits ≡ [] → bits ≡ input_lits loaded never 0
+no_inputs loaded never bits is = is
 
-pub below_nothing : (n : ℕ) (gates : List Gate) → gates ≡ [] → All (λ g. g.at < n) gates
-below_nothing n gates is = subst (All (λ g. g.at < n)) (sym is) (All-nil (λ g. g.at < n))
+pub one_input_more : (loaded : List (Option Lit)) (never : Lit) (bits more : List Lit) (k : ℕ) (l : Lit) → more ≡ bits ++ l ∷ []
+    → bits ≡ input_lits loaded never k → l ≡ input_lit loaded never k → more ≡ input_lits loaded never (k + 1)
+one_input_more loaded never bits more k l pushed so_far here =
+    pushed ∙ ap (λ ls. ls ++ l ∷ []) so_far ∙ ap (λ x. input_lits loaded never k ++ x ∷ []) here
+    ∙ sym (map-range_with_len_more (input_lit loaded never) 0 k k (omega arith))
 
-pub below_pushed : (n : ℕ) (gates more : List Gate) (g : Gate) → more ≡ gates ++ g ∷ [] → All (λ x. x.at < n) gates → g.at < n → All (λ x. x.at < n) more
-below_pushed n gates more g is below here = subst (All (λ x. x.at < n)) (sym is) (All-push (λ x. x.at < n) gates g below here)
+inputs_wide : (loaded : List (Option Lit)) (never : Lit) (n : ℕ) → length (input_lits loaded never n) ≡ n
+inputs_wide loaded never n = length-map-range_with_len (input_lit loaded never) 0 n
+
+lit_inside : (n : ℕ) (never : Lit) (o : Option Lit) → never.var < n → ((l : Lit) → o ≡ Some l → l.var < n) → (lit_or never o).var < n
+lit_inside n never None low inside = low
+lit_inside n never (Some l) low inside = inside l refl
+
+inputs_inside : (ns : List Node) (loaded : List (Option Lit)) (vars : ℕ) (clauses : List (List Lit)) (never : Lit) → AreLoaded ns loaded vars clauses
+    → lit_at loaded 0 ≡ Some never → (ks : List ℕ) → LitsBelow vars (map (input_lit loaded never) ks)
+inputs_inside ns loaded vars clauses never are is_never [] = All-nil (λ l. l.var < vars)
+inputs_inside ns loaded vars clauses never are is_never (k ∷ ks) =
+    All-cons (λ q. q.var < vars) (input_lit loaded never k) (map (input_lit loaded never) ks)
+    (lit_inside vars never (lit_at loaded (2 + k)) (are.inside 0 never is_never).1 (λ l at. (are.inside (2 + k) l at).1))
+    (inputs_inside ns loaded vars clauses never are is_never ks)
+
+pub inputs_below : (ns : List Node) (loaded : List (Option Lit)) (vars : ℕ) (clauses : List (List Lit)) (never : Lit) (n : ℕ) (bits : List Lit)
+    → AreLoaded ns loaded vars clauses → lit_at loaded 0 ≡ Some never → bits ≡ input_lits loaded never n → LitsBelow vars bits
+inputs_below ns loaded vars clauses never n bits are is_never is =
+    subst (LitsBelow vars) (sym is) (inputs_inside ns loaded vars clauses never are is_never (range_with_len 0 n))
+
+-- the constant false is a gate of every net
+pub false_inside : (ns : List Node) → IsCircuit ns → 0 < length ns
+false_inside ns circuit = slice_get_within ns 0 (Constant false) circuit.zero
 
 -- an input gate has the bit of the choice
 input_value : (ns : List Node) (choice : ℕ → Bool) (k : ℕ) → IsCircuit ns → Fits ns choice (value choice ns) → k < input_count ns
     → value choice ns (2 + k) ≡ choice k
 input_value ns choice k circuit fits few = fits.table (2 + k) (Input k) (circuit.inputs k few)
 
--- the literals of the inputs
-input_lit : (loaded : List (Option Lit)) (n : ℕ) (bits : List Lit) → AreLits loaded (input_gates n) bits → length bits ≡ n
-input_lit loaded n bits are =
-    sym (length-map bits Some) ∙ ap length (sym are.same) ∙ length-map (input_gates n) (λ g. lit_at loaded g.at) ∙ length-map-range_with_len input_gate 0 n
-
-input_at : (loaded : List (Option Lit)) (n : ℕ) (bits : List Lit) (k : ℕ) (d : Lit) → AreLits loaded (input_gates n) bits → k < n
-    → lit_at loaded (2 + k) ≡ Some (get_or bits k d)
-input_at loaded n bits k d are few =
-    let wide : length bits ≡ n = input_lit loaded n bits are in
-    let gates_wide : length (input_gates n) ≡ n = length-map-range_with_len input_gate 0 n in
-    let h : Gate → Option Lit = λ g. lit_at loaded g.at in
-    let z : Gate = input_gate 0 in
-    let left : get_or (map h (input_gates n)) k None ≡ h (get_or (input_gates n) k z) =
-    get_or-map h (input_gates n) k z None (omega (arith, few, gates_wide)) in
-    let gate : get_or (input_gates n) k z ≡ input_gate k = get_or-map-range_with_len input_gate 0 n k k z few (omega arith) in
-    let right : get_or (map Some bits) k None ≡ Some (get_or bits k d) = get_or-map Some bits k d None (omega (arith, few, wide)) in
-    sym (ap h gate) ∙ sym left ∙ ap (λ os. get_or os k None) are.same ∙ right
-
-first_size : (ns : List Node) (loaded : List (Option Lit)) (n : ℕ) (bits : List Lit) (f : ℕ → Bool) (w : List Bool)
-    → AreLits loaded (input_gates n) bits → values_of f bits ≡ w → length w ≡ n
-first_size ns loaded n bits f w are is = ap length (sym is) ∙ length-map bits (lit_true f) ∙ input_lit loaded n bits are
-
--- the bits of a choice are the values of the input literals in each assignment that extends it
-bits_are : (ns : List Node) (loaded : List (Option Lit)) (n : ℕ) (bits : List Lit) (choice f : ℕ → Bool)
-    → IsCircuit ns → Fits ns choice (value choice ns) → n ≡ input_count ns → HasValues ns loaded choice f → AreLits loaded (input_gates n) bits
-    → values_of f bits ≡ bits_of n choice
-bits_are ns loaded n bits choice f circuit fits all has are =
+-- the value that an assignment gives to the literal of an input
+value_of_input : (loaded : List (Option Lit)) (never : Lit) (n k : ℕ) (f : ℕ → Bool) → k < n
+    → get_or (values_of f (input_lits loaded never n)) k false ≡ lit_true f (input_lit loaded never k)
+value_of_input loaded never n k f few =
     let d : Lit = record { var = 0; neg = false } in
-    let wide : length bits ≡ n = input_lit loaded n bits are in
-    let values_wide : length (values_of f bits) ≡ n = length-map bits (lit_true f) ∙ wide in
-    let choice_wide : length (bits_of n choice) ≡ n = length-map-range_with_len choice 0 n in
-    ext_get_or false (values_of f bits) (bits_of n choice) (values_wide ∙ sym choice_wide)
-    (λ k less.
-    let few : k < n = omega (arith, less, values_wide) in
-    get_or-map (lit_true f) bits k d false (omega (arith, few, wide))
-    ∙ has (2 + k) (get_or bits k d) (input_at loaded n bits k d are few)
-    ∙ input_value ns choice k circuit fits (subst (λ m. k < m) all few)
-    ∙ sym (get_or-map-range_with_len choice 0 n k k false few (omega arith)))
+    get_or-map (lit_true f) (input_lits loaded never n) k d false (omega (arith, few, inputs_wide loaded never n))
+    ∙ ap (lit_true f) (get_or-map-range_with_len (input_lit loaded never) 0 n k k d few (omega arith))
+
+-- where the literal of an input is true, the input is: one that is not loaded has a literal that never is
+input_rises : (ns : List Node) (loaded : List (Option Lit)) (never : Lit) (choice f : ℕ → Bool) (k : ℕ) (o : Option Lit)
+    → IsCircuit ns → Fits ns choice (value choice ns) → HasValues ns loaded choice f → lit_at loaded 0 ≡ Some never → k < input_count ns
+    → lit_at loaded (2 + k) ≡ o → lit_true f (lit_or never o) ≡ true → choice k ≡ true
+input_rises ns loaded never choice f k (Some l) circuit fits has is_never few at holds =
+    sym (has (2 + k) l at ∙ input_value ns choice k circuit fits few) ∙ holds
+input_rises ns loaded never choice f k None circuit fits has is_never few at holds =
+    absurd (false≢true (sym (has 0 never is_never ∙ fits.table 0 (Constant false) circuit.zero) ∙ holds))
+
+-- what comes before a list comes before one that is true wherever that is
+before_through : (xs ys zs : List Bool) → length ys ≡ length zs → ((k : ℕ) → k < length ys → get_or ys k false ≡ true → get_or zs k false ≡ true)
+    → is_before xs ys ≡ true → is_before xs zs ≡ true
+before_through [] ys zs wide rises before = refl
+before_through (x ∷ xs) [] zs wide rises before = absurd (false≢true before)
+before_through (x ∷ xs) (y ∷ ys) [] wide rises before = absurd (omega (arith, wide))
+before_through (x ∷ xs) (y ∷ ys) (z ∷ zs) wide rises before =
+    step x y z (rises 0 (omega arith)) (before_through xs ys zs (omega (arith, wide)) (λ k low. rises (suc k) (omega (arith, low)))) before
+  where
+    step : (a b c : Bool) → (b ≡ true → c ≡ true) → (is_before xs ys ≡ true → is_before xs zs ≡ true)
+        → is_before (a ∷ xs) (b ∷ ys) ≡ true → is_before (a ∷ xs) (c ∷ zs) ≡ true
+    step false false false up on holds = on holds
+    step false false true up on holds = refl
+    step false true true up on holds = refl
+    step false true false up on holds = absurd (false≢true (up refl))
+    step true false c up on holds = absurd (false≢true holds)
+    step true true true up on holds = on holds
+    step true true false up on holds = absurd (false≢true (up refl))
 
 bit_is : (w : List Bool) (k : ℕ) → bit_at w k ≡ get_or w k false
 unfolding bit_at
 bit_is w k = refl
 
-pub first_found : (ns : List Node) (loaded : List (Option Lit)) (vars : ℕ) (clauses : List (List Lit)) (gates : List Gate) (goals bits : List Lit)
-    (n : ℕ) (w : List Bool)
+pub first_found : (ns : List Node) (loaded : List (Option Lit)) (vars : ℕ) (clauses : List (List Lit)) (gates : List Gate) (goals : List Lit)
+    (never : Lit) (n : ℕ) (w : List Bool)
     → IsCircuit ns → ((ms : List Node) (choice v : ℕ → Bool) → IsCircuit ms → Runs ms choice v → Fits ms choice v)
-    → n ≡ input_count ns → AreLoaded ns loaded vars clauses → AreLits loaded gates goals → AreLits loaded (input_gates n) bits
-    → IsLeast clauses bits goals w → IsFirst ns gates w
-first_found ns loaded vars clauses gates goals bits n w circuit fits_runs all are goals_are bits_lits least =
+    → n ≡ input_count ns → AreLoaded ns loaded vars clauses → AreLits loaded gates goals → lit_at loaded 0 ≡ Some never
+    → IsLeast clauses (input_lits loaded never n) goals w → IsFirst ns gates w
+first_found ns loaded vars clauses gates goals never n w circuit fits_runs all are goals_are is_never least =
     let fits : (choice : ℕ → Bool) → Fits ns choice (value choice ns) =
     λ choice. fits_runs ns choice (value choice ns) circuit (record { same = λ a inside. refl }) in
-    let d : Lit = record { var = 0; neg = false } in
+    let bits : List Lit = input_lits loaded never n in
     let model = least.model in
     let f : ℕ → Bool = model.0 in
-    let wide : length bits ≡ n = input_lit loaded n bits bits_lits in
     let agrees : AgreesWith ns loaded (bit_at w) f =
     λ k l few at.
-    let less : k < n = subst (λ m. k < m) (sym all) few in
-    let both : Some (get_or bits k d) ≡ Some l = sym (input_at loaded n bits k d bits_lits less) ∙ at in
-    let same : get_or bits k d ≡ l = cc in
-    ap (lit_true f) (sym same)
-    ∙ sym (get_or-map (lit_true f) bits k d false (omega (arith, less, wide)))
+    ap (λ o. lit_true f (lit_or never o)) (sym at) ∙ sym (value_of_input loaded never n k f (subst (λ m. k < m) (sym all) few))
     ∙ ap (λ vs. get_or vs k false) model.2 ∙ sym (bit_is w k) in
     let has : HasValues ns loaded (bit_at w) f = are.values (bit_at w) f model.1.model agrees in
     record {
-      size = first_size ns loaded n bits f w bits_lits model.2 ∙ all;
+      size = ap length (sym model.2) ∙ length-map bits (lit_true f) ∙ inputs_wide loaded never n ∙ all;
       holds = sym (each_is ns loaded (bit_at w) f has gates goals goals_are.same) ∙ model.1.hit;
       first =
           λ choice yes.
           let some = are.extension choice in
           let hit : each_true some.0 goals ≡ true = each_is ns loaded choice some.0 some.2 gates goals goals_are.same ∙ yes in
-          ap (is_before w)
-          (ap (λ m. bits_of m choice) (sym all) ∙ sym (bits_are ns loaded n bits choice some.0 circuit (fits choice) all some.2 bits_lits))
-          ∙ least.least some.0 (record { model = some.1; hit = hit });
+          let values_wide : length (values_of some.0 bits) ≡ n = length-map bits (lit_true some.0) ∙ inputs_wide loaded never n in
+          let choice_wide : length (bits_of n choice) ≡ n = length-map-range_with_len choice 0 n in
+          ap (λ m. is_before w (bits_of m choice)) (sym all)
+          ∙ before_through w (values_of some.0 bits) (bits_of n choice) (values_wide ∙ sym choice_wide)
+          (λ k low holds.
+          let few : k < n = omega (arith, low, values_wide) in
+          get_or-map-range_with_len choice 0 n k k false few (omega arith)
+          ∙ input_rises ns loaded never choice some.0 k (lit_at loaded (2 + k)) circuit (fits choice) some.2 is_never
+          (subst (λ m. k < m) all few) refl (sym (value_of_input loaded never n k some.0 few) ∙ holds))
+          (least.least some.0 (record { model = some.1; hit = hit }));
     }
 
 pub first_none : (ns : List Node) (loaded : List (Option Lit)) (vars : ℕ) (clauses : List (List Lit)) (gates : List Gate) (goals : List Lit)
@@ -241,14 +259,15 @@ first_none ns loaded vars clauses gates goals are goals_are none choice =
     absurd (none some.0 (record { model = some.1; hit = hit })))
 
 pub first_answer : (ns : List Node) (loaded : List (Option Lit)) (vars : ℕ) (clauses : List (List Lit)) (gates : List Gate) (goals bits : List Lit)
-    (n : ℕ) (found : Option (Vec Bool Global))
+    (never : Lit) (n : ℕ) (found : Option (Vec Bool Global))
     → IsCircuit ns → ((ms : List Node) (choice v : ℕ → Bool) → IsCircuit ms → Runs ms choice v → Fits ms choice v)
-    → n ≡ input_count ns → AreLoaded ns loaded vars clauses → AreLits loaded gates goals → AreLits loaded (input_gates n) bits
+    → n ≡ input_count ns → AreLoaded ns loaded vars clauses → AreLits loaded gates goals → lit_at loaded 0 ≡ Some never → bits ≡ input_lits loaded never n
     → MatchOption found (HasNone clauses goals) (λ w. IsLeast clauses bits goals w.items)
     → MatchOption found (NoneHolds ns gates) (λ w. IsFirst ns gates w.items)
-first_answer ns loaded vars clauses gates goals bits n (Some w) circuit fits_runs all are goals_are bits_lits least =
-    first_found ns loaded vars clauses gates goals bits n w.items circuit fits_runs all are goals_are bits_lits least
-first_answer ns loaded vars clauses gates goals bits n None circuit fits_runs all are goals_are bits_lits none =
+first_answer ns loaded vars clauses gates goals bits never n (Some w) circuit fits_runs all are goals_are is_never is least =
+    first_found ns loaded vars clauses gates goals never n w.items circuit fits_runs all are goals_are is_never
+    (subst (λ ls. IsLeast clauses ls goals w.items) is least)
+first_answer ns loaded vars clauses gates goals bits never n None circuit fits_runs all are goals_are is_never is none =
     first_none ns loaded vars clauses gates goals are goals_are none
 
 -- gates that hold in one of the lanes

@@ -1,6 +1,6 @@
 -- What who answers questions about a net keeps: what a solver knows of its gates, and the values of gates for 64 choices.
 
-use Rattle.std.specs.Prelude.{◌≡◌, ℕ, ◌+◌, Bool, true, List, length, map, Option, Some}
+use Rattle.std.specs.Prelude.{◌≡◌, ℕ, ◌+◌, Bool, true, List, length, map, Option, Some, None}
 use Rattle.std.specs.List.{range_with_len}
 use Rattle.bit_net.specs.declared.nodes.Gate.{Gate}
 use Rattle.bit_net.specs.declared.nodes.Node.{Node}
@@ -30,9 +30,14 @@ pub record IsReady (ns : List Node) (q : QuestionsState) : Type 0 where
 pub record AreLits (loaded : List (Option Lit)) (gates : List Gate) (lits : List Lit) : Type 0 where
   pub same : map (λ g. lit_at loaded g.at) gates ≡ map Some lits
 
--- the gates of the first inputs, which begin at gate 2
-abbrev pub input_gate : ℕ → Gate
-input_gate k = record { at = 2 + k }
+-- The literals that stand for the first inputs, which begin at gate 2: their own, and for an input that is not loaded the one that is
+-- false in every model. No loaded gate reads such an input.
+abbrev pub lit_or : Lit → Option Lit → Lit
+lit_or never None = never
+lit_or never (Some l) = l
 
-abbrev pub input_gates : ℕ → List Gate
-input_gates n = map input_gate (range_with_len 0 n)
+abbrev pub input_lit : List (Option Lit) → (never : Lit) → ℕ → Lit
+input_lit loaded never k = lit_or never (lit_at loaded (2 + k))
+
+abbrev pub input_lits : List (Option Lit) → (never : Lit) → ℕ → List Lit
+input_lits loaded never n = map (input_lit loaded never) (range_with_len 0 n)

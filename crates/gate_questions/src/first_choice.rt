@@ -1,9 +1,9 @@
-//! The first choice for which gates hold.
+//! The first choice for which gates hold. Only inputs that these gates or earlier ones read are searched for: any other one is false in it.
 ghost use Rattle.std.specs.Prelude.{◌≡◌, ◌<◌, ◌≤◌, ◌+◌, ℕ, length, All, OnOk, IfOk, MatchOption};
 ghost use Rattle.bit_net.specs.Circuit.{input_count};
 ghost use Rattle.clause_builder.specs.Cones.{AreLoaded};
 ghost use Rattle.gate_questions.specs.Holds.{NoneHolds, IsFirst};
-ghost use Rattle.gate_questions.specs.Ready.{input_gate as gate_of, input_gates as inputs_of};
+ghost use Rattle.gate_questions.specs.Ready.{input_lit as lit_for, input_lits as lits_for};
 
 use crate::OutOfMemory;
 use crate::asking::lits_of;
@@ -13,29 +13,35 @@ use query::least;
 use sat_base::{Lit, Solver};
 use std::alloc::Global;
 
-/// The gate of an input.
-fn input_gate(net: &Net, k: usize) -> Gate
+/// The literal of an input, or `never` where no gate that is loaded reads it.
+fn input_lit(net: &Net, loader: &Loader, never: Lit, k: usize) -> Lit
     requires { k < input_count net.now }
-    ensures gate { result ≡ gate_of k }
-    ensures below { result.at < length net.now }
+    ensures { result ≡ lit_for loader.now never k }
 {
     let _gates = net.len();
     net.sound();
-    Gate { at: 2 + k }
+    match loader.lit(Gate { at: 2 + k }) {
+        Some(lit) => lit,
+        None => never,
+    }
 }
 
-/// The gates of the inputs, in their order.
-fn input_gates(alloc: Global, net: &Net, count: usize) -> Result<Vec<Gate>, OutOfMemory>
+/// The same of all inputs, in their order.
+fn input_lits(
+    alloc: Global,
+    net: &Net,
+    loader: &Loader,
+    never: Lit,
+    count: usize,
+) -> Result<Vec<Lit>, OutOfMemory>
     requires { count ≡ input_count net.now }
-    ensures gates { IfOk result (λ gates. gates.items ≡ inputs_of count) }
-    ensures below { IfOk result (λ gates. All (λ g. g.at < length net.now) gates.items) }
+    ensures { IfOk result (λ bits. bits.items ≡ lits_for loader.now never count) }
 {
-    let mut gates = Vec::new(alloc);
+    let mut bits = Vec::new(alloc);
     for k in 0..count {
-        let gate = input_gate(net, k);
-        gates.push(gate)?;
+        bits.push(input_lit(net, loader, never, k))?;
     }
-    Ok(gates)
+    Ok(bits)
 }
 
 /// The bits of the first choice for which all gates hold, or `None` where there is none.
@@ -57,9 +63,8 @@ pub fn find_first<S: Solver>(
     runs_fit_tables();
     what_is_loaded_stays();
     let goals = lits_of(alloc, net, loader, s, gates)?;
-    let inputs = input_gates(alloc, net, count)?;
-    let all = inputs.as_slice();
-    let bits = lits_of(alloc, net, loader, s, all)?;
+    let never = loader.lit_of(net, s, Gate { at: 0 })?;
+    let bits = input_lits(alloc, net, loader, never, count)?;
     let bit_lits = bits.as_slice();
     let goal_lits = goals.as_slice();
     let found = least(alloc, s, bit_lits, goal_lits)?;

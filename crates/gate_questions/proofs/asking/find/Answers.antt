@@ -1,5 +1,5 @@
 -- One of the choices shows it, or the solver tells.
-use Rattle.std.proofs.Common.{◌≡◌, ◌∙◌, ap, length}
+use Rattle.std.proofs.Common.{◌∙◌, ap, length}
 use Rattle.gate_questions.proofs.Holding.{some_in_lane, gates_below}
 use Rattle.gate_questions.proofs.asking.find.Goals as goal
 

@@ -1,6 +1,5 @@
 -- The choice in which all hold.
-use Rattle.std.proofs.Common.{◌<◌, sym, ap, ◌∙◌, arith}
-use Rattle.std.proofs.lemmas.Bool.{false≢true}
+use Rattle.std.proofs.Common.{sym, ◌∙◌, arith}
 use Rattle.gate_questions.proofs.lanes.Lanes.show.Goals as goal
 
 pub returns : goal.returns

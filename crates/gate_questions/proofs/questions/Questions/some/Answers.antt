@@ -1,7 +1,7 @@
 -- A constant, or what was found.
 use Rattle.std.proofs.Common.{sym, subst}
 use Rattle.std.proofs.lemmas.Bool.{false≢true}
-use Rattle.gate_questions.specs.Ready.{IsReady, QuestionsState}
+use Rattle.gate_questions.specs.Ready.{IsReady}
 use Rattle.gate_questions.proofs.questions.Questions.some.Goals as goal
 
 pub returns-then-is_never-clause-answer : goal.returns-then-is_never-clause-answer
