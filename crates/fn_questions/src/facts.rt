@@ -13,7 +13,6 @@ use bit_net::{Gate, Net, OutOfMemory};
 use bit_words::Word;
 use error_laws::errors_are_at_locations;
 use fn_facts::{Around, entry_number};
-use fn_walks::Walk;
 use location_texts::Texts;
 use sum_rows::Row;
 
@@ -49,8 +48,6 @@ pub struct Facts<'p, 'm, 'f> {
     pub given: Word,
     /// How the row of a location begins that was asked for last: rows that begin alike are asked for one after the other.
     pub begun: Option<Begun>,
-    /// The walks over pointers that were asked for last: all rows of an item need the same ones.
-    pub walk: Option<Walk>,
 }
 
 impl<'p, 'm, 'f> Facts<'p, 'm, 'f> {
@@ -80,7 +77,6 @@ impl<'p, 'm, 'f> Facts<'p, 'm, 'f> {
             texts,
             given,
             begun: None,
-            walk: None,
         }))
     }
 }
