@@ -59,7 +59,7 @@ fn read(alloc: Global, names: &mut Interner, text: &str) -> Result<Unit, LexAnsw
 }
 
 // The typed program of a file, with that machine; with that of locks where there is none.
-#[tactic(auto, using(crate::proofs::Machines::whole_if_given))]
+#[tactic(auto, using(crate::proofs::Wholeness::whole_if_given))]
 fn typed(alloc: Global, text: &str, machine: Option<MachineSpec>) -> Option<Program>
     requires { IfSome machine IsWhole }
     ensures { IfSome result (λ p. HasWholeMachine p) }
