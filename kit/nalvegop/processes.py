@@ -6,7 +6,7 @@ import os
 import signal
 import subprocess
 from collections.abc import Iterator, Sequence
-from contextlib import contextmanager
+from contextlib import contextmanager, suppress
 from types import FrameType
 
 
@@ -65,7 +65,9 @@ def ran(words: Sequence[str], folder: str, seconds: float) -> subprocess.Complet
                 with ENDING.let_in():
                     out, err = it.communicate(timeout=seconds)
             except BaseException:
-                # (what it started may hold the pipes open)
-                os.killpg(it.pid, signal.SIGKILL)
+                # (what it started may hold the pipes open; behind a KeyboardInterrupt Popen itself waits for a quarter of a second)
+                with suppress(ProcessLookupError):
+                    os.killpg(it.pid, signal.SIGKILL)
+                it.wait()
                 raise
     return subprocess.CompletedProcess(words, it.returncode, out, err)
