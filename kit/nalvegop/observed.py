@@ -12,6 +12,7 @@ import re
 from collections.abc import Iterator
 from dataclasses import dataclass, field
 
+from .pointers import Pointers
 from .segments import KEYWORDS, Segment, Unit
 from .tokens import LineIndex, tokens_of
 from .verdicts import At, Event, Run
@@ -63,7 +64,7 @@ class Observers:
         self._asked: dict[At, Observer | None] = {}
         it = next((it for it in self._unit.segments if it.function == function), None)
         if it and it.body[0] < it.body[1]:
-            self._pointers = self._declared_pointers(it)
+            self._pointers = Pointers(self._unit, it)
             self._at_entry(it)
             self._behind_calls(it)
 
@@ -104,16 +105,9 @@ class Observers:
         return not self._text[self._tokens[at].end :].partition("\n")[0].strip()
 
     def _observer(self, subject: str, call: At | None, is_number: bool, is_allocated: bool = False) -> Observer:
-        is_pointer = is_allocated or re.split(r"->|\.", subject)[-1] in self._pointers
+        *before, name = re.split(r"->|\.", subject)
+        is_pointer = is_allocated or name in (self._pointers.members if before else self._pointers.variables)
         return Observer(subject, call, is_number and self._with_numbers and not is_pointer, is_pointer)
-
-    def _declared_pointers(self, function: Segment) -> set[str]:
-        """Returns names behind a star that may declare them: in the function, and in what is no function."""
-        texts, found = [token.text for token in self._tokens], set[str]()
-        for it in self._unit.segments:
-            if it is function or not it.is_function:
-                found |= {texts[at] for at in range(it.first + 1, it.end) if texts[at - 1] == "*" and self._tokens[at].is_word}
-        return found
 
     # ---- at entry
 

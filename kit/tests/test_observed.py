@@ -5,6 +5,9 @@ from __future__ import annotations
 import unittest
 
 from nalvegop.observed import Observers, Values
+from nalvegop.pointers import Pointers
+from nalvegop.segments import Unit
+from nalvegop.tokens import tokens_of
 from nalvegop.verdicts import At, Event, Run
 from tests.support import folder, nalvegop, needs_checker
 
@@ -74,6 +77,30 @@ class Places(unittest.TestCase):
         self.assertEqual(Observers("int f(void);\n", "f", True).text, "int f(void);\n")
 
 
+class Declared(unittest.TestCase):
+    def pointers(self, text: str) -> Pointers:
+        unit = Unit([*tokens_of(text)])
+        return Pointers(unit, next(it for it in unit.segments if it.function == "f"))
+
+    def variables(self, text: str) -> str:
+        return " ".join(sorted(self.pointers(text).variables))
+
+    def test_behind_stars(self) -> None:
+        self.assertEqual(self.variables("int f(int a, char *b, const int *const c, struct s *d, t *e, char **g) { }"), "b c d g")
+        self.assertEqual(self.variables("typedef int t; int f(t *a, t b) { int c = 1, *d; t *e; return *b; }"), "a b d e")
+
+    def test_products_declare_nothing(self) -> None:
+        self.assertEqual(self.variables("int f(int a, int b) { int c = a * b; c = 2 * b; c = (a) * b; c = a[1] * b; return a * c; }"), "")
+
+    def test_types_that_are_pointers(self) -> None:
+        types = "typedef char *text; typedef const text other; typedef int (*call)(int *n); typedef struct s { text m; int *k, o; } s, *sp; "
+        self.assertEqual(self.variables(types + "int f(text a, int n, other const b, call c, sp d, s e) { text g = 0, h[2], i; n = 1; }"), "a b c d g h i")
+        self.assertEqual(self.pointers(types + "int f(void) { }").members, {"m", "k"})
+
+    def test_variables_of_the_file_and_names_of_others(self) -> None:
+        self.assertEqual(self.variables("int *a, b, *c; struct s { int *d; }; int g(int *e); int f(int c) { }"), "a")
+
+
 class Telling(unittest.TestCase):
     def test_what_observers_tell_of_the_same_run_alone(self) -> None:
         source = "int f(int n, char *p)\n{\n  n = g(n);\n  return n;\n}\n"
@@ -86,11 +113,18 @@ class Telling(unittest.TestCase):
         self.assertIsNone(observers.values(Run("d", events[:1]), Run("d", told)))
 
     @needs_checker
+    def test_numbers_beside_a_pointer_by_its_type(self) -> None:
+        source = "#include <stdlib.h>\ntypedef char *text;\nint f(text t, int n)\n{\n\tchar *p = malloc(1);\n\tif (t && n == 7)\n\t\treturn 1;\n\tfree(p);\n\treturn 0;\n}\n"
+        with folder(a__c=source) as room:
+            said = nalvegop("check", "a.c", at=room).stdout
+            self.assertIn("a.c:5:12: note: a run where 't' is not null and 'n' is 7 at entry:\n", said)
+
+    @needs_checker
     def test_a_pointer_by_its_type_is_no_number(self) -> None:
         source = "#include <stdlib.h>\ntypedef char *text;\nint other(void);\nint f(text t)\n{\n\tchar *p = malloc(1);\n\tif (t)\n\t\treturn 1;\n\tfree(p);\n\treturn 0;\n}\n"
         with folder(a__c=source) as room:
             said = nalvegop("check", "a.c", at=room).stdout
-            self.assertIn("a.c:6:12: note: a run where 't' is not 0 at entry:\n", said)
+            self.assertIn("a.c:6:12: note: a run where 't' is not null at entry:\n", said)
             self.assertIn("a.c:6:12: note: (1) 'malloc' is called and does not give null\n", said)
 
 
