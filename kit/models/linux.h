@@ -594,6 +594,9 @@ static inline void nalvegop_take_and_give(spinlock_t *lock)
 #undef max_t
 #undef clamp
 #undef clamp_t
+#undef clamp_val
+#undef PTR_ALIGN
+#undef PTR_ALIGN_DOWN
 #undef ARRAY_SIZE
 #undef struct_size
 #define min(a, b) nalvegop_min((a), (b))
@@ -602,6 +605,10 @@ static inline void nalvegop_take_and_give(spinlock_t *lock)
 #define max_t(t, a, b) ((t)nalvegop_max((a), (b)))
 #define clamp(v, a, b) nalvegop_clamp((v), (a), (b))
 #define clamp_t(t, v, a, b) ((t)nalvegop_clamp((v), (a), (b)))
+#define clamp_val(v, a, b) nalvegop_clamp((v), (a), (b))
+/* (where it lies in the object is not followed) */
+#define PTR_ALIGN(p, a) ((void)(a), nalvegop_object(p))
+#define PTR_ALIGN_DOWN(p, a) ((void)(a), nalvegop_object(p))
 #define ARRAY_SIZE(a) (sizeof(a) / sizeof((a)[0]))
 #define struct_size(p, m, n) (sizeof(*(p)) + sizeof((p)->m[0]) * (n))
 #undef min3

@@ -9,6 +9,9 @@ _Bool nalvegop_more(void);
 void *nalvegop_entry(void);
 void *nalvegop_object(const void *);
 void *nv_at(const void *);
+/* The number of a pointer, which goes away to it; what a number leads to. */
+unsigned long nv_to(const void *);
+void *nv_(void);
 void nalvegop_use(const void *);
 /* What it gets goes away to what it gives, as to a thread that begins. */
 void *nalvegop_made(const void *);

@@ -10,7 +10,7 @@ from functools import cached_property
 
 from .checker import Checker, NotChecked, OutOfMemory, OutOfTime
 from .compilations import Compilation
-from .filter import MODEL_HEAD, PART, Filter, Filtered
+from .filter import MODEL_HEAD, PUT, Filter, Filtered
 from .findings import OBJECT, Finding, Step, Teller, one_of_each_array
 from .leaks import Leaks
 from .lines import LineMap, Place, SourceFiles
@@ -33,6 +33,10 @@ _EFFECTS = _ON_LOCKS | {*"malloc calloc kmalloc kzalloc free kfree".split()}
 _CONTAINER = "container_of gives another object each time"
 _COUNTED = "arithmetic on a pointer gives another object each time"
 _OFFSET = "the number that offsetof gives is not known"
+_POINTER = "a pointer made of a number leads to another object each time"
+_ADDRESS = "the number of a pointer is not known"
+# How often a text is checked once more, with something in place of casts that the checker did not take.
+_MOST_CASTS = 4
 _UNSURE = {OBJECT: _CONTAINER, "nalvegop_entry": "which entries a list has is not known"}
 
 
@@ -122,7 +126,7 @@ class FileCheck:
         """Checks the whole file in a third of the time. Where that does not end, each function is checked for itself,
         callees first; one without a whole answer in time is unknown to the others from there on."""
         try:
-            return self.options.checker.check(filtered.text, self.model, max(self._left() / 3, 1), self.renamed)
+            return self._whole(filtered)
         except (OutOfTime, OutOfMemory):
             names = callees_first(self._one_by_one.own_functions())
             if not names:
@@ -137,6 +141,18 @@ class FileCheck:
         found.functions.sort(key=lambda it: order.get(it.name, 0))
         self.result.late.sort(key=lambda it: order.get(it, 0))
         return found
+
+    def _whole(self, filtered: Filtered) -> Verdicts:
+        """Checks the whole file, and once more where something can be put in place of casts that the checker did not take."""
+        for _ in range(_MOST_CASTS):
+            verdicts = self.options.checker.check(filtered.text, self.model, max(self._left() / 3, 1), self.renamed)
+            if not self.filter.refuse(_refused_casts(verdicts)):
+                break
+            before, filtered = filtered, self.filter.run()
+            if filtered.text == before.text:
+                break
+            self.result.text = filtered.text
+        return verdicts
 
     def _of_one(self, name: str, unknown: set[str], waiting: int) -> Verdicts | None:
         """Returns the verdicts of a text with one function and all that it calls; where there is no answer in time, of
@@ -160,9 +176,16 @@ class FileCheck:
     def _answer(self, name: str, unknown: set[str], waiting: int) -> Verdicts | None:
         """Returns the verdicts of a text with one function and what it calls, but for bodies of the unknown ones; None
         where there are none in its time or memory."""
-        if time.monotonic() >= self.end:
-            return None
-        return self._checked(self._one_by_one.run(only=[name], without=unknown).text, waiting)
+        found: Verdicts | None = None
+        for _ in range(_MOST_CASTS):
+            if time.monotonic() >= self.end:
+                break
+            found = self._checked(self._one_by_one.run(only=[name], without=unknown).text, waiting)
+            self.filter.with_pointers |= self._one_by_one.with_pointers
+            self.filter.with_addresses |= self._one_by_one.with_addresses
+            if not found or not self._one_by_one.refuse(_refused_casts(found)):
+                break
+        return found
 
     def _checked(self, text: str, waiting: int) -> Verdicts | None:
         try:
@@ -259,13 +282,17 @@ class FileCheck:
         found = {why for name, why in _UNSURE.items() if name in names}
         if finding.kind == "inner" and finding.function in self.filter.with_parts and not found:
             found.add(_COUNTED)
+        if finding.kind == "inner" and finding.function in self.filter.with_pointers:
+            found.add(_POINTER)
         if finding.function in self.filter.with_offsets:
             found.add(_OFFSET)
+        if finding.function in self.filter.with_addresses:
+            found.add(_ADDRESS)
         return sorted(found)
 
     def _is_model(self, name: str) -> bool:
         """Returns whether a name is that of a function of the models, or of an operation: all that counts of it is known."""
-        return name.startswith((MODEL_HEAD, PART)) or name in self.operations
+        return name.startswith(MODEL_HEAD) or name in PUT | self.operations
 
     def _finding(self, teller: Teller, function: Function, report: Report, lost: Mapping[str, frozenset[str]], doubts: list[str]) -> Finding:
         """Tells a report. One on a lock may be false where a call on its path may lock or unlock, and is not followed; a
@@ -319,6 +346,12 @@ class FileCheck:
         for path in finding.paths:
             path.steps = [Step(self._shown(step.place), step.text) for step in path.steps]
         return finding
+
+
+def _refused_casts(verdicts: Verdicts) -> list[At]:
+    """Returns the places of casts between pointers and numbers for which functions were passed over."""
+    skips = [it.skip for it in verdicts.functions if it.skip]
+    return [it.at for it in skips if (it.reason, it.kind) == ("unsupported", "cast") and it.at]
 
 
 def callees_first(functions: list[Segment]) -> list[str]:

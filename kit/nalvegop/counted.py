@@ -61,7 +61,7 @@ class CountedPointers:
         end, at = operator, operator
         while self.tokens[at].text in ("+", "-"):
             end = self._term_end(at + 1)
-            if end == at + 1 or self._changes(at + 1, end) or self.tokens[at].text == "-" and not self._is_number(at + 1):
+            if end == at + 1 or self.changes(at + 1, end, (self.harmless,)) or self.tokens[at].text == "-" and not self._is_number(at + 1):
                 return None
             at = end
         if self._is_address(begins[1] - 1) and not self._is_pointer_again(begins[0], end):
@@ -131,11 +131,12 @@ class CountedPointers:
             at = self.partner[at] + 1 if self.partner[at] > at else at + 1
         return at
 
-    def _changes(self, first: int, end: int) -> bool:
-        """Returns whether evaluating the term may do more than give a number: it has a call or an assignment."""
+    def changes(self, first: int, end: int, harmless: tuple[str, ...] = ()) -> bool:
+        """Returns whether evaluating these tokens may do more than give a value: they have an assignment, or a call of a
+        function without one of these heads."""
         for at in range(first, end):
             token, behind = self.tokens[at], self.tokens[at + 1].text
-            is_call = token.is_word and behind == "(" and token.text not in KEYWORDS and token.text != OFFSET and not token.text.startswith(self.harmless)
+            is_call = token.is_word and behind == "(" and token.text not in KEYWORDS and token.text != OFFSET and not token.text.startswith(harmless)
             is_call_of_pointer = token.text == ")" and behind == "(" and self.tokens[self.partner[at] + 1].text == "*"
             if token.text in _CHANGES or is_call or is_call_of_pointer:
                 return True

@@ -9,11 +9,12 @@ given with the reason.
 from __future__ import annotations
 
 from collections import Counter
-from collections.abc import Callable, Iterable
+from collections.abc import Callable, Iterable, Iterator
 from dataclasses import dataclass, field
 from functools import cached_property
 
 from .block_types import BlockType, BlockTypes
+from .casts import Cast, Casts
 from .counted import OFFSET, CountedPointers
 from .old_parameters import OldParameters
 from .segments import KEYWORDS, Segment, Unit
@@ -31,13 +32,17 @@ BUILT_IN = {
     *"spin_lock spin_unlock spin_trylock mutex_lock mutex_unlock mutex_trylock pthread_mutex_lock pthread_mutex_unlock".split(),
     *"pthread_mutex_trylock malloc calloc kmalloc kzalloc free kfree exit _exit abort panic __assert_fail".split(),
 }
+# What behind a bracket makes an operand of it: a part of a value, or a call.
+_MORE = {*". -> [ ( ++ --".split()}
 # A call of it stands for pthread_cleanup_push: models/libc/pthread.h makes it of that macro.
 CLEANUP_CALL = "nalvegop_cleanup_push"
 # The function of the models that stands for what a pointer leads to that is counted from another one; and how the names
 # of the others begin.
 PART, MODEL_HEAD = "nv_at", "nalvegop_"
-# The one for a number that is not known.
-NUMBER = "nalvegop_ulong"
+# The one for a number that is not known, the one for the number of a pointer, and the one for what a number leads to.
+NUMBER, ADDRESS, POINTER = "nalvegop_ulong", "nv_to", "nv_"
+# All that the filter puts somewhere.
+PUT = frozenset({PART, NUMBER, ADDRESS, POINTER})
 
 
 @dataclass
@@ -78,11 +83,16 @@ class Filter:
         # The tags that types of bodies get, by the token of the brace.
         self._tags_at: dict[int, str] = {}
         # (it is declared by the models; without them there is none)
-        self._has_part = {PART, NUMBER} <= frozenset[str]().union(*(it.declares for it in self.unit.segments))
+        declared = frozenset[str]().union(*(it.declares for it in self.unit.segments))
+        self._has_part, self._has_pointer = {PART, NUMBER} <= declared, {ADDRESS, POINTER} <= declared
         self._shadows = Shadows(self.tokens, self.partner, self.unit.typedefs())
         self.passed_over: dict[str, tuple[str, At]] = {}
         # The functions in which an object, or a number, that is not known was put in place of something.
         self.with_parts, self.with_offsets = set[str](), set[str]()
+        self.with_pointers, self.with_addresses = set[str](), set[str]()
+        self._values, self._casts = CountedPointers(self.tokens, self.partner, MODEL_HEAD), Casts(self.tokens, self.partner)
+        # The places of casts that the checker does not take; the tokens that got another name.
+        self._refused, self._other_at = set[At](), set[int]()
 
     # ---- what is left
 
@@ -96,6 +106,13 @@ class Filter:
 
     def _line(self, at: int) -> int:
         return self._lines.line(self.tokens[at].start)
+
+    def refuse(self, places: Iterable[At]) -> bool:
+        """Notes casts between pointers and numbers that the checker does not take. Returns whether that is new, and there
+        may be something to put in their places."""
+        new = {*places} - self._refused
+        self._refused |= new
+        return self._has_pointer and bool(new)
 
     def run(self, only: Iterable[str] | None = None, without: Iterable[str] = ()) -> Filtered:
         """Filters. With `only`, the own functions of these names keep their bodies, and so do those that they call; the
@@ -126,7 +143,7 @@ class Filter:
             kept.add(id(segment))
             is_cut = segment.function in without or segment.function in self._fixed
             names = self._head_names(segment) if is_cut and id(segment) not in keeps_whole else segment.names
-            for name in {*names, PART, NUMBER}:
+            for name in {*names, *PUT}:
                 work += [it for it in self._by_name.get(name, []) if id(it) not in kept]
         return kept
 
@@ -174,12 +191,21 @@ class Filter:
         self._rename_shadows(segment)
         self._block_types(segment)
         self._static_locals(segment)
+        dropped = [*self._dropped_values(segment)]
+        gone = {token for first, end in dropped for token in range(first, end)}
         if self._has_part:
-            self._offsets(segment, self._counted_pointers(segment))
+            gone |= self._counted_pointers(segment, gone)
+            self._offsets(segment, gone)
+        if self._has_pointer:
+            self._refused_casts(segment, gone)
         self._asserts(segment.body[0], segment.end)
         self._asm_statements(segment.body[0], segment.end)
         self._once_loops(segment.body[0], segment.end)
         self._statement_expressions(segment.body[0], segment.end)
+        for first, end in dropped:
+            self._blank(first, end)
+            self._put(self.tokens[first], "0")
+            self._count("dropped")
 
     def _offsets(self, segment: Segment, but: set[int]) -> None:
         """`__builtin_offsetof(T, m)` becomes a number that is not known."""
@@ -190,13 +216,59 @@ class Filter:
                 self.with_offsets.add(segment.function or "")
                 self._count("offsets")
 
-    def _counted_pointers(self, segment: Segment) -> set[int]:
+    def _dropped_values(self, segment: Segment) -> Iterator[tuple[int, int]]:
+        """Gives the tokens of `a + n` in `(void)(a + n)`, where nothing happens but that a value is made: so it is with what
+        the models drop. A 0 is put there. A run goes on where reading the value would be an error."""
+        at = segment.body[0]
+        while at < segment.end - 4:
+            first, closing = at + 4, self.partner[at + 3]
+            is_void = [it.text for it in self.tokens[at:first]] == ["(", "void", ")", "("]
+            if is_void and closing > first and self.tokens[closing + 1].text not in _MORE and not self._values.changes(first, closing):
+                yield first, closing
+                at = closing
+            at += 1
+
+    def _refused_casts(self, segment: Segment, gone: set[int]) -> None:
+        """A cast that the checker does not take, and those of the function with the same words: `(T *)n` becomes an object
+        that is not known, and `(long)p` a number; `p` goes away to it."""
+        if not self._refused:
+            return
+        found = [it for at in range(*segment.body) if self.tokens[at].text == "(" and (it := self._casts.read(at))]
+        refused = [it for it in found if self.at(it.first) in self._refused]
+        for it in found:
+            is_left = not gone & {*range(it.first, it.end)}
+            if is_left and any(self._casts.same(it, one) for one in refused) and self._put_for_cast(it):
+                (self.with_pointers if it.is_pointer else self.with_addresses).add(segment.function or "")
+                self._count("casts")
+
+    def _put_for_cast(self, it: Cast) -> bool:
+        """Puts something in place of a cast, if there is room."""
+        start, operand = self.tokens[it.first].start, self.tokens[it.operand].start
+        end = self.tokens[it.end - 1].end
+        if self._values.changes(it.operand, it.end) or "\n" in self._text[start:end]:
+            return False
+        value, at = f"{POINTER}()", start
+        if not it.is_pointer:
+            # (the operand moves, so nothing may be in it of which a path tells)
+            value, inside = f"{ADDRESS}({self._text[operand:end]})", range(it.operand, it.end)
+            if self._other_at & {*inside} or {self.tokens[token].text for token in inside} & {"?", "&&", "||"}:
+                return False
+        elif len(value) <= end - operand:
+            at = operand
+        elif not self._casts.is_free(it):
+            return False
+        if len(value) > end - at:
+            return False
+        self.sheet.put(at, value.ljust(end - at))
+        return True
+
+    def _counted_pointers(self, segment: Segment, but: set[int]) -> set[int]:
         """`(char *)p + n` becomes `nv_at( p )`, an object that is not known: so the models do with container_of. Else it is
         arithmetic on pointers, and the function is passed over. Returns the tokens of what is counted by: they are gone."""
         gone = set[int]()
-        for it in CountedPointers(self.tokens, self.partner, MODEL_HEAD).of(segment.body[0] + 1, segment.end):
+        for it in self._values.of(segment.body[0] + 1, segment.end):
             room = self._text[self.tokens[it.first].start : self.tokens[it.operand - 1].end]
-            if len(room) <= len(PART) or "\n" in room:
+            if len(room) <= len(PART) or "\n" in room or it.first in but:
                 continue
             self._blank(it.first, it.operand)
             self.sheet.put(self.tokens[it.first].start, f"{PART}(")
@@ -218,6 +290,7 @@ class Filter:
                 self._renamed[shadow.name] = other
             for at in self._shadows.uses(shadow):
                 self._put(self.tokens[at], self._renamed[shadow.name])
+                self._other_at.add(at)
             self._count("names")
 
     def _block_types(self, segment: Segment) -> None:
@@ -286,6 +359,7 @@ class Filter:
             scope = Shadow(self.tokens[at].text, at, self._shadows.block_end(at, brace, end))
             for use in self._shadows.uses(scope):
                 self._put(self.tokens[use], names[scope.name])
+                self._other_at.add(use)
         self._blank(it.first, it.end)
         self._count("statics")
 

@@ -8,7 +8,7 @@ from collections import Counter
 from collections.abc import Sequence
 from dataclasses import dataclass, field
 
-from .filter import NUMBER, PART
+from .filter import PUT
 from .lines import LineMap, Place, SourceFiles, decoded
 from .observed import Values
 from .preprocess import model_names
@@ -184,8 +184,9 @@ class Teller:
         word = self._source_word(at)
         line = self.place(at).line
         given = f"what {_quoted(word) if word else 'the call'} gave in line {line}"
-        if not word and self.lines[at.line - 1][at.column - 1 :].startswith("("):
-            # (the filter has put an unknown object there)
+        here = re.match(r"([A-Za-z_]\w*)?(\s*\()?", self.lines[at.line - 1][at.column - 1 :])
+        if here and (not word or here[1] == word and not here[2]):
+            # (there is no macro and no call: the filter has put an unknown object there)
             given = f"what the pointer computed in line {line} points to"
         before, rest = about[: found.start()], about[found.end() :]
         if before.strip("(*") or ")" in rest:
@@ -252,8 +253,8 @@ class Teller:
         steps = list[Step]()
         for at, it in enumerate(run.events):
             # (what the filter puts in place of a pointer or of a number is no call of the source's)
-            if it.kind != "call" or self._called(it) not in (PART, NUMBER):
-                gave = _gives(values.gave[at]) if at in values.gave and it.word not in (PART, OBJECT) else ""
+            if it.kind != "call" or self._called(it) not in PUT:
+                gave = _gives(values.gave[at]) if at in values.gave and it.word not in PUT | {OBJECT} else ""
                 steps.append(Step(self.place(it.at), self._step(function, report, run, it) + gave))
         entry = self._tested(run, values)
         return Path(self._head(function, report, number, entry), steps, run.choice, entry)

@@ -26,7 +26,7 @@ def squeezed(text: str) -> str:
 
 
 # What the filter writes in place of something else.
-_WRITTEN = {",", ")", "(", ";", "sizeof", '""', "abort", "nv_at", "nalvegop_ulong"}
+_WRITTEN = {",", ")", "(", ";", "0", "sizeof", '""', "abort", "nv_at", "nv_to", "nv_", "nalvegop_ulong"}
 
 
 def moved(made: str, before: str) -> list[str]:
@@ -195,6 +195,59 @@ class Steps(unittest.TestCase):
             "((char *)p + n)[1]",
         ):
             self.becomes(f"{part}void f(struct s *p, char *q, int n) {{ g({text}); }}", f"{part}void f(struct s *p, char *q, int n) {{ g({text}); }}")
+
+    def test_values_that_are_dropped(self) -> None:
+        cases = {
+            "(void)(a + n);": "(void)(0);",
+            "(void)(*a), f(n);": "(void)(0), f(n);",
+            "((void)(f(n)), (void)((char *)a + n));": "((void)(f(n)), (void)(0));",
+            "(void)(n = 1); (void)(n++); (void)((void)(a), n);": "(void)(n = 1); (void)(n++); (void)(0);",
+            "(void)(a)->m; (void)(a)[n]; (void)(g)(n); (void)a;": "(void)(a)->m; (void)(a)[n]; (void)(g)(n); (void)a;",
+        }
+        head = "void *nv_at(const void *); unsigned long nalvegop_ulong(void); "
+        for before, after in cases.items():
+            self.tightly(f"{head}void h(int *a, int n) {{ {before} }}", f"{head}void h(int *a, int n) {{ {after} }}")
+
+    def refused(self, body: str, *columns: int) -> str:
+        """Returns the body, which begins a line, of a function in which the casts at these columns are not taken."""
+        heads = "unsigned long nv_to(const void *); void *nv_(void); int g(void *, long);\n", "void h(struct s *s, unsigned long n)\n{\n"
+        it = Filter(f"{heads[0]}struct s {{ unsigned long m; }};\n{heads[1]}{body}\n}}\n", lambda line: True)
+        self.assertTrue(it.refuse([At(5, column) for column in columns]))
+        self.assertFalse(it.refuse([At(5, columns[0])]))
+        made = it.run().text
+        self.assertEqual([] if "nv_to(" in made.split("\n")[4] else moved(made, it.sheet.was), [])
+        line = squeezed(made.split("\n")[4])
+        self.assertEqual(it.with_pointers | it.with_addresses, set() if line == squeezed(body) else {"h"})
+        self.assertEqual("h" in it.with_addresses, "nv_to(" in line)
+        return line
+
+    def test_casts_that_are_not_taken(self) -> None:
+        for body, made in {
+            "struct s *t = (struct s *)s->m;": "struct s *t = nv_() ;",
+            "void *t = (void *)n;": "void *t = nv_() ;",
+            "struct s *t = 0; t = n ? (struct s *)((n + 1)) : 0;": "struct s *t = 0; t = n ? (struct s *)nv_() : 0;",
+            "unsigned long k = (unsigned long)&s->m & 3;": "unsigned long k = nv_to(&s->m) & 3;",
+            "return (long)s->p[2].q;": "return (long)s->p[2].q;",
+            "return (unsigned)s->p[2].q;": "return nv_to(s->p[2].q) ;",
+        }.items():
+            column = next(it for it in range(1, 40) if body[it - 1 :].startswith(("(struct", "(void", "(unsigned", "(long")))
+            self.assertEqual(self.refused(body, column), made, body)
+
+    def test_casts_with_the_same_words_are_taken_too(self) -> None:
+        self.assertEqual(self.refused("g((void *)n, 1); g((void *)n, 2); g((void *)s, 3);", 3), "g(nv_() , 1); g(nv_() , 2); g((void *)s, 3);")
+
+    def test_casts_that_stay(self) -> None:
+        for body in (
+            "((struct s *)n)->m = 1;",
+            "g((void *)g(0, 1), 2);",
+            "g((void *)(n = 1), 2);",
+            "g((other)n, 2);",
+            "n = (int)s;",
+            "n = n + ((long)s);",
+            "n = (unsigned long)(s ? s : 0);",
+        ):
+            column = next(it for it in range(1, 40) if body[it - 1 :].startswith(("(struct", "(void", "(other", "(int", "(long", "(unsigned")))
+            self.assertEqual(self.refused(body, column), squeezed(body), body)
 
     def test_static_locals(self) -> None:
         before = 'typedef int t;\nint f(t a)\n{\n  static int calls = 1, b[2];\n  if (a) { static char *calls[] = { "x" }; g(calls); }\n  return calls++ + b[0];\n}\n'
