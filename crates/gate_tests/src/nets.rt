@@ -73,34 +73,6 @@ fn folds_what_one_operand_shows_of_the_other(rt: HostRuntime) {
     assert!(rt; shows_the_other(rt.alloc()) == Ok(true));
 }
 
-/// A `mux` between a gate and its `xor` with another one is an `and` and an `xor`. An `and` with an `and` takes the gate of both operands
-/// that is there.
-fn shares_parts(alloc: Global) -> Result<bool, OutOfMemory> {
-    let mut net = Net::new(alloc, 3)?;
-    let c = net.input(0);
-    let b = net.input(1);
-    let t = net.input(2);
-    let turned = net.xor(b, t)?;
-    let chosen = net.mux(c, turned, b)?;
-    let both = net.and(c, t)?;
-    let again = net.xor(b, both)?;
-    let parts = net.and(b, t)?;
-    let whole = net.and(c, parts)?;
-    let shared = net.and(both, b)?;
-    Ok(
-        chosen == again
-            && whole == shared
-            && is_value(&net, &[true, true, true], chosen, false)
-            && is_value(&net, &[false, true, true], chosen, true)
-            && is_value(&net, &[true, true, true], whole, true),
-    )
-}
-
-#[test]
-fn parts_are_shared(rt: HostRuntime) {
-    assert!(rt; shares_parts(rt.alloc()) == Ok(true));
-}
-
 /// A `mux` that needs two of its operands alone is an `and`, an `or` or a `xor` of these.
 fn muxes_of_two(alloc: Global) -> Result<bool, OutOfMemory> {
     let mut net = Net::new(alloc, 2)?;
