@@ -41,11 +41,11 @@ pub data IsFound (count seed : ℕ) : Due → Type 0 where
 abbrev pub Ask : (words : List (List ℕ)) → BenchWords → Type 0
 Ask words asked = (command : App) × IsBench command × (rows : List Row) × Give command words rows × HaveBench rows asked
 
--- the words call for help
+-- the words call for help, or for the version
 abbrev pub AskForHelp : (words : List (List ℕ)) → Type 0
 AskForHelp words = (command : App) × IsBench command × CallForHelp command words
 
--- the words have a fault other than a call for help
+-- the words have a fault other than these calls
 abbrev pub AreBad : (words : List (List ℕ)) → Type 0
 AreBad words = (command : App) × IsBench command × HaveFault command words
 

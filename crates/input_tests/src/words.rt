@@ -3,7 +3,7 @@
 
 use crate::given::owned;
 use saturn_words::{
-    BenchWords, CheckWords, NoWords, RunWords, bench_words, check_words, run_words,
+    BenchWords, CheckWords, Format, NoWords, RunWords, bench_words, check_words, run_words,
 };
 use sc_base::OutOfMemory;
 use sc_tree::ctype::Widths;
@@ -14,7 +14,7 @@ use std::alloc::Global;
 enum Outcome {
     /// They ask for something.
     Asked,
-    /// They call for help, and there is a text.
+    /// They call for help or for the version, and there is a text.
     Helped,
     /// They have another fault, and there is a text.
     Bad,
@@ -76,6 +76,7 @@ fn has_defaults(asked: &CheckWords) -> bool {
         && asked.options.machine.is_none()
         && asked.options.files.len() == 1
         && asked.options.files[0] == "a.c"
+        && asked.format == Format::Text
         && asked.jobs == 1
 }
 
@@ -101,6 +102,8 @@ const CHECK: &[&str] = &[
     "b.c",
     "--machine",
     "m",
+    "--format",
+    "json",
     "--jobs",
     "64",
     "a.c",
@@ -111,6 +114,7 @@ fn has_options(asked: &CheckWords) -> bool {
         && asked.options.reach == 4
         && asked.options.widths == Widths::Lp64
         && is_word(asked.options.machine, "m")
+        && asked.format == Format::Json
         && asked.jobs == 64
 }
 
@@ -279,8 +283,8 @@ fn words_of_the_others_have_faults(rt: HostRuntime) {
 }
 
 #[test]
-fn help_is_given(rt: HostRuntime) {
-    for word in ["--help", "-h"] {
+fn help_and_version_are_given(rt: HostRuntime) {
+    for word in ["--help", "-h", "--version", "-V"] {
         assert!(rt; is_check(rt.alloc(), &["saturn_check", word], Outcome::Helped));
         assert!(rt; run_outcome(rt.alloc(), &["saturn_run", "a.c", word]) == Ok(Outcome::Helped));
         assert!(rt; bench_outcome(rt.alloc(), &["saturn_bench", "1", word]) == Ok(Outcome::Helped));

@@ -49,11 +49,11 @@ pub data IsFound (asked : RunWords) (outside : Outside) : Due → Type 0 where
 abbrev pub Ask : (words : List (List ℕ)) → RunWords → Type 0
 Ask words asked = (command : App) × IsRun command × (rows : List Row) × Give command words rows × HaveRun rows asked
 
--- the words call for help
+-- the words call for help, or for the version
 abbrev pub AskForHelp : (words : List (List ℕ)) → Type 0
 AskForHelp words = (command : App) × IsRun command × CallForHelp command words
 
--- the words have a fault other than a call for help
+-- the words have a fault other than these calls
 abbrev pub AreBad : (words : List (List ℕ)) → Type 0
 AreBad words = (command : App) × IsRun command × HaveFault command words
 

@@ -3,14 +3,14 @@
 ghost use Rattle.std.specs.Prelude.{◌≡◌, ℕ, List, IfOk};
 ghost use Rattle.sc_input.specs.Input.{Outside};
 ghost use Rattle.top_answers.specs.Seen.{seen};
-ghost use Rattle.whole_checks.specs.Seen as whole;
+ghost use Rattle.json_checks.specs.Seen as whole;
 ghost use Rattle.saturn_top.specs.Checks.{due_of_said, IsDue, AskNothing};
 
+use json_checks::Said;
 use saturn_words::NoWords;
 use sc_base::OutOfMemory;
 use std::alloc::Global;
 use top_answers::{Answer, Status, limit_line, name_line};
-use whole_checks::Said;
 
 /// What the program of this name owes for what is said of the files.
 pub fn answer_of(alloc: Global, program: &[u8], said: Said) -> Result<Answer, OutOfMemory>

@@ -1,5 +1,5 @@
 -- The commands of the three programs, as far as `clap` reads them: which arguments there are, which values they take,
--- and which of them have to be there. The texts of help are no part of it.
+-- and which of them have to be there. The texts of help and of the version are no part of it.
 
 use Rattle.std.specs.Prelude.{◌≡◌, ℤ, pos, List, [], ◌∷◌, map, Some, codes, true}
 use Rattle.std.specs.Borrow.{Bor}
@@ -44,9 +44,9 @@ files_argument = record (new_rule (codes "FILE")) {
 
 -- ---- commands
 
--- the command with this name and these arguments
+-- the command with this name and these arguments, which tells its version
 abbrev pub command : Text → List Rule → App
-command name rules = record { top = record (new_shape name) { rules = rules }; subs = [] }
+command name rules = record { top = record (new_shape name) { rules = rules; has_version = true }; subs = [] }
 
 -- what `saturn_check` and `saturn_run` have in common, but for the files: depth, reach, widths and a machine of states
 abbrev pub options : Bor (List (Bor Text)) → List Rule → List Rule
@@ -54,11 +54,12 @@ options models more =
     number_option (codes "depth") (pos 1) (pos 8) ∷ number_option (codes "reach") (pos 1) (pos 4)
     ∷ word_option (codes "model") models ∷ text_option (codes "machine") ∷ more
 
--- `saturn_check [--depth D] [--reach R] [--model M] [--machine FILE] [--jobs J] FILE ..`
-unfoldable pub check_command : Bor (List (Bor Text)) → App
-check_command models =
+-- `saturn_check [--depth D] [--reach R] [--model M] [--machine FILE] [--format WORD] [--jobs J] FILE ..`
+unfoldable pub check_command : (models formats : Bor (List (Bor Text))) → App
+check_command models formats =
     command (codes "saturn_check")
-    (options models (number_option (codes "jobs") (pos 1) (pos 64) ∷ files_argument ∷ []))
+    (options models
+    (word_option (codes "format") formats ∷ number_option (codes "jobs") (pos 1) (pos 64) ∷ files_argument ∷ []))
 
 -- `saturn_run [--depth D] [--reach R] [--model M] [--machine FILE] --function NAME --choice HEX FILE ..`
 unfoldable pub run_command : Bor (List (Bor Text)) → App
@@ -83,9 +84,20 @@ model_words = codes "ilp32" ∷ codes "lp64" ∷ []
 abbrev pub AreModels : Bor (List (Bor Text)) → Type 0
 AreModels models = map (λ word. word.now) models.now ≡ model_words
 
--- The command of a program. `clap` keeps the words of `--model` as references; where they lie in memory is open.
+-- the words that `--format` takes
+abbrev pub format_words : List Text
+format_words = codes "text" ∷ codes "json" ∷ []
+
+-- the texts behind these references are the words of `--format`
+abbrev pub AreFormats : Bor (List (Bor Text)) → Type 0
+AreFormats formats = map (λ word. word.now) formats.now ≡ format_words
+
+-- The command of a program. `clap` keeps the words of `--model` and `--format` as references; where they lie in memory is
+-- open.
 abbrev pub IsCheck : App → Type 0
-IsCheck command = (models : Bor (List (Bor Text))) × AreModels models × (command ≡ check_command models)
+IsCheck command =
+    (models : Bor (List (Bor Text))) × AreModels models
+    × (formats : Bor (List (Bor Text))) × AreFormats formats × (command ≡ check_command models formats)
 
 abbrev pub IsRun : App → Type 0
 IsRun command = (models : Bor (List (Bor Text))) × AreModels models × (command ≡ run_command models)

@@ -1,18 +1,20 @@
 -- What the words of a command line ask for. Which values the words give, and which faults they have, is what `clap`
 -- defines for the command of the program.
 
-use Rattle.std.specs.Prelude.{◌≡◌, ◌≢◌, ⊤, ℕ, List, [], Option, Some, None, codes, map, option_map}
+use Rattle.std.specs.Prelude.{◌≡◌, ◌≢◌, ◌⊎◌, ⊤, ℕ, List, [], Option, Some, None, codes, map, option_map}
 use Rattle.std.specs.Prelude.{if◌then◌else◌, ◌≤◌}
 use Rattle.std.specs.Option.{option_map_or}
 use Rattle.std.specs.Str.{bytes_eq}
 use Rattle.std.specs.Str.Parse.{digits_value, without_leading_plus}
 use Rattle.clap.specs.Words.{App, IsAmong, Kinds, Row, Text, all_of, fault_of, first_of, matches_of, one_of}
 use Rattle.clap.specs.declared.error.kind.ErrorKind.{ErrorKind}
-use Rattle.clap.specs.declared.error.kind.ErrorKind.TheVariants.{DisplayHelp}
+use Rattle.clap.specs.declared.error.kind.ErrorKind.TheVariants.{DisplayHelp, DisplayVersion}
 use Rattle.sc_tree.specs.declared.ctype.Widths.{Widths}
 use Rattle.sc_tree.specs.declared.ctype.Widths.TheVariants.{Ilp32, Lp64}
 use Rattle.saturn_words.specs.declared.asked.BenchWords.{BenchWords}
 use Rattle.saturn_words.specs.declared.asked.CheckWords.{CheckWords}
+use Rattle.saturn_words.specs.declared.asked.Format.{Format}
+use Rattle.saturn_words.specs.declared.asked.Format.TheVariants as form
 use Rattle.saturn_words.specs.declared.asked.Options.{Options}
 use Rattle.saturn_words.specs.declared.asked.RunWords.{RunWords}
 use Rattle.saturn_words.specs.declared.words.NoWords.{NoWords}
@@ -30,6 +32,11 @@ abbrev pub widths_of : Option Text → Widths
 widths_of None = Ilp32
 widths_of (Some word) = if bytes_eq word (codes "lp64") then Lp64 else Ilp32
 
+-- the form of the output that `--format` names, text if the words do not have it
+abbrev pub format_of : Option Text → Format
+format_of None = form.Text
+format_of (Some word) = if bytes_eq word (codes "json") then form.Json else form.Text
+
 pub record HaveOptions (rows : List Row) (asked : Options) : Type 0 where
   pub depth : asked.depth ≡ number_or 2 (codes "depth") rows
   pub depth_fits : (1 ≤ asked.depth) × (asked.depth ≤ 8)
@@ -41,6 +48,7 @@ pub record HaveOptions (rows : List Row) (asked : Options) : Type 0 where
 
 pub record HaveCheck (rows : List Row) (asked : CheckWords) : Type 0 where
   pub options : HaveOptions rows asked.options
+  pub format : asked.format ≡ format_of (first_of (codes "format") rows)
   pub jobs : asked.jobs ≡ number_or 1 (codes "jobs") rows
   pub jobs_fit : (1 ≤ asked.jobs) × (asked.jobs ≤ 64)
 
@@ -56,9 +64,9 @@ pub record HaveBench (rows : List Row) (asked : BenchWords) : Type 0 where
   pub jobs : asked.jobs ≡ number_or 1 (codes "jobs") rows
   pub jobs_fit : (1 ≤ asked.jobs) × (asked.jobs ≤ 64)
 
--- ---- good words, bad words, and a call for help
+-- ---- good words, bad words, and a call for help or for the version
 
--- the faults of the words, of which a call for help is one
+-- the faults of the words, of which calls for help and for the version are some
 unfoldable pub faults : App → List Text → Kinds
 faults command words = fault_of command words
 
@@ -70,13 +78,14 @@ rows_of_words command words = matches_of command words
 abbrev pub Give : App → List Text → List Row → Type 0
 Give command words rows = (faults command words ≡ []) × (rows ≡ rows_of_words command words)
 
--- the words call for help
+-- the words call for help, or for the version
 abbrev pub CallForHelp : App → List Text → Type 0
-CallForHelp command words = IsAmong DisplayHelp (faults command words)
+CallForHelp command words = IsAmong DisplayHelp (faults command words) ⊎ IsAmong DisplayVersion (faults command words)
 
--- the words have a fault other than that
+-- the words have a fault other than these
 abbrev pub HaveFault : App → List Text → Type 0
-HaveFault command words = (kind : ErrorKind) × IsAmong kind (faults command words) × (kind ≢ DisplayHelp)
+HaveFault command words =
+    (kind : ErrorKind) × IsAmong kind (faults command words) × (kind ≢ DisplayHelp) × (kind ≢ DisplayVersion)
 
 -- why the words ask for nothing
 abbrev pub AskForNothing : App → List Text → NoWords → Type 0

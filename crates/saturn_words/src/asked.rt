@@ -2,7 +2,7 @@
 
 ghost use Rattle.std.specs.Prelude.{◌≡◌, ◌≤◌, IfSome, Some, codes, map, option_map};
 ghost use Rattle.clap.specs.Words.{first_of, found_of, rows_of, all_of};
-ghost use Rattle.saturn_words.specs.Words.{number_or, widths_of, HaveOptions, HaveCheck, HaveRun, HaveBench};
+ghost use Rattle.saturn_words.specs.Words.{number_or, widths_of, format_of, HaveOptions, HaveCheck, HaveRun, HaveBench};
 
 use clap::ArgMatches;
 use sc_tree::ctype::Widths;
@@ -23,10 +23,21 @@ pub struct Options<'a> {
     pub files: Vec<&'a str>,
 }
 
+/// The form of what is said of the files.
+#[derive(Clone, Copy, Debug, PartialEq, Eq)]
+pub enum Format {
+    /// The text of the whole check.
+    Text,
+    /// The same as one value of JSON.
+    Json,
+}
+
 /// What the words of `saturn_check` ask for.
 #[derive(Debug, Drop)]
 pub struct CheckWords<'a> {
     pub options: Options<'a>,
+    /// The form of the output.
+    pub format: Format,
     /// How many workers there are.
     pub jobs: u32,
 }
@@ -94,6 +105,21 @@ fn widths_of(word: Option<&str>) -> Widths
     }
 }
 
+fn format_of(word: Option<&str>) -> Format
+    ensures { result ≡ format_of (option_map (λ text. text.now) word.entry) }
+{
+    match word {
+        Some(word) => {
+            if word == "json" {
+                Format::Json
+            } else {
+                Format::Text
+            }
+        }
+        None => Format::Text,
+    }
+}
+
 // The files that the words name. None where memory is refused.
 fn files_of<'a>(alloc: Global, matches: &ArgMatches<'a>) -> Option<Vec<&'a str>>
     ensures { IfSome result (λ files. Some (map (λ name. name.now) files.items)
@@ -126,7 +152,11 @@ pub fn check_of<'a>(alloc: Global, matches: &ArgMatches<'a>) -> Option<CheckWord
 {
     let options = options_of(alloc, matches)?;
     let jobs = number_between(matches, "jobs", 1, 1, 64)?;
-    Some(CheckWords { options, jobs })
+    Some(CheckWords {
+        options,
+        format: format_of(matches.get_str("format")),
+        jobs,
+    })
 }
 
 /// What was found for the arguments of `saturn_run`. None where memory is refused.

@@ -80,14 +80,25 @@ fn files_argument<'a>(alloc: Global) -> Arg<'a>
 
 // ---- commands
 
+// What `--version` tells.
+const VERSION: &str = "2026.11";
+
+// A command that tells its version, and ends its help with this text.
+fn named<'a>(alloc: Global, name: &'a str, end: &'a str) -> Command<'a>
+    ensures { app_of result ≡ command name.entry.now [] }
+{
+    Command::new(alloc, name).version(VERSION).after_help(end)
+}
+
 fn with_options<'a>(
     alloc: Global,
     name: &'a str,
     models: &'a [&'a str],
+    end: &'a str,
 ) -> Result<Command<'a>, AllocError>
     ensures { IfOk result (λ made. app_of made ≡ command name.entry.now (options models.entry [])) }
 {
-    Command::new(alloc, name)
+    named(alloc, name, end)
         .arg(number_option(
             alloc,
             "depth",
@@ -115,11 +126,28 @@ fn with_options<'a>(
         ))
 }
 
+const CHECK_END: &str = "Status:
+  0  there is no report, or help was asked for
+  1  there is a report
+  2  the files are refused, for the reason in the line on standard error
+  3  the words are not of the form
+  4  a file could not be read
+  5  not all bytes could be written
+  6  memory was refused, and nothing was written
+
+Example:
+  saturn_check --model lp64 driver.c";
+
 /// The command of `saturn_check`.
-pub fn check_command<'a>(alloc: Global, models: &'a [&'a str]) -> Result<Command<'a>, AllocError>
-    ensures { IfOk result (λ made. app_of made ≡ check_command models.entry) }
+pub fn check_command<'a>(
+    alloc: Global,
+    models: &'a [&'a str],
+    formats: &'a [&'a str],
+) -> Result<Command<'a>, AllocError>
+    ensures { IfOk result (λ made. app_of made ≡ check_command models.entry formats.entry) }
 {
-    with_options(alloc, "saturn_check", models)?
+    with_options(alloc, "saturn_check", models, CHECK_END)?
+        .arg(word_option(alloc, "format", formats, "the form of the output (text)"))?
         .arg(number_option(
             alloc,
             "jobs",
@@ -130,11 +158,22 @@ pub fn check_command<'a>(alloc: Global, models: &'a [&'a str]) -> Result<Command
         .arg(files_argument(alloc))
 }
 
+const RUN_END: &str = "Status:
+  0  the run was written, or help was asked for
+  2  the files, the function or the choice are refused, for the reason in the line on standard error
+  3  the words are not of the form
+  4  a file could not be read
+  5  not all bytes could be written
+  6  memory was refused, and nothing was written
+
+Example:
+  saturn_run --function open_device --choice 86 driver.c";
+
 /// The command of `saturn_run`.
 pub fn run_command<'a>(alloc: Global, models: &'a [&'a str]) -> Result<Command<'a>, AllocError>
     ensures { IfOk result (λ made. app_of made ≡ run_command models.entry) }
 {
-    with_options(alloc, "saturn_run", models)?
+    with_options(alloc, "saturn_run", models, RUN_END)?
         .arg(needed_option(alloc, "function", "the name of the function that is run"))?
         .arg(needed_option(
             alloc,
@@ -144,11 +183,20 @@ pub fn run_command<'a>(alloc: Global, models: &'a [&'a str]) -> Result<Command<'
         .arg(files_argument(alloc))
 }
 
+const BENCH_END: &str = "Status:
+  0  the counts were written, or help was asked for
+  3  the words are not of the form
+  5  not all bytes could be written
+  6  memory was refused, and nothing was written
+
+Example:
+  saturn_bench --jobs 4 2000 7";
+
 /// The command of `saturn_bench`.
 pub fn bench_command<'a>(alloc: Global) -> Result<Command<'a>, AllocError>
     ensures { IfOk result (λ made. app_of made ≡ bench_command) }
 {
-    Command::new(alloc, "saturn_bench")
+    named(alloc, "saturn_bench", BENCH_END)
         .arg(number_option(
             alloc,
             "jobs",

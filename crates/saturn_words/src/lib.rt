@@ -6,5 +6,5 @@ mod asked;
 mod commands;
 mod words;
 
-pub use asked::{BenchWords, CheckWords, Options, RunWords};
+pub use asked::{BenchWords, CheckWords, Format, Options, RunWords};
 pub use words::{NoWords, bench_words, check_words, run_words};

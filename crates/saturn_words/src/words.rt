@@ -1,7 +1,8 @@
 // What the words of a command line ask for, read by `clap`.
 
-ghost use Rattle.std.specs.Prelude.{◌≡◌, ℕ, List, IfOk, IfErr, map, string_bytes};
+ghost use Rattle.std.specs.Prelude.{◌≡◌, ◌≢◌, ◌⊎◌, ℕ, List, IfOk, IfErr, IsTrue, false, map, string_bytes};
 ghost use Rattle.clap.specs.Words.{App, Row, HasKind};
+ghost use Rattle.clap.specs.declared.error.kind.ErrorKind.TheVariants.{DisplayHelp, DisplayVersion};
 ghost use Rattle.saturn_words.specs.Commands.{IsCheck, IsRun, IsBench};
 ghost use Rattle.saturn_words.specs.Words.{faults, AskForNothing, Give, HaveBench, HaveCheck, HaveRun};
 
@@ -14,7 +15,7 @@ use std::alloc::Global;
 /// Why the words ask for nothing.
 #[derive(Debug, Drop)]
 pub enum NoWords {
-    /// They call for help: the text of it.
+    /// They call for help, or for the version: the text of it.
     Help(String),
     /// They are not of the form: the text that says so.
     Bad(String),
@@ -24,6 +25,17 @@ pub enum NoWords {
 
 // The words of `--model`.
 static MODELS: [&str; 2] = ["ilp32", "lp64"];
+
+// The words of `--format`.
+static FORMATS: [&str; 2] = ["text", "json"];
+
+// Whether it is no fault but a call for help, or for the version.
+fn is_call(kind: ErrorKind) -> bool
+    ensures call { IsTrue result → (kind ≡ DisplayHelp) ⊎ (kind ≡ DisplayVersion) }
+    ensures fault { result ≡ false → (kind ≢ DisplayHelp) × (kind ≢ DisplayVersion) }
+{
+    kind == ErrorKind::DisplayHelp || kind == ErrorKind::DisplayVersion
+}
 
 // Why a parse found nothing.
 fn no_words(alloc: Global, error: &Error) -> NoWords
@@ -35,7 +47,7 @@ fn no_words(alloc: Global, error: &Error) -> NoWords
     }
     match error.to_string(alloc) {
         Ok(text) => {
-            if error.kind() == ErrorKind::DisplayHelp {
+            if is_call(error.kind()) {
                 NoWords::Help(text)
             } else {
                 NoWords::Bad(text)
@@ -52,7 +64,7 @@ pub fn check_words<'a>(alloc: Global, words: &'a [String]) -> Result<CheckWords<
     ensures nothing { IfErr result (λ why. (command : App) × IsCheck command
         × AskForNothing command (map string_bytes words.entry.now) why) }
 {
-    let command = match check_command(alloc, MODELS.as_slice()) {
+    let command = match check_command(alloc, MODELS.as_slice(), FORMATS.as_slice()) {
         Ok(command) => command,
         Err(_) => return Err(NoWords::Memory),
     };

@@ -5,6 +5,7 @@
 use Rattle.std.specs.Prelude.{◌≡◌, ◌⊎◌, ⊤, ◌<◌, ◌≤◌, ◌+◌, ◌-◌, ℕ, List, [], ◌∷◌, ◌++◌, length, Option, Some, None, Result, Ok, Err, false, slice_get}
 use Rattle.fsm_spec.specs.declared.table.MachineSpec.{MachineSpec}
 use Rattle.fsm_spec.specs.Reading.{spelled, Machine, Breaks}
+use Rattle.line_marks.specs.Marks as marking
 use Rattle.sc_base.specs.Causes.{Rose}
 use Rattle.sc_base.specs.Held.{is_named, IsRead}
 use Rattle.sc_base.specs.Names.{place_of, with_text}
@@ -71,7 +72,7 @@ pub record IsTree (names : List (List ℕ)) (file : ℕ) (bytes : List ℕ) (uni
   pub segments : AllFit [] tokens 0 ends unit.segments
 
 -- What one more file makes of what was read before it: its name and then its words are names, its bytes count, and its
--- tree stands behind the others.
+-- tree and its line markers stand behind the others.
 pub record Adds (held : Option (List (List ℕ × List ℕ))) (name : List ℕ) (before after : Input) : Type 0 where
   pub bytes : List ℕ
   pub unit : FileUnit
@@ -80,6 +81,7 @@ pub record Adds (held : Option (List (List ℕ × List ℕ))) (name : List ℕ) 
   pub tree : IsTree after.names (length before.units) bytes unit
   pub files : after.files ≡ before.files ++ (record { at = place_of name before.names } ∷ [])
   pub units : after.units ≡ before.units ++ (unit ∷ [])
+  pub marks : after.marks ≡ before.marks ++ (marking.marks bytes ∷ [])
   pub machine : after.machine ≡ before.machine
   pub used : after.used ≡ before.used + length bytes
 
@@ -87,11 +89,18 @@ pub record Adds (held : Option (List (List ℕ × List ℕ))) (name : List ℕ) 
 
 -- what was read so far, if no file is left
 abbrev pub so_far : Reading → Input
-so_far reading = record { names = reading.names; files = reading.files; units = reading.units; machine = reading.machine; used = reading.used }
+so_far reading = record {
+  names = reading.names;
+  files = reading.files;
+  units = reading.units;
+  marks = reading.marks;
+  machine = reading.machine;
+  used = reading.used;
+}
 
 -- what was read before the first file: nothing but the machine
 abbrev pub nothing_but : Option MachineSpec → ℕ → Input
-nothing_but machine used = record { names = []; files = []; units = []; machine = machine; used = used }
+nothing_but machine used = record { names = []; files = []; units = []; marks = []; machine = machine; used = used }
 
 -- The machine that a file spells, or none where none is named.
 pub data Begins (held : Option (List (List ℕ × List ℕ))) : Option (List ℕ) → Input → Type 0 where

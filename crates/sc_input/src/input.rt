@@ -8,6 +8,7 @@ ghost use Rattle.sc_input.specs.Input.{RefuseBytes, RefuseFile, RefuseTree};
 
 use crate::refusal::Refusal;
 use fsm_spec::MachineSpec;
+use line_marks::LineMarks;
 use name_interner::Interner;
 use sc_base::{Files, List, NameId, Names, OutOfMemory};
 use sc_lexer::{LexAnswer, tokens};
@@ -20,7 +21,7 @@ use transfer::{ReadError, read_file};
 const MOST_BYTES: usize = 8_388_608;
 
 /// The files of a check, read.
-#[derive(Debug, Drop)]
+#[derive(Drop)]
 pub struct Input {
     /// The texts of the names that trees have by number.
     pub names: Names,
@@ -28,6 +29,8 @@ pub struct Input {
     pub files: List<NameId>,
     /// The trees of the files, in order.
     pub units: List<Unit>,
+    /// The line markers of the files, in order.
+    pub marks: List<LineMarks>,
     /// The machine of states, if one is named.
     pub machine: Option<MachineSpec>,
     /// How many bytes were read.
@@ -43,6 +46,8 @@ pub struct Reading {
     pub files: List<NameId>,
     /// The trees of the files, in order.
     pub units: List<Unit>,
+    /// The line markers of the files, in order.
+    pub marks: List<LineMarks>,
     /// The machine of states, if one is named.
     pub machine: Option<MachineSpec>,
     /// How many bytes were read.
@@ -58,6 +63,7 @@ impl Reading {
             names,
             files,
             units,
+            marks,
             machine,
             used,
         } = self;
@@ -66,6 +72,7 @@ impl Reading {
             names,
             files,
             units,
+            marks,
             machine,
             used,
         })
@@ -143,18 +150,22 @@ pub fn with_file<'a, F: Files>(
         mut names,
         files: mut ids,
         mut units,
+        mut marks,
         machine,
         used,
     } = reading;
     let id = names.intern(name)?;
     let bytes = bytes_within(alloc, files, used, name)?;
     let unit = tree(alloc, &mut names, units.len() as u32, name, &bytes)?;
+    let file_marks = LineMarks::read(alloc, &bytes)?;
     ids.push(id)?;
     units.push(unit)?;
+    marks.push(file_marks)?;
     Ok(Reading {
         names,
         files: ids,
         units,
+        marks,
         machine,
         used: used + bytes.len(),
     })

@@ -1,5 +1,5 @@
-//! The input of a check: all files that the words name, read, cut into tokens and made into trees, with the machine of
-//! states if one is named; or the first refusal, in the order in which files are read.
+//! The input of a check: all files that the words name, read, cut into tokens and made into trees, with their line
+//! markers and the machine of states if one is named; or the first refusal, in the order in which files are read.
 #![tactic(auto)]
 
 mod input;

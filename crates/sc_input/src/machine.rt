@@ -18,6 +18,7 @@ fn nothing_but(alloc: Global, machine: Option<MachineSpec>, used: usize) -> Read
         names: Interner::new(alloc),
         files: List::new(alloc),
         units: List::new(alloc),
+        marks: List::new(alloc),
         machine,
         used,
     }

@@ -1,12 +1,16 @@
 //! The tests of the top call: whole runs over files and sinks in memory. `rows` runs the rows of `locks`, `numbers`,
-//! `memory`, `skips`, `options` and `refusals`; `faults` has files and sinks that fail, words and limits; `workers` has
-//! runs with workers.
+//! `memory`, `skips`, `options`, `refusals` and `json_values`; `faults` has files and sinks that fail and words;
+//! `hostile` has files that are cut, very long or nested very deep; `workers` has runs with workers.
 //!
 //! They stand in a crate of their own, so that the top call is proved once, without tests.
 #![tactic(auto)]
 
 #[cfg(test)]
 mod faults;
+#[cfg(test)]
+mod hostile;
+#[cfg(test)]
+mod json_values;
 #[cfg(test)]
 mod locks;
 #[cfg(test)]

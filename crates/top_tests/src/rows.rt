@@ -1,6 +1,7 @@
 // Whole runs over files and sinks in memory, each held to the text, the line and the status that were worked out from
 // the definitions.
 
+use crate::json_values::JSON;
 use crate::locks::LOCKS;
 use crate::memory::MEMORY;
 use crate::numbers::NUMBERS;
@@ -115,6 +116,14 @@ fn other_functions_are_skipped(rt: HostRuntime) -> Result<(), Fail> {
 #[test]
 fn options_change_widths_and_machine(rt: HostRuntime) -> Result<(), Fail> {
     for row in &OPTIONS {
+        assert!(rt; is_as_worked_out(rt.alloc(), row)?, "{}", row.name);
+    }
+    Ok(())
+}
+
+#[test]
+fn json_is_the_value_of_the_check(rt: HostRuntime) -> Result<(), Fail> {
+    for row in &JSON {
         assert!(rt; is_as_worked_out(rt.alloc(), row)?, "{}", row.name);
     }
     Ok(())

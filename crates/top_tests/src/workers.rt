@@ -1,8 +1,9 @@
 // Runs with workers. That they answer as the call without workers is proved; the tests show that the calls run, that two
 // workers run side by side, and that the gate is told of each function once, behind its callees.
 
+use crate::json_values::JSON;
 use crate::locks::LOCKS;
-use crate::rows::{held, owned};
+use crate::rows::{Row, held, owned};
 use saturn_top::{Status, check_main};
 use sc_base::{MemFiles, MemSink, OutOfMemory};
 use std::alloc::Global;
@@ -68,13 +69,14 @@ fn run_by<R: Threads + Wait + Sync, G: Gate + Sync>(
     Ok((status, out.bytes().to_vec(alloc)?))
 }
 
-// The text of one of the rows on locks does not depend on the number of workers.
+// What is written for these rows does not depend on the number of workers.
 fn expect_the_same<R: Threads + Wait + Sync + Abort>(
     rt: &R,
     alloc: Global,
+    rows: &[Row],
     jobs: &str,
 ) -> Result<(), OutOfMemory> {
-    for row in &LOCKS {
+    for row in rows {
         let mut words = row.words.to_vec(alloc)?;
         words.push("--jobs")?;
         words.push(jobs)?;
@@ -92,8 +94,14 @@ fn expect_the_same<R: Threads + Wait + Sync + Abort>(
 #[test]
 fn workers_write_the_rows_of_locks(rt: HostRuntime) -> Result<(), Fail> {
     for jobs in ["1", "2", "64"] {
-        expect_the_same(&rt, rt.alloc(), jobs)?;
+        expect_the_same(&rt, rt.alloc(), &LOCKS, jobs)?;
     }
+    Ok(())
+}
+
+#[test]
+fn workers_write_the_same_json(rt: HostRuntime) -> Result<(), Fail> {
+    expect_the_same(&rt, rt.alloc(), &JSON, "2")?;
     Ok(())
 }
 

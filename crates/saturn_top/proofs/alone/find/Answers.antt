@@ -21,7 +21,7 @@ returns-in-Ok g c =
     λ names. IsInput outside.held (machine_of c.args.options.now) (map (λ name. name.now) names) c.in-Ok.input in
     let input : IsInput outside.held (machine_of c.args.options.now) (files_of c.args.options.now) c.in-Ok.input =
     subst P same c.in-Ok.ensures.answers in
-    let Q : Due → Type 0 = λ due. IsFound c.args.options.now outside due in
+    let Q : Due → Type 0 = λ due. IsFound c.args.options.now c.args.format outside due in
     IfOk-weaker c.answer_for.result _ _ (λ answer is. subst Q (sym is) (read c.in-Ok.input input)) c.answer_for.ensures
 
 pub returns-in-Err : goal.returns-in-Err

@@ -21,7 +21,7 @@ returns-in-Ok g c =
     λ names. IsInput outside.held (machine_of c.args.asked.now.options) (map (λ name. name.now) names) c.in-Ok.input in
     let input : IsInput outside.held (machine_of c.args.asked.now.options) (files_of c.args.asked.now.options) c.in-Ok.input =
     subst P same c.in-Ok.ensures.answers in
-    let Q : Due → Type 0 = λ due. IsFound c.args.asked.now.options outside due in
+    let Q : Due → Type 0 = λ due. IsFound c.args.asked.now.options c.args.asked.now.format outside due in
     IfOk-weaker c.answer_for.result _ _ (λ answer is. subst Q (sym is) (read c.in-Ok.input input)) c.answer_for.ensures
 
 pub returns-in-Err : goal.returns-in-Err

@@ -9,8 +9,8 @@ unfolding bench_command
 returns c =
     let jobs = number_option (codes "jobs") (pos 1) (pos 64) in
     let many = number_argument (codes "N") (pos 1) (pos 4096) in
-    let one = adds (codes "saturn_bench") [] jobs c.new.result c.number_option.result c.in_ok-arg.field-0
-    c.new.ensures.app c.number_option.ensures.rule c.number_option.ensures.local c.in_ok-arg.ensures in
+    let one = adds (codes "saturn_bench") [] jobs c.named.result c.number_option.result c.in_ok-arg.field-0
+    c.named.ensures c.number_option.ensures.rule c.number_option.ensures.local c.in_ok-arg.ensures in
     let two = adds (codes "saturn_bench") (jobs ∷ []) many c.in_ok-arg.field-0
     c.number_argument.result c.in_ok-arg-2.field-0 one
     c.number_argument.ensures.rule c.number_argument.ensures.local c.in_ok-arg-2.ensures in
