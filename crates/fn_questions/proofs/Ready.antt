@@ -31,6 +31,9 @@ use Rattle.fn_facts.specs.Seen.{begins, given, is_given, is_met, over, state_bef
 use Rattle.fn_facts.specs.Showing.{HasErrorsOf, IsReady, Shows, ShowsNumber}
 use Rattle.fn_facts.proofs.Growing.{number_grows, ready_grows, shows_grows}
 use Rattle.fn_walks.specs.Seen.{fate}
+use Rattle.fn_walks.specs.declared.walking.Walk.{Walk}
+use Rattle.fn_walks.specs.Walks.{IsWalk}
+use Rattle.fn_walks.proofs.Reaching.{walk_grows}
 use Rattle.fn_questions.specs.declared.facts.Facts.{Facts}
 use Rattle.fn_questions.specs.declared.facts.Begun.{Begun}
 use Rattle.fn_questions.specs.Asking.{AreFacts, IsReadyToAsk, ShowsBegin, errs_at_locations}
@@ -42,6 +45,10 @@ begun_grows : (a : Around) (old new : List Node) (b : Option Begun) → Grown ol
 begun_grows a old new None g s = s
 begun_grows a old new (Some b) g s = shows_grows a old new (λ o. begins o b.at b.row) b.gate.at g s
 
+walk_grows_if : (a : Around) (old new : List Node) (w : Option Walk) → Grown old new → IfSome w (IsWalk a old) → IfSome w (IsWalk a new)
+walk_grows_if a old new None g s = s
+walk_grows_if a old new (Some w) g s = walk_grows a old new w g s
+
 pub facts_grow : (old new : List Node) (f : Facts) → Grown old new → AreFacts old f → AreFacts new f
 facts_grow old new f g a =
     record {
@@ -49,6 +56,7 @@ facts_grow old new f g a =
       objects = a.objects;
       given = number_grows f.around old new given f.given.bits.items g a.given;
       begun = begun_grows f.around old new f.begun g a.begun;
+      walk = walk_grows_if f.around old new f.walk g a.walk;
     }
 
 -- rows that begin alike
@@ -158,6 +166,9 @@ pub errs_so : (s : Source) (p : Layout) → ((bits : List Bool) → 0 < length p
     → ((bits : List Bool) → all_of_params s p ≡ true → IsErrorOf p (run s p bits).0) → errs_at_locations s p ≡ true → ErrsThere s p
 errs_so s p some none h = errs_by s p some none (one_of (nat_lt 0 (length p.locations)) (all_of_params s p) h)
 
+no_walk : (a : Around) (ns : List Node) (w : Option Walk) → w ≡ None → IfSome w (IsWalk a ns)
+no_walk a ns w none = subst (λ x. IfSome x (IsWalk a ns)) (sym none) tt
+
 nothing_begun : (a : Around) (ns : List Node) (b : Option Begun) → b ≡ None → IfSome b (ShowsBegin a ns)
 nothing_begun a ns b none = subst (λ x. IfSome x (ShowsBegin a ns)) (sym none) tt
 
@@ -165,8 +176,8 @@ pub new_ready : (f : Facts) (old new : List Node) → length f.around.here.place
     → (texts f.texts).layout ≡ (env f.around.here).layout
     → IsEncoded (env f.around.here).source (env f.around.here).layout old f.around.encoded.now → HasObjects (env f.around.here).layout
     → ErrsThere (env f.around.here).source (env f.around.here).layout
-    → Grown old new → ShowsNumber f.around new given f.given.bits.items → f.begun ≡ None → IsReadyToAsk new f
-new_ready f old new few same is objects errs grown number none =
+    → Grown old new → ShowsNumber f.around new given f.given.bits.items → f.begun ≡ None → f.walk ≡ None → IsReadyToAsk new f
+new_ready f old new few same is objects errs grown number none none_walked =
     let s = (env f.around.here).source in
     let p = (env f.around.here).layout in
     let now = encoded_grows s p old new f.around.encoded.now grown is in
@@ -176,6 +187,7 @@ new_ready f old new few same is objects errs grown number none =
         objects = objects;
         given = number;
         begun = nothing_begun f.around new f.begun none;
+        walk = no_walk f.around new f.walk none_walked;
       };
       texts = same;
       encoded = now;

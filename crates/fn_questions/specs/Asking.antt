@@ -11,6 +11,8 @@ use Rattle.walk_laws.specs.Objects.{HasObjects}
 use Rattle.fn_facts.specs.declared.around.Around.{Around}
 use Rattle.fn_facts.specs.Seen.{begins, given}
 use Rattle.fn_facts.specs.Showing.{HasErrorsOf, IsReady, Shows, ShowsNumber}
+use Rattle.fn_walks.specs.declared.roots.From.{From}
+use Rattle.fn_walks.specs.Walks.{IsWalk}
 use Rattle.fn_questions.specs.declared.facts.Begun.{Begun}
 use Rattle.fn_questions.specs.declared.facts.Facts.{Facts}
 
@@ -28,6 +30,11 @@ pub record AreFacts (ns : List Node) (f : Facts) : Type 0 where
   pub objects : HasObjects (env f.around.here).layout
   pub given : ShowsNumber f.around ns given f.given.bits.items
   pub begun : IfSome f.begun (ShowsBegin f.around ns)
+  pub walk : IfSome f.walk (IsWalk f.around ns)
+
+-- the walks that were asked for last begin there
+abbrev pub HasWalk : Facts → From → Type 0
+HasWalk f from = IfSome f.walk (λ w. w.from ≡ from)
 
 -- The gates tell the runs of the function, texts are of its layout, and its runs end by errors at its locations alone. It stays so while the
 -- net grows.

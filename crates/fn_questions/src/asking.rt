@@ -1,6 +1,6 @@
 //! The gate of every question.
 
-ghost use Rattle.std.specs.Prelude.{◌≡◌, IfOk};
+ghost use Rattle.std.specs.Prelude.{◌≡◌, IfOk, IsTrue, OnOk};
 ghost use Rattle.bit_net.specs.Runs.{Grown};
 ghost use Rattle.flow_ends.specs.Encoded.{IsAnswer};
 ghost use Rattle.location_texts.specs.Seen as spelled;
@@ -9,28 +9,73 @@ ghost use Rattle.run_world.specs.Seen.{env};
 ghost use Rattle.sc_world.specs.Shows as spec;
 ghost use Rattle.fn_facts.specs.Seen as seen;
 ghost use Rattle.fn_facts.specs.Showing.{Shows};
-ghost use Rattle.fn_questions.specs.Asking.{AreFacts, IsReadyToAsk};
+ghost use Rattle.fn_questions.specs.Asking.{AreFacts, HasWalk, IsReadyToAsk};
 
 use crate::facts::{Begun, Facts};
 use crate::kinds::{cell_from, result_from};
 use crate::rows::{Pointed, has_changed, has_exit_row, has_out_row, has_param_row};
 use bit_net::{Gate, Net, OutOfMemory};
 use fn_facts::{begins, ends_at, ends_at_text, has_lock_row, param_object, sets, touches, writes};
-use fn_walks::{escape_from, loses, loss_from, walked};
+use fn_walks::{Beside, From, Walk, escape_from, loses, loss_from, walked};
 use run_questions::Query;
 use sc_base::Pos;
 use sum_rows::Row;
 
+// Whether the same holders do not count.
+fn is_beside(a: Beside, b: Beside) -> bool
+    ensures { IsTrue result → a ≡ b }
+{
+    match (a, b) {
+        (Beside::Nothing, Beside::Nothing) => true,
+        (Beside::Object(m), Beside::Object(n)) => m == n,
+        (Beside::Cell(m), Beside::Cell(n)) => m == n,
+        _ => false,
+    }
+}
+
+// Whether the walks begin there.
+fn is_from(walk: &Walk, from: From) -> bool
+    ensures { IsTrue result → walk.now.from ≡ from }
+{
+    walk.from.result == from.result && is_beside(walk.from.beside, from.beside)
+}
+
 impl<'p, 'm, 'f> Facts<'p, 'm, 'f> {
-    // Holds where the run has that row of its end.
-    fn exits(&self, net: &mut Net, row: Row) -> Result<Gate, OutOfMemory>
-        requires facts { AreFacts net.old self.now }
+    // Keeps the walks that begin there: those that were asked for last, or new ones.
+    #[tactic(auto, using(crate::proofs::Ready::facts_grow))]
+    fn keep_walk(&mut self, net: &mut Net, from: From) -> Result<(), OutOfMemory>
+        requires facts { AreFacts net.old self.old }
         ensures grown { Grown net.old net.new }
-        ensures ok { IfOk result (λ r. Shows self.now.around net.new (λ o. spec.says (spelled.texts self.now.texts) o (spec.Exits row)) r.at) }
+        ensures facts { AreFacts net.new self.new }
+        ensures around { self.new.around ≡ self.old.around }
+        ensures texts { self.new.texts ≡ self.old.texts }
+        ensures walk { OnOk result (HasWalk self.new from) }
     {
-        let walk = walked(&self.around, net, result_from())?;
-        let exits = has_exit_row(&self.around, net, &self.given, &walk, row)?;
-        Ok(exits)
+        if let Some(walk) = &self.walk
+            && is_from(walk, from)
+        {
+            return Ok(());
+        }
+        let walk = walked(&self.around, net, from)?;
+        self.walk = Some(walk);
+        Ok(())
+    }
+
+    // Holds where the run has that row of its end.
+    #[tactic(auto, using(crate::proofs::Ready::facts_grow))]
+    fn exits(&mut self, net: &mut Net, row: Row) -> Result<Gate, OutOfMemory>
+        requires facts { AreFacts net.old self.old }
+        ensures grown { Grown net.old net.new }
+        ensures facts { AreFacts net.new self.new }
+        ensures around { self.new.around ≡ self.old.around }
+        ensures texts { self.new.texts ≡ self.old.texts }
+        ensures ok { IfOk result (λ r. Shows self.old.around net.new (λ o. spec.says (spelled.texts self.old.texts) o (spec.Exits row)) r.at) }
+    {
+        self.keep_walk(net, result_from())?;
+        match &self.walk {
+            Some(walk) => has_exit_row(&self.around, net, &self.given, walk, row),
+            None => Err(OutOfMemory),
+        }
     }
 
     // Holds where a row of a location begins so.
@@ -68,52 +113,78 @@ impl<'p, 'm, 'f> Facts<'p, 'm, 'f> {
     }
 
     // Holds where the run comes to the function's end, and has freed what the parameter points to, or let it escape.
-    fn changes(&self, net: &mut Net, n: u32) -> Result<Gate, OutOfMemory>
-        requires facts { AreFacts net.old self.now }
+    #[tactic(auto, using(crate::proofs::Ready::facts_grow))]
+    fn changes(&mut self, net: &mut Net, n: u32) -> Result<Gate, OutOfMemory>
+        requires facts { AreFacts net.old self.old }
         ensures grown { Grown net.old net.new }
-        ensures ok { IfOk result (λ r. Shows self.now.around net.new (λ o. spec.says (spelled.texts self.now.texts) o (spec.Changes n)) r.at) }
+        ensures facts { AreFacts net.new self.new }
+        ensures around { self.new.around ≡ self.old.around }
+        ensures texts { self.new.texts ≡ self.old.texts }
+        ensures ok { IfOk result (λ r. Shows self.old.around net.new (λ o. spec.says (spelled.texts self.old.texts) o (spec.Changes n)) r.at) }
     {
         let object = param_object(&self.around, n);
-        let walk = walked(&self.around, net, escape_from(&self.around, object))?;
-        let changes = has_changed(&self.around, net, &walk, object)?;
-        Ok(changes)
+        let from = escape_from(&self.around, object);
+        self.keep_walk(net, from)?;
+        match &self.walk {
+            Some(walk) => has_changed(&self.around, net, walk, object),
+            None => Err(OutOfMemory),
+        }
     }
 
     // Holds where the run has that row of the object that a parameter points to.
-    fn params(&self, net: &mut Net, number: u32, row: Row) -> Result<Gate, OutOfMemory>
-        requires facts { AreFacts net.old self.now }
+    #[tactic(auto, using(crate::proofs::Ready::facts_grow))]
+    fn params(&mut self, net: &mut Net, number: u32, row: Row) -> Result<Gate, OutOfMemory>
+        requires facts { AreFacts net.old self.old }
         ensures grown { Grown net.old net.new }
-        ensures ok { IfOk result (λ r. Shows self.now.around net.new (λ o. spec.says (spelled.texts self.now.texts) o (spec.Params number row)) r.at) }
+        ensures facts { AreFacts net.new self.new }
+        ensures around { self.new.around ≡ self.old.around }
+        ensures texts { self.new.texts ≡ self.old.texts }
+        ensures ok { IfOk result (λ r. Shows self.old.around net.new (λ o. spec.says (spelled.texts self.old.texts) o (spec.Params number row)) r.at) }
     {
         let object = param_object(&self.around, number);
-        let walk = walked(&self.around, net, escape_from(&self.around, object))?;
+        let from = escape_from(&self.around, object);
+        self.keep_walk(net, from)?;
         let param = Pointed { number, object };
-        let params = has_param_row(&self.around, net, &self.given, &walk, param, row)?;
-        Ok(params)
+        match &self.walk {
+            Some(walk) => has_param_row(&self.around, net, &self.given, walk, param, row),
+            None => Err(OutOfMemory),
+        }
     }
 
     // Holds where the run has that row of the pointer that a parameter points to.
-    fn outs(&self, net: &mut Net, number: u32, row: Row) -> Result<Gate, OutOfMemory>
-        requires facts { AreFacts net.old self.now }
+    #[tactic(auto, using(crate::proofs::Ready::facts_grow))]
+    fn outs(&mut self, net: &mut Net, number: u32, row: Row) -> Result<Gate, OutOfMemory>
+        requires facts { AreFacts net.old self.old }
         ensures grown { Grown net.old net.new }
-        ensures ok { IfOk result (λ r. Shows self.now.around net.new (λ o. spec.says (spelled.texts self.now.texts) o (spec.Outs number row)) r.at) }
+        ensures facts { AreFacts net.new self.new }
+        ensures around { self.new.around ≡ self.old.around }
+        ensures texts { self.new.texts ≡ self.old.texts }
+        ensures ok { IfOk result (λ r. Shows self.old.around net.new (λ o. spec.says (spelled.texts self.old.texts) o (spec.Outs number row)) r.at) }
     {
         let object = param_object(&self.around, number);
-        let walk = walked(&self.around, net, cell_from(object))?;
+        self.keep_walk(net, cell_from(object))?;
         let param = Pointed { number, object };
-        let outs = has_out_row(&self.around, net, &self.given, &walk, param, row)?;
-        Ok(outs)
+        match &self.walk {
+            Some(walk) => has_out_row(&self.around, net, &self.given, walk, param, row),
+            None => Err(OutOfMemory),
+        }
     }
 
     // Holds where the run comes to the function's end, and an object of a call at the place is lost.
-    fn leaks(&self, net: &mut Net, pos: Pos) -> Result<Gate, OutOfMemory>
-        requires facts { AreFacts net.old self.now }
+    #[tactic(auto, using(crate::proofs::Ready::facts_grow))]
+    fn leaks(&mut self, net: &mut Net, pos: Pos) -> Result<Gate, OutOfMemory>
+        requires facts { AreFacts net.old self.old }
         ensures grown { Grown net.old net.new }
-        ensures ok { IfOk result (λ r. Shows self.now.around net.new (λ o. spec.says (spelled.texts self.now.texts) o (spec.Leaks pos)) r.at) }
+        ensures facts { AreFacts net.new self.new }
+        ensures around { self.new.around ≡ self.old.around }
+        ensures texts { self.new.texts ≡ self.old.texts }
+        ensures ok { IfOk result (λ r. Shows self.old.around net.new (λ o. spec.says (spelled.texts self.old.texts) o (spec.Leaks pos)) r.at) }
     {
-        let walk = walked(&self.around, net, loss_from())?;
-        let leaks = loses(&self.around, net, &walk, pos)?;
-        Ok(leaks)
+        self.keep_walk(net, loss_from())?;
+        match &self.walk {
+            Some(walk) => loses(&self.around, net, walk, pos),
+            None => Err(OutOfMemory),
+        }
     }
 
     // Holds where the run answers yes.

@@ -13,6 +13,7 @@ use bit_net::{Gate, Net, OutOfMemory};
 use bit_words::Word;
 use error_laws::errors_are_at_locations;
 use fn_facts::{Around, entry_number};
+use fn_walks::Walk;
 use location_texts::Texts;
 use sum_rows::Row;
 
@@ -48,6 +49,8 @@ pub struct Facts<'p, 'm, 'f> {
     pub given: Word,
     /// How the row of a location begins that was asked for last: rows that begin alike are asked for one after the other.
     pub begun: Option<Begun>,
+    /// The walks over pointers that were asked for last: all rows of an item need the same ones.
+    pub walk: Option<Walk>,
 }
 
 impl<'p, 'm, 'f> Facts<'p, 'm, 'f> {
@@ -77,6 +80,7 @@ impl<'p, 'm, 'f> Facts<'p, 'm, 'f> {
             texts,
             given,
             begun: None,
+            walk: None,
         }))
     }
 }
