@@ -7,7 +7,7 @@ ghost use Rattle.sum_rows.specs.declared.row.Gives.TheVariants as gifts;
 ghost use Rattle.sc_world.specs.Known as known;
 ghost use Rattle.sc_world.specs.Shows as spec;
 ghost use Rattle.fn_facts.specs.Seen as seen;
-ghost use Rattle.fn_facts.specs.Showing.{IsReady, Shows, ShowsAtExit, ShowsNumber};
+ghost use Rattle.fn_facts.specs.Showing.{AreShared, IsReady, IsTruth, Shows, ShowsAtExit, ShowsNumber};
 
 use crate::around::Around;
 use crate::ends::errs_at;
@@ -15,6 +15,7 @@ use crate::entry::is_met;
 use crate::joining::{at_exit, both, either};
 use crate::numbers::{is_state, number_is, state_before, state_now};
 use crate::results::gives;
+use crate::shared::Shared;
 use bit_net::{Gate, Net, OutOfMemory};
 use gl_sets::is_never;
 use sum_rows::{Gives, Row, State};
@@ -43,12 +44,13 @@ pub fn begins(
 }
 
 // Holds where a run that comes to the function's end has a row that ends so.
-fn ends_so(around: &Around, net: &mut Net, at: u32, row: Row) -> Result<Gate, OutOfMemory>
+fn ends_so(around: &Around, net: &mut Net, truth: Gate, at: u32, row: Row) -> Result<Gate, OutOfMemory>
     requires ready { IsReady around.now net.old }
+    requires truth { IsTruth net.old around.now.encoded.now.result truth.at }
     ensures grown { Grown net.old net.new }
     ensures ok { IfOk result (λ r. Shows around.now net.new (λ o. spec.exits o && seen.ends_so o at row) r.at) }
 {
-    let gives = gives(around, net, row.result)?;
+    let gives = gives(around, net, truth, row.result)?;
     let to = is_state(net, state_now(around, net, at), row.after)?;
     let change = net.and(gives, to)?;
     let ends = at_exit(around, net, change)?;
@@ -82,11 +84,13 @@ fn errs_so(around: &Around, net: &Net, at: u32, row: Row) -> Gate
 pub fn has_lock_row(
     around: &Around,
     net: &mut Net,
+    shared: &Shared,
     begins: Gate,
     at: u32,
     row: Row,
 ) -> Result<Gate, OutOfMemory>
     requires ready { IsReady around.now net.old }
+    requires shared { AreShared around.now net.old shared.now }
     requires begins { Shows around.now net.old (λ o. seen.begins o at row) begins.at }
     ensures grown { Grown net.old net.new }
     ensures ok { IfOk result (λ r. Shows around.now net.new (λ o. spec.has_lock_row o at row) r.at) }
@@ -94,7 +98,7 @@ pub fn has_lock_row(
     if is_never(net, begins) {
         return Ok(begins);
     }
-    let change = ends_so(around, net, at, row)?;
+    let change = ends_so(around, net, shared.truth, at, row)?;
     let error = errs_so(around, net, at, row);
     let ends = net.or(change, error)?;
     let has = net.and(begins, ends)?;

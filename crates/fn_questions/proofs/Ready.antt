@@ -28,8 +28,8 @@ use Rattle.sum_rows.specs.declared.row.State.TheVariants as state
 use Rattle.sc_world.specs.Known.{same_state}
 use Rattle.fn_facts.specs.declared.around.Around.{Around}
 use Rattle.fn_facts.specs.Seen.{begins, given, is_given, is_met, over, state_before}
-use Rattle.fn_facts.specs.Showing.{HasErrorsOf, IsReady, Shows, ShowsNumber}
-use Rattle.fn_facts.proofs.Growing.{number_grows, ready_grows, shows_grows}
+use Rattle.fn_facts.specs.Showing.{AreShared, HasErrorsOf, IsReady, Shows}
+use Rattle.fn_facts.proofs.Growing.{ready_grows, shared_grows, shows_grows}
 use Rattle.fn_walks.specs.Seen.{fate}
 use Rattle.fn_walks.specs.declared.walking.Walk.{Walk}
 use Rattle.fn_walks.specs.Walks.{IsWalk}
@@ -54,7 +54,7 @@ facts_grow old new f g a =
     record {
       ready = ready_grows f.around old new g a.ready;
       objects = a.objects;
-      given = number_grows f.around old new given f.given.bits.items g a.given;
+      shared = shared_grows f.around old new f.shared g a.shared;
       begun = begun_grows f.around old new f.begun g a.begun;
       walk = walk_grows_if f.around old new f.walk g a.walk;
     }
@@ -176,8 +176,8 @@ pub new_ready : (f : Facts) (old new : List Node) → length f.around.here.place
     → (texts f.texts).layout ≡ (env f.around.here).layout
     → IsEncoded (env f.around.here).source (env f.around.here).layout old f.around.encoded.now → HasObjects (env f.around.here).layout
     → ErrsThere (env f.around.here).source (env f.around.here).layout
-    → Grown old new → ShowsNumber f.around new given f.given.bits.items → f.begun ≡ None → f.walk ≡ None → IsReadyToAsk new f
-new_ready f old new few same is objects errs grown number none none_walked =
+    → Grown old new → AreShared f.around new f.shared → f.begun ≡ None → f.walk ≡ None → IsReadyToAsk new f
+new_ready f old new few same is objects errs grown made none none_walked =
     let s = (env f.around.here).source in
     let p = (env f.around.here).layout in
     let now = encoded_grows s p old new f.around.encoded.now grown is in
@@ -185,7 +185,7 @@ new_ready f old new few same is objects errs grown number none none_walked =
       facts = record {
         ready = made_ready f.around new few now;
         objects = objects;
-        given = number;
+        shared = made;
         begun = nothing_begun f.around new f.begun none;
         walk = no_walk f.around new f.walk none_walked;
       };

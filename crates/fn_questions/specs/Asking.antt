@@ -9,8 +9,8 @@ use Rattle.sc_world.specs.Layout.{Layout}
 use Rattle.error_laws.specs.Errors.{all_of_params}
 use Rattle.walk_laws.specs.Objects.{HasObjects}
 use Rattle.fn_facts.specs.declared.around.Around.{Around}
-use Rattle.fn_facts.specs.Seen.{begins, given}
-use Rattle.fn_facts.specs.Showing.{HasErrorsOf, IsReady, Shows, ShowsNumber}
+use Rattle.fn_facts.specs.Seen.{begins}
+use Rattle.fn_facts.specs.Showing.{AreShared, HasErrorsOf, IsReady, Shows}
 use Rattle.fn_walks.specs.declared.roots.From.{From}
 use Rattle.fn_walks.specs.Walks.{IsWalk}
 use Rattle.fn_questions.specs.declared.facts.Begun.{Begun}
@@ -28,7 +28,7 @@ ShowsBegin a ns b = Shows a ns (λ o. begins o b.at b.row) b.gate.at
 pub record AreFacts (ns : List Node) (f : Facts) : Type 0 where
   pub ready : IsReady f.around ns
   pub objects : HasObjects (env f.around.here).layout
-  pub given : ShowsNumber f.around ns given f.given.bits.items
+  pub shared : AreShared f.around ns f.shared
   pub begun : IfSome f.begun (ShowsBegin f.around ns)
   pub walk : IfSome f.walk (IsWalk f.around ns)
 

@@ -73,7 +73,7 @@ impl<'p, 'm, 'f> Facts<'p, 'm, 'f> {
     {
         self.keep_walk(net, result_from())?;
         match &self.walk {
-            Some(walk) => has_exit_row(&self.around, net, &self.given, walk, row),
+            Some(walk) => has_exit_row(&self.around, net, &self.shared, walk, row),
             None => Err(OutOfMemory),
         }
     }
@@ -92,7 +92,7 @@ impl<'p, 'm, 'f> Facts<'p, 'm, 'f> {
         {
             return Ok(begun.gate);
         }
-        let given = self.given.bits.as_slice();
+        let given = self.shared.given.bits.as_slice();
         let gate = begins(&self.around, net, given, at, row)?;
         self.begun = Some(Begun { at, row, gate });
         Ok(gate)
@@ -108,7 +108,7 @@ impl<'p, 'm, 'f> Facts<'p, 'm, 'f> {
         ensures ok { IfOk result (λ r. Shows self.old.around net.new (λ o. spec.says (spelled.texts self.old.texts) o (spec.Locks at row)) r.at) }
     {
         let begins = self.begins(net, at, row)?;
-        let locks = has_lock_row(&self.around, net, begins, at, row)?;
+        let locks = has_lock_row(&self.around, net, &self.shared, begins, at, row)?;
         Ok(locks)
     }
 
@@ -146,7 +146,7 @@ impl<'p, 'm, 'f> Facts<'p, 'm, 'f> {
         self.keep_walk(net, from)?;
         let param = Pointed { number, object };
         match &self.walk {
-            Some(walk) => has_param_row(&self.around, net, &self.given, walk, param, row),
+            Some(walk) => has_param_row(&self.around, net, &self.shared, walk, param, row),
             None => Err(OutOfMemory),
         }
     }
@@ -165,7 +165,7 @@ impl<'p, 'm, 'f> Facts<'p, 'm, 'f> {
         self.keep_walk(net, cell_from(object))?;
         let param = Pointed { number, object };
         match &self.walk {
-            Some(walk) => has_out_row(&self.around, net, &self.given, walk, param, row),
+            Some(walk) => has_out_row(&self.around, net, &self.shared, walk, param, row),
             None => Err(OutOfMemory),
         }
     }
@@ -199,7 +199,7 @@ impl<'p, 'm, 'f> Facts<'p, 'm, 'f> {
     {
         match asked {
             Query::Exits(row) => self.exits(net, row),
-            Query::Touches(at) => touches(&self.around, net, at),
+            Query::Touches(at) => touches(&self.around, net, self.shared.known, at),
             Query::Locks(at, row) => self.locks(net, at, row),
             Query::Changes(n) => self.changes(net, n),
             Query::Params(n, row) => self.params(net, n, row),

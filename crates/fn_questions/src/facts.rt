@@ -10,9 +10,8 @@ ghost use Rattle.fn_questions.specs.Asking.{IsReadyToAsk, errs_at_locations as e
 
 use crate::erring::errs_at_locations;
 use bit_net::{Gate, Net, OutOfMemory};
-use bit_words::Word;
 use error_laws::errors_are_at_locations;
-use fn_facts::{Around, entry_number};
+use fn_facts::{Around, Shared, shared};
 use fn_walks::Walk;
 use location_texts::Texts;
 use sum_rows::Row;
@@ -45,8 +44,8 @@ pub struct Facts<'p, 'm, 'f> {
     pub around: Around<'p, 'm, 'f>,
     /// What texts of locations read.
     pub texts: Texts<'p, 'f>,
-    /// The entry bits as a number.
-    pub given: Word,
+    /// What all rows read.
+    pub shared: Shared,
     /// How the row of a location begins that was asked for last: rows that begin alike are asked for one after the other.
     pub begun: Option<Begun>,
     /// The walks over pointers that were asked for last: all rows of an item need the same ones.
@@ -74,11 +73,11 @@ impl<'p, 'm, 'f> Facts<'p, 'm, 'f> {
             return Ok(None);
         }
         errors_are_at_locations();
-        let given = entry_number(&around, net)?;
+        let shared = shared(&around, net)?;
         Ok(Some(Facts {
             around,
             texts,
-            given,
+            shared,
             begun: None,
             walk: None,
         }))
