@@ -25,5 +25,5 @@ pub use marks::has;
 pub use numbers::{is_state, number_is, state_before, state_now};
 pub use questions::{ends_at_text, sets, touches, writes};
 pub use results::{gives, gives_pointer, is_true};
-pub use rows::{begins, has_lock_row};
+pub use rows::{begins, ends_so, has_lock_row};
 pub use shared::{Shared, shared};

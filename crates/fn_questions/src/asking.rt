@@ -1,7 +1,8 @@
 //! The gate of every question.
 
-ghost use Rattle.std.specs.Prelude.{◌≡◌, IfOk, IsTrue, OnOk};
+ghost use Rattle.std.specs.Prelude.{◌≡◌, ◌&&◌, All, IfOk, IfSome, IsTrue, List, OnOk};
 ghost use Rattle.bit_net.specs.Runs.{Grown};
+ghost use Rattle.bit_net.specs.declared.nodes.Node.{Node};
 ghost use Rattle.flow_ends.specs.Encoded.{IsAnswer};
 ghost use Rattle.location_texts.specs.Seen as spelled;
 ghost use Rattle.run_questions.specs.Seen.{query};
@@ -9,13 +10,14 @@ ghost use Rattle.run_world.specs.Seen.{env};
 ghost use Rattle.sc_world.specs.Shows as spec;
 ghost use Rattle.fn_facts.specs.Seen as seen;
 ghost use Rattle.fn_facts.specs.Showing.{Shows};
-ghost use Rattle.fn_questions.specs.Asking.{AreFacts, HasWalk, IsReadyToAsk};
+ghost use Rattle.fn_facts.specs.declared.around.Around.{Around};
+ghost use Rattle.fn_questions.specs.Asking.{AreFacts, HasWalk, IsReadyToAsk, ShowsEnd};
 
-use crate::facts::{Begun, Facts};
+use crate::facts::{Begun, Ended, Facts};
 use crate::kinds::{cell_from, result_from};
 use crate::rows::{Pointed, has_changed, has_exit_row, has_out_row, has_param_row};
 use bit_net::{Gate, Net, OutOfMemory};
-use fn_facts::{begins, ends_at, ends_at_text, has_lock_row, param_object, sets, touches, writes};
+use fn_facts::{begins, ends_at, ends_at_text, ends_so, has_lock_row, param_object, sets, touches, writes};
 use fn_walks::{Beside, From, Walk, escape_from, loses, loss_from, walked};
 use run_questions::Query;
 use sc_base::Pos;
@@ -38,6 +40,27 @@ fn is_from(walk: &Walk, from: From) -> bool
     ensures { IsTrue result → walk.now.from ≡ from }
 {
     walk.from.result == from.result && is_beside(walk.from.beside, from.beside)
+}
+
+// The gate of the end of a row of a location, if it is among these.
+fn known_end(ended: &[Ended], at: u32, row: Row) -> Option<Gate>
+    ensures { (a : Around) (ns : List Node) → All (ShowsEnd a ns) ended.now
+        → IfSome result (λ g. Shows a ns (λ o. spec.exits o && seen.ends_so o at row) g.at) }
+{
+    for end in ended {
+        if end.is_end_of(at, row) {
+            return Some(end.gate);
+        }
+    }
+    None
+}
+
+// Whether these are ends of rows of that location, as far as the first one tells.
+fn is_of(ended: &[Ended], at: u32) -> bool {
+    match ended.first() {
+        Some(end) => end.at == at,
+        None => true,
+    }
 }
 
 impl<'p, 'm, 'f> Facts<'p, 'm, 'f> {
@@ -98,6 +121,26 @@ impl<'p, 'm, 'f> Facts<'p, 'm, 'f> {
         Ok(gate)
     }
 
+    // Holds where the run comes to the function's end, and a row of a location ends so. What was asked for of one location is kept.
+    fn ends(&mut self, net: &mut Net, at: u32, row: Row) -> Result<Gate, OutOfMemory>
+        requires facts { AreFacts net.old self.old }
+        ensures grown { Grown net.old net.new }
+        ensures facts { AreFacts net.new self.new }
+        ensures around { self.new.around ≡ self.old.around }
+        ensures texts { self.new.texts ≡ self.old.texts }
+        ensures ok { IfOk result (λ r. Shows self.old.around net.new (λ o. spec.exits o && seen.ends_so o at row) r.at) }
+    {
+        if let Some(gate) = known_end(self.ended.as_slice(), at, row) {
+            return Ok(gate);
+        }
+        let gate = ends_so(&self.around, net, self.shared.truth, at, row)?;
+        if !is_of(self.ended.as_slice(), at) {
+            self.ended = Vec::new(net.alloc());
+        }
+        self.ended.push(Ended { at, row, gate })?;
+        Ok(gate)
+    }
+
     // Holds where the run has that row of a location.
     fn locks(&mut self, net: &mut Net, at: u32, row: Row) -> Result<Gate, OutOfMemory>
         requires facts { AreFacts net.old self.old }
@@ -108,7 +151,8 @@ impl<'p, 'm, 'f> Facts<'p, 'm, 'f> {
         ensures ok { IfOk result (λ r. Shows self.old.around net.new (λ o. spec.says (spelled.texts self.old.texts) o (spec.Locks at row)) r.at) }
     {
         let begins = self.begins(net, at, row)?;
-        let locks = has_lock_row(&self.around, net, &self.shared, begins, at, row)?;
+        let ends = self.ends(net, at, row)?;
+        let locks = has_lock_row(&self.around, net, begins, ends, at, row)?;
         Ok(locks)
     }
 

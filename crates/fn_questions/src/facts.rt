@@ -37,6 +37,27 @@ impl Begun {
     }
 }
 
+/// How a row of a location ends, as a gate.
+#[derive(Clone, Copy, Debug)]
+pub struct Ended {
+    pub at: u32,
+    pub row: Row,
+    /// Holds where the run comes to the function's end, and the row ends so.
+    pub gate: Gate,
+}
+
+impl Ended {
+    /// Whether a row of a location ends so.
+    pub fn is_end_of(&self, at: u32, row: Row) -> bool
+        ensures at { IsTrue result → self.now.at ≡ at }
+        ensures gives { IsTrue result → self.now.row.result ≡ row.result }
+        ensures after { IsTrue result → self.now.row.after ≡ row.after }
+        ensures all { self.now.at ≡ at → self.now.row.result ≡ row.result → self.now.row.after ≡ row.after → IsTrue result }
+    {
+        self.at == at && self.row.result == row.result && self.row.after == row.after
+    }
+}
+
 /// What is known of a function before questions are asked.
 #[derive(Drop)]
 pub struct Facts<'p, 'm, 'f> {
@@ -48,6 +69,8 @@ pub struct Facts<'p, 'm, 'f> {
     pub shared: Shared,
     /// How the row of a location begins that was asked for last: rows that begin alike are asked for one after the other.
     pub begun: Option<Begun>,
+    /// How rows of one location end, as far as they were asked for: many rows that begin otherwise end alike.
+    pub ended: Vec<Ended>,
     /// The walks over pointers that were asked for last: all rows of an item need the same ones.
     pub walk: Option<Walk>,
 }
@@ -79,6 +102,7 @@ impl<'p, 'm, 'f> Facts<'p, 'm, 'f> {
             texts,
             shared,
             begun: None,
+            ended: Vec::new(net.alloc()),
             walk: None,
         }))
     }

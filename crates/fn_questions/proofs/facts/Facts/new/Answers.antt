@@ -13,4 +13,4 @@ returns-clause-ok c =
     new_ready _ _ _ c.requires.few c.requires.texts c.requires.encoded c.requires.objects
     (errs_so s p (c.errors_are_at_locations.ensures.some s p) (c.errors_are_at_locations.ensures.none s p)
     (sym c.errs_at_locations.ensures ∙ c.if-not-errs_at_locations.false))
-    c.in_ok-given.ensures.grown c.in_ok-given.ensures.ok refl refl
+    c.in_ok-shared.ensures.grown c.in_ok-shared.ensures.ok refl refl refl
