@@ -65,7 +65,12 @@ pub fn gives_pointer(around: &Around) -> bool
 
 // Holds where a function that gives a number or a pointer gives this.
 #[tactic(auto, using(crate::proofs::Truths::gift_laws))]
-fn gives_such(around: &Around, net: &mut Net, truth: Gate, wanted: Gives) -> Result<Gate, OutOfMemory>
+fn gives_such(
+    around: &Around,
+    net: &mut Net,
+    truth: Gate,
+    wanted: Gives,
+) -> Result<Gate, OutOfMemory>
     requires truth { IsTruth net.old around.now.encoded.now.result truth.at }
     requires cell { seen.has_bit (env around.now.here).source.result ≡ true }
     ensures grown { Grown net.old net.new }
@@ -81,7 +86,12 @@ fn gives_such(around: &Around, net: &mut Net, truth: Gate, wanted: Gives) -> Res
 
 /// Holds where a run that comes to the function's end gives this. `truth` holds where what it gives is neither 0 nor null.
 #[tactic(auto, using(crate::proofs::Truths::gift_laws))]
-pub fn gives(around: &Around, net: &mut Net, truth: Gate, wanted: Gives) -> Result<Gate, OutOfMemory>
+pub fn gives(
+    around: &Around,
+    net: &mut Net,
+    truth: Gate,
+    wanted: Gives,
+) -> Result<Gate, OutOfMemory>
     requires truth { IsTruth net.old around.now.encoded.now.result truth.at }
     ensures grown { Grown net.old net.new }
     ensures ok { IfOk result (λ r. ShowsAtExit around.now net.new (λ o. known.same_gives wanted (spec.result o)) r.at) }

@@ -17,7 +17,9 @@ use crate::facts::{Begun, Ended, Facts};
 use crate::kinds::{cell_from, result_from};
 use crate::rows::{Pointed, has_changed, has_exit_row, has_out_row, has_param_row};
 use bit_net::{Gate, Net, OutOfMemory};
-use fn_facts::{begins, ends_at, ends_at_text, ends_so, has_lock_row, param_object, sets, touches, writes};
+use fn_facts::{
+    begins, ends_at, ends_at_text, ends_so, has_lock_row, param_object, sets, touches, writes,
+};
 use fn_walks::{Beside, From, Walk, escape_from, loses, loss_from, walked};
 use run_questions::Query;
 use sc_base::Pos;
