@@ -26,4 +26,4 @@ pub use numbers::{is_state, number_is, state_before, state_now};
 pub use questions::{ends_at_text, sets, touches, writes};
 pub use results::{gives, gives_pointer, is_true};
 pub use rows::{begins, ends_so, has_lock_row};
-pub use shared::{Shared, shared};
+pub use shared::Shared;

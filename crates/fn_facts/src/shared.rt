@@ -22,18 +22,20 @@ pub struct Shared {
     pub known: Gate,
 }
 
-/// The gates that all rows of a function read. They are made once.
-pub fn shared(around: &Around, net: &mut Net) -> Result<Shared, OutOfMemory>
-    requires ready { IsReady around.now net.old }
-    ensures grown { Grown net.old net.new }
-    ensures ok { IfOk result (λ r. AreShared around.now net.new r) }
-{
-    let given = entry_number(around, net)?;
-    let truth = is_true(net, &around.encoded.result)?;
-    let known = errs_known(around, net)?;
-    Ok(Shared {
-        given,
-        truth,
-        known,
-    })
+impl Shared {
+    /// The gates that all rows of a function read. They are made once.
+    pub fn new(around: &Around, net: &mut Net) -> Result<Shared, OutOfMemory>
+        requires ready { IsReady around.now net.old }
+        ensures grown { Grown net.old net.new }
+        ensures ok { IfOk result (λ r. AreShared around.now net.new r) }
+    {
+        let given = entry_number(around, net)?;
+        let truth = is_true(net, &around.encoded.result)?;
+        let known = errs_known(around, net)?;
+        Ok(Shared {
+            given,
+            truth,
+            known,
+        })
+    }
 }

@@ -11,7 +11,7 @@ ghost use Rattle.fn_questions.specs.Asking.{IsReadyToAsk, errs_at_locations as e
 use crate::erring::errs_at_locations;
 use bit_net::{Gate, Net, OutOfMemory};
 use error_laws::errors_are_at_locations;
-use fn_facts::{Around, Shared, shared};
+use fn_facts::{Around, Shared};
 use fn_walks::Walk;
 use location_texts::Texts;
 use sum_rows::Row;
@@ -96,7 +96,7 @@ impl<'p, 'm, 'f> Facts<'p, 'm, 'f> {
             return Ok(None);
         }
         errors_are_at_locations();
-        let shared = shared(&around, net)?;
+        let shared = Shared::new(&around, net)?;
         Ok(Some(Facts {
             around,
             texts,

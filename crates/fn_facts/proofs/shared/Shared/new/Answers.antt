@@ -1,7 +1,7 @@
 use Rattle.bit_net.proofs.Growth.{Grown-trans}
 use Rattle.fn_facts.specs.Seen.{given}
 use Rattle.fn_facts.proofs.Growing.{number_grows, truth_grows}
-use Rattle.fn_facts.proofs.shared.shared.Goals as goal
+use Rattle.fn_facts.proofs.shared.Shared.new.Goals as goal
 
 pub returns-clause-ok : goal.returns-clause-ok
 returns-clause-ok c =
