@@ -98,7 +98,10 @@ impl<'p, 'm, 'f> Facts<'p, 'm, 'f> {
     {
         self.keep_walk(net, result_from())?;
         match &self.walk {
-            Some(walk) => has_exit_row(&self.around, net, &self.shared, walk, row),
+            Some(walk) => {
+                let exits = has_exit_row(&self.around, net, &self.shared, walk, row)?;
+                Ok(exits)
+            }
             None => Err(OutOfMemory),
         }
     }
@@ -172,7 +175,10 @@ impl<'p, 'm, 'f> Facts<'p, 'm, 'f> {
         let from = escape_from(&self.around, object);
         self.keep_walk(net, from)?;
         match &self.walk {
-            Some(walk) => has_changed(&self.around, net, walk, object),
+            Some(walk) => {
+                let changes = has_changed(&self.around, net, walk, object)?;
+                Ok(changes)
+            }
             None => Err(OutOfMemory),
         }
     }
@@ -192,7 +198,10 @@ impl<'p, 'm, 'f> Facts<'p, 'm, 'f> {
         self.keep_walk(net, from)?;
         let param = Pointed { number, object };
         match &self.walk {
-            Some(walk) => has_param_row(&self.around, net, &self.shared, walk, param, row),
+            Some(walk) => {
+                let params = has_param_row(&self.around, net, &self.shared, walk, param, row)?;
+                Ok(params)
+            }
             None => Err(OutOfMemory),
         }
     }
@@ -211,7 +220,10 @@ impl<'p, 'm, 'f> Facts<'p, 'm, 'f> {
         self.keep_walk(net, cell_from(object))?;
         let param = Pointed { number, object };
         match &self.walk {
-            Some(walk) => has_out_row(&self.around, net, &self.shared, walk, param, row),
+            Some(walk) => {
+                let outs = has_out_row(&self.around, net, &self.shared, walk, param, row)?;
+                Ok(outs)
+            }
             None => Err(OutOfMemory),
         }
     }
@@ -228,7 +240,10 @@ impl<'p, 'm, 'f> Facts<'p, 'm, 'f> {
     {
         self.keep_walk(net, loss_from())?;
         match &self.walk {
-            Some(walk) => loses(&self.around, net, walk, pos),
+            Some(walk) => {
+                let leaks = loses(&self.around, net, walk, pos)?;
+                Ok(leaks)
+            }
             None => Err(OutOfMemory),
         }
     }

@@ -97,12 +97,13 @@ impl<'p, 'm, 'f> Facts<'p, 'm, 'f> {
         }
         errors_are_at_locations();
         let shared = Shared::new(&around, net)?;
+        let ended = Vec::new(net.alloc());
         Ok(Some(Facts {
             around,
             texts,
             shared,
             begun: None,
-            ended: Vec::new(net.alloc()),
+            ended,
             walk: None,
         }))
     }

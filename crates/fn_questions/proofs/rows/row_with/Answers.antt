@@ -6,8 +6,8 @@ use Rattle.fn_facts.proofs.Growing.{truth_grows}
 use Rattle.fn_questions.proofs.Rowing.{other_begin, row_shown}
 use Rattle.fn_questions.proofs.rows.row_with.Goals as goal
 
-pub gives-requires-clause-truth : goal.gives-requires-clause-truth
-gives-requires-clause-truth c = truth_grows _ _ _ _ c.in_ok-entered.ensures.grown c.requires.shared.truth
+pub gives-requires : goal.gives-requires
+gives-requires c = record { truth = truth_grows _ _ _ _ c.in_ok-entered.ensures.grown c.requires.shared.truth }
 
 pub returns-then-not-is_nil-clause-ok : goal.returns-then-not-is_nil-clause-ok
 returns-then-not-is_nil-clause-ok c =
