@@ -3,7 +3,6 @@
 from __future__ import annotations
 
 import os
-import re
 import subprocess
 import tempfile
 from collections.abc import Mapping, Sequence
@@ -65,10 +64,7 @@ class Checker:
             raise OutOfMemory("memory was refused")
         if said.returncode not in (0, 1):
             raise NotChecked(_why(said))
-        told = said.stdout.decode("latin-1")
-        if renamed:
-            told = re.sub(rf"\b(?:{'|'.join(renamed)})\b", lambda it: renamed[it[0]], told)
-        return read_json(told)
+        return read_json(said.stdout.decode("latin-1"), renamed)
 
 
 def _ran(words: Sequence[str], folder: str, seconds: float) -> subprocess.CompletedProcess[bytes]:

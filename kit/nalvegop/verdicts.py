@@ -7,6 +7,8 @@ were set aside; `observed` asks for values.
 from __future__ import annotations
 
 import json
+import re
+from collections.abc import Callable, Mapping
 from dataclasses import dataclass, field
 from typing import Any
 
@@ -104,18 +106,31 @@ class NotVerdicts(ValueError):
 
 
 _FORM = ("nalvegop verdicts", 1)
+# The members that have names of C in them.
+_NAMES = {"name", "text", "callee", "label", "location"}
 
 
-def read_json(text: str) -> Verdicts:
-    """Reads the JSON of a check. Members that are not known are passed over."""
+def read_json(text: str, renamed: Mapping[str, str] | None = None) -> Verdicts:
+    """Reads the JSON of a check, in which names that stand for others are told as those. Members that are not known are
+    passed over."""
     try:
-        value = json.loads(text)
+        value = json.loads(text, object_hook=_with_old_names(renamed) if renamed else None)
         form = value["format"], value["version"]
         if form == _FORM:
             return Verdicts([_function(it) for it in value["functions"]], [_skip(it) for it in value["notes"]])
     except (ValueError, KeyError, TypeError) as error:
         raise NotVerdicts(f"what saturn_check wrote is not JSON of the form of docs/JSON.md: {error!r}") from error
     raise NotVerdicts(f"saturn_check wrote {form[0]!r}, version {form[1]!r}, and this kit reads {_FORM[0]!r}, version {_FORM[1]}")
+
+
+def _with_old_names(renamed: Mapping[str, str]) -> Callable[[dict[str, Any]], dict[str, Any]]:
+    """Returns what puts old names into an object of JSON, and leaves the words of the form and the states of a machine."""
+    pattern = re.compile(rf"\b(?:{'|'.join(renamed)})\b")
+
+    def old(key: str, value: Any) -> Any:
+        return pattern.sub(lambda name: renamed[name[0]], value) if key in _NAMES and isinstance(value, str) else value
+
+    return lambda it: {key: old(key, value) for key, value in it.items()}
 
 
 def _at(place: dict[str, Any]) -> At:
@@ -142,9 +157,14 @@ def _function(it: dict[str, Any]) -> Function:
 
 
 def _state(state: Any) -> str | None:
-    if isinstance(state, dict):
-        return str(state["state"])
-    return "!" if state == "error" else state if state is None else str(state)
+    match state:
+        case None:
+            return None
+        case {"state": name}:
+            return str(name)
+        case "error":
+            return "!"
+    return str(state)
 
 
 def _row(row: dict[str, Any]) -> Row:

@@ -132,6 +132,18 @@ class Reading(unittest.TestCase):
         more = {**VALUE, "functions": [{**it, "asides": [{}]} for it in VALUE["functions"]], "says": 1}
         self.assertEqual(read_json(json.dumps(more)), _READ)
 
+    def test_names_that_stand_for_others(self) -> None:
+        renamed = {"lock": "mutex", "kmalloc": "list", "U": "t", "kind": "held", "p": "end", "out": "name"}
+        event = Event(At(20, 1), "error", "call@13:24->mutex")
+        enter, _, _, serve = read_json(json.dumps(VALUE), renamed).functions
+        self.assertEqual((enter.entry, enter.items[1]), (["mutex"], Item("state", "*mutex", [Row("1", "U", "-", "L"), Row("1", "L", "-", "!")])))
+        self.assertEqual([(it.what, it.name) for it in serve.items], [("end", ""), ("param", "end"), ("out", "end")])
+        self.assertEqual(serve.writes, ["*end"])
+        events = [event, Event(At(13, 24), "call", "list"), Event(At(18, 1), "goto", "name")]
+        leak, inner = serve.reports
+        self.assertEqual([inner.runs[0].events[1], leak.runs[0].events[0], leak.runs[0].events[5]], events)
+        self.assertEqual((leak.kind, inner.kind, inner.about), ("leak", "inner", "call@13:24->mutex"))
+
     def test_nothing(self) -> None:
         self.assertEqual(read_json(EMPTY), Verdicts())
 
