@@ -64,7 +64,7 @@ class Checker:
             raise OutOfMemory("memory was refused")
         if said.returncode not in (0, 1):
             raise NotChecked(_why(said))
-        return read_json(said.stdout.decode("latin-1"), renamed)
+        return read_json(said.stdout, renamed)
 
 
 def _ran(words: Sequence[str], folder: str, seconds: float) -> subprocess.CompletedProcess[bytes]:

@@ -110,7 +110,7 @@ _FORM = ("nalvegop verdicts", 1)
 _NAMES = {"name", "text", "callee", "label", "location"}
 
 
-def read_json(text: str, renamed: Mapping[str, str] | None = None) -> Verdicts:
+def read_json(text: str | bytes, renamed: Mapping[str, str] | None = None) -> Verdicts:
     """Reads the JSON of a check, in which names that stand for others are told as those. Members that are not known are
     passed over."""
     try:
