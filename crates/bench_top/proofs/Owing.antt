@@ -70,7 +70,7 @@ of_given (ToErrors due bytes) answer out err kind given = of_went due answer err
 -- words with a fault, or with a call for help, are not good
 pub sound : (words : List (List ℕ)) → IsSound (wording words)
 sound words = record {
-  no_help = λ asked good. elim (rw (good asked.0 asked.1) at asked.2) [ | inl h ↦ absurd h | inr h ↦ absurd h ];
+  no_help = λ asked good. elim (rw (good asked.0 asked.1) at asked.2) [ inl h ↦ absurd h | inr h ↦ absurd h ];
   no_fault = λ wrong good. absurd (rw (good wrong.0 wrong.1) at wrong.2.1);
 }
 

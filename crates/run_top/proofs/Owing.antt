@@ -22,7 +22,7 @@ use Rattle.run_top.specs.Runs.{due_of_told, told_of, IsFound, refused, read, Ask
 -- words with a fault, or with a call for help, are not good
 pub sound : (words : List (List ℕ)) → IsSound (wording words)
 sound words = record {
-  no_help = λ asked good. elim (rw (good asked.0 asked.1) at asked.2) [ | inl h ↦ absurd h | inr h ↦ absurd h ];
+  no_help = λ asked good. elim (rw (good asked.0 asked.1) at asked.2) [ inl h ↦ absurd h | inr h ↦ absurd h ];
   no_fault = λ wrong good. absurd (rw (good wrong.0 wrong.1) at wrong.2.1);
 }
 
