@@ -1,19 +1,17 @@
 -- An answer that is due, given: the parts of a run put together, and the cause of each answer.
-use Rattle.std.proofs.Common.{◌≡◌, ◌⊎◌, ℕ, Bool, true, false, List, [], Option, Some, None, refl, sym, subst, inl}
+use Rattle.std.proofs.Common.{◌≡◌, ◌⊎◌, ℕ, true, false, List, [], Option, Some, None, refl, sym, subst, inl}
 use Rattle.std.proofs.Common.{inr, ⊎_elim}
 use Rattle.sc_base.specs.Causes.{Rose}
-use Rattle.sc_base.specs.Held.{is_named, IsRead}
+use Rattle.sc_base.specs.Held.{is_named}
 use Rattle.sc_base.specs.Taken.{SinkChange, Keeps, Went}
-use Rattle.clap.specs.Words.{IsAmong}
 use Rattle.saturn_verify.specs.declared.finding.Finding.{Finding}
 use Rattle.saturn_verify.specs.declared.finding.Finding.TheVariants as found
 use Rattle.saturn_verify.specs.declared.verified.Verified.{Verified}
 use Rattle.saturn_verify.specs.declared.verified.Verified.TheVariants.{Accepted, Rejected, Refused, BadWords}
 use Rattle.saturn_verify.specs.declared.verified.Verified.TheVariants.{ReadFault, WriteFault, Memory, Helped}
 use Rattle.saturn_verify.specs.Words.{faults, AskForHelp, HaveFault, Name}
-use Rattle.saturn_verify.specs.Finding.{IsFinding}
 use Rattle.saturn_verify.specs.Lines.{line_of}
-use Rattle.saturn_verify.specs.Answer.{Due, ToOutput, ToErrors, Source, read_limit, due_for, IsDue, helped, bad_words}
+use Rattle.saturn_verify.specs.Answer.{Due, ToOutput, ToErrors, Source, due_for, IsDue, helped, bad_words}
 use Rattle.saturn_verify.specs.Answer.{unread, read}
 use Rattle.saturn_verify.specs.Answer.{IsAnswered, Answers, has_output, is_finding}
 

@@ -2,16 +2,21 @@
 -- this command.
 
 use Rattle.std.specs.Prelude.{◌≡◌, ◌≢◌, ◌⊎◌, ⊤, List, [], ℕ, Option, Some, codes, true}
-use Rattle.clap.specs.Words.{App, Kinds, IsAmong, fault_of, first_of, matches_of, new_app, new_rule, with_rule}
+use Rattle.clap.specs.Words.{App, Kinds, IsAmong, fault_of, first_of, matches_of, new_rule, with_rule}
+use Rattle.clap.specs.Simple.{new_shape}
 use Rattle.clap.specs.declared.builder.action.ArgAction.TheVariants.{Set}
 use Rattle.clap.specs.declared.error.kind.ErrorKind.{ErrorKind}
 use Rattle.clap.specs.declared.error.kind.ErrorKind.TheVariants.{DisplayHelp, DisplayVersion}
 use Rattle.saturn_verify.specs.declared.words.NoFile.{NoFile}
 use Rattle.saturn_verify.specs.declared.words.NoFile.TheVariants.{Help, Bad, Memory}
 
+-- the command without its argument, which tells its version
+abbrev pub bare_command : App
+bare_command = record { top = record (new_shape (codes "saturn_verify")) { has_version = true }; subs = [] }
+
 -- one word is required, the name of a file
 abbrev pub command : App
-command = with_rule (new_app (codes "saturn_verify")) (record (new_rule (codes "FILE")) { required = true; action = Some Set })
+command = with_rule bare_command (record (new_rule (codes "FILE")) { required = true; action = Some Set })
 
 -- the faults of the words, of which calls for help and for the version are some
 unfoldable pub faults : List (List ℕ) → Kinds

@@ -1,7 +1,7 @@
 // The words of the command line, read by `clap`.
 
-ghost use Rattle.std.specs.Prelude.{◌≡◌, ◌≢◌, ◌⊎◌, ℕ, List, IfOk, IfErr, IsTrue, codes, false, map, string_bytes};
-ghost use Rattle.clap.specs.Words.{HasKind, app_of, new_app};
+ghost use Rattle.std.specs.Prelude.{◌≡◌, ◌≢◌, ◌⊎◌, ℕ, List, IfOk, IfErr, IsTrue, false, map, string_bytes};
+ghost use Rattle.clap.specs.Words.{HasKind};
 ghost use Rattle.clap.specs.declared.error.kind.ErrorKind.TheVariants.{DisplayHelp, DisplayVersion};
 ghost use Rattle.saturn_verify.specs.Words.{faults, Name, HaveNoFile};
 
@@ -50,13 +50,6 @@ fn no_file(alloc: Global, error: &Error) -> NoFile
     }
 }
 
-// The command without its arguments.
-fn named<'a>(alloc: Global) -> Command<'a>
-    ensures { app_of result ≡ new_app (codes "saturn_verify") }
-{
-    Command::new(alloc, "saturn_verify").version(VERSION)
-}
-
 /// The file that the words name.
 pub fn file_named<'a>(alloc: Global, words: &'a [String]) -> Result<&'a str, NoFile>
     ensures named { IfOk result (λ name. Name (map string_bytes words.entry.now) name.now) }
@@ -65,7 +58,8 @@ pub fn file_named<'a>(alloc: Global, words: &'a [String]) -> Result<&'a str, NoF
     let file = Arg::new(alloc, "FILE")
         .required(true)
         .action(ArgAction::Set);
-    let command = match named(alloc).arg(file) {
+    let bare = Command::new(alloc, "saturn_verify").version(VERSION);
+    let command = match bare.arg(file) {
         Ok(command) => command,
         Err(_) => return Err(NoFile::Memory),
     };

@@ -1,4 +1,4 @@
-use Rattle.std.proofs.Common.{rules, ◌≡◌, codes}
+use Rattle.std.proofs.Common.{rules, codes}
 use Rattle.std.specs.Prelude.{decimal}
 use Rattle.saturn_verify.proofs.Joined.{joined}
 use Rattle.saturn_verify.proofs.lines.malformed_line.Goals as goal

@@ -1,8 +1,8 @@
-use Rattle.std.proofs.Common.{rules, ◌≡◌, ℕ, List, refl, subst, map, string_bytes}
+use Rattle.std.proofs.Common.{rules, ◌≡◌, refl, subst, map, string_bytes}
 use Rattle.saturn_verify.specs.declared.words.NoFile.{NoFile}
 use Rattle.saturn_verify.specs.Words.{HaveNoFile}
 use Rattle.saturn_verify.specs.Answer.{helped, bad_words}
-use Rattle.saturn_verify.proofs.Answered.{to_errors, to_output, Keeps-itself, causes}
+use Rattle.saturn_verify.proofs.Answered.{to_errors, to_output, Keeps-itself}
 use Rattle.saturn_verify.proofs.verify.verify_main.Goals as goal
 
 pub returns-in-Err-Help-clause-answers : goal.returns-in-Err-Help-clause-answers
