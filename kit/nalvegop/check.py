@@ -3,7 +3,6 @@
 from __future__ import annotations
 
 import os
-import time
 from collections.abc import Mapping
 from dataclasses import dataclass, field
 from functools import cached_property
@@ -18,6 +17,7 @@ from .machines import operations
 from .noise import Comments
 from .observed import Observers, Values
 from .preprocess import Models, NotPreprocessed, fitting_models, preprocessed, width_model
+from .processes import Allowance
 from .reasons import Reason, words_of
 from .segments import Segment
 from .unread import unread
@@ -81,7 +81,7 @@ class FileCheck:
         self.it, self.options = it, options
         self.files = SourceFiles(it.folder)
         self.result = FileResult(shown(it.folder, it.file))
-        self.end = time.monotonic() + options.seconds
+        self.time = Allowance(options.seconds)
         # Of functions that were checked for themselves: what was unknown then.
         self._unknown_to: dict[str, set[str]] = {}
         self._observed: dict[str, tuple[Observers, Function] | None] = {}
@@ -97,7 +97,7 @@ class FileCheck:
         return self.result
 
     def _left(self) -> float:
-        return max(self.end - time.monotonic(), 0.1)
+        return max(self.time.left, 0.1)
 
     def _run(self) -> None:
         name = self.options.models or fitting_models(self.it)
@@ -178,7 +178,7 @@ class FileCheck:
         where there are none in its time or memory."""
         found: Verdicts | None = None
         for _ in range(_MOST_CASTS):
-            if time.monotonic() >= self.end:
+            if self.time.is_over:
                 break
             found = self._checked(self._one_by_one.run(only=[name], without=unknown).text, waiting)
             self.filter.with_pointers |= self._one_by_one.with_pointers
@@ -206,7 +206,7 @@ class FileCheck:
     def _look(self, name: str) -> tuple[Observers, Function] | None:
         """Checks a function with statements in it that tell values; None where there is no answer."""
         for with_numbers in (True, False):
-            if time.monotonic() >= self.end:
+            if self.time.is_over:
                 return None
             observers = Observers(self._one_by_one.run(only=[name], without=self._unknown_to.get(name, ())).text, name, with_numbers)
             try:

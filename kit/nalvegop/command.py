@@ -89,7 +89,7 @@ def parser() -> argparse.ArgumentParser:
 def _common(it: argparse.ArgumentParser) -> None:
     it.add_argument("-p", dest="database", metavar="DATABASE", help="compile_commands.json, or the folder where it stands")
     it.add_argument("-j", dest="jobs", type=_number(1, 256), default=1, metavar="N", help="files at a time (1)")
-    it.add_argument("--seconds", type=_number(1, 86_400), default=60, help="the time that a file may take (60)")
+    it.add_argument("--seconds", type=_number(1, 86_400), default=60, help="the seconds of a processor that a file may take (60); by the clock ten times that")
     it.add_argument("--models", choices=("linux", "libc", "none"), help="macros that stand for a library's; by default what fits the file's includes")
     it.add_argument("--model", action="append", default=[], metavar="FILE", help="a header of your own to put in front; may be given again")
     it.add_argument(
