@@ -14,6 +14,7 @@ from .findings import OBJECT, Finding, Step, Teller, one_of_each_array
 from .leaks import Leaks
 from .lines import LineMap, Place, SourceFiles
 from .machines import operations
+from .missing import Missing, Unknown
 from .noise import Comments
 from .observed import Observers, Values
 from .preprocess import Models, NotPreprocessed, fitting_models, preprocessed, width_model
@@ -23,12 +24,11 @@ from .segments import Segment
 from .unread import unread
 from .verdicts import At, Function, NotVerdicts, Report, Skip, Verdicts
 
-# Calls that change a lock, or an object: who calls a function with one of them, of which nothing is known, may miss rows.
+# Calls that change a lock: a report on a path with a function of which nothing is known, and that has one, may be false.
 _ON_LOCKS = {
     *"spin_lock spin_unlock spin_trylock mutex_lock mutex_unlock mutex_trylock".split(),
     *"pthread_mutex_lock pthread_mutex_unlock pthread_mutex_trylock".split(),
 }
-_EFFECTS = _ON_LOCKS | {*"malloc calloc kmalloc kzalloc free kfree".split()}
 # Functions of the models that give an object without saying which: where one is called a finding may be false.
 _CONTAINER = "container_of gives another object each time"
 _COUNTED = "arithmetic on a pointer gives another object each time"
@@ -66,7 +66,8 @@ class FileResult:
     late: list[str] = field(default_factory=list)
     # Functions that had an answer in time only with nothing known of those that they call, and which those are.
     without_calls: dict[str, list[str]] = field(default_factory=dict)
-    warnings: list[str] = field(default_factory=list)
+    # Calls of functions of which nothing is known, and that do something by their text.
+    missing: list[Missing] = field(default_factory=list)
     text: str = ""
 
     @property
@@ -236,6 +237,7 @@ class FileCheck:
         comments = Comments(self.files)
         leaks = Leaks(self.filter, self._is_model, self._with_unknown)
         self._name_lost(verdicts)
+        unknown = self._unknown(verdicts)
         for function in verdicts.functions:
             if function.name in self.result.passed_over:
                 continue
@@ -248,14 +250,15 @@ class FileCheck:
                 self.result.passed_over[function.name] = self._reason(function.name, function.skip)
             names = self._segments[function.name].names if function.name in self._segments else frozenset[str]()
             lost = self._lost_calls(function.name, names, verdicts) if function.reports else {}
-            told = [self._finding(teller, function, report, lost, doubts) for report, doubts in leaks.told(function, {*lost})]
+            missing = [] if function.skip else [*unknown.called_by(function.name, self.result.without_calls.get(function.name, []))]
+            self.result.missing += missing
+            told = [self._finding(teller, function, report, lost, doubts, missing) for report, doubts in leaks.told(function, {*lost})]
             for finding in one_of_each_array(told):
                 finding.marks += self._unsure(finding, names)
                 if comments.hides(finding, place.line):
                     self.result.hidden += 1
                     continue
                 self.result.findings.append(self._with_shown_places(finding))
-        self._warn(verdicts)
         self.result.findings.sort(key=lambda it: it.place)
 
     def _reason(self, name: str, skip: Skip) -> Reason:
@@ -294,10 +297,12 @@ class FileCheck:
         """Returns whether a name is that of a function of the models, or of an operation: all that counts of it is known."""
         return name.startswith(MODEL_HEAD) or name in PUT | self.operations
 
-    def _finding(self, teller: Teller, function: Function, report: Report, lost: Mapping[str, frozenset[str]], doubts: list[str]) -> Finding:
+    def _finding(
+        self, teller: Teller, function: Function, report: Report, lost: Mapping[str, frozenset[str]], doubts: list[str], missing: list[Missing]
+    ) -> Finding:
         """Tells a report. One on a lock may be false where a call on its path may lock or unlock, and is not followed; a
         leak where one may have freed the memory."""
-        made = teller.finding(function, report, self._values(function, report))
+        made = teller.finding(function, report, self._values(function, report), {it.callee: it.note for it in missing})
         if doubts:
             made.marks.append(f"{' or '.join(map(repr, doubts))} may have freed it or given it away")
         calls = {it.word for run in report.runs for it in run.events if it.kind == "call"}
@@ -325,15 +330,16 @@ class FileCheck:
     def _segments(self) -> dict[str, Segment]:
         return {it.function: it for it in self.filter.unit.segments if it.function}
 
-    def _warn(self, verdicts: Verdicts) -> None:
-        """Notes who calls a function of which nothing is known, and that has an effect by its text, or that of what it calls."""
-        for function in self.result.analysed:
-            names = self._segments[function.name].names if function.name in self._segments else frozenset[str]()
-            for name, reached in sorted(self._lost_calls(function.name, names, verdicts).items()):
-                if reached & (_EFFECTS | self.operations):
-                    self.result.warnings.append(
-                        f"'{function.name}' calls '{name}', of which nothing is known: what it does to locks and memory is not in the answer"
-                    )
+    def _unknown(self, verdicts: Verdicts) -> Unknown:
+        skips, late = {it.name: it.skip for it in verdicts.functions if it.skip}, {*self.result.late}
+
+        def why(name: str) -> str | None:
+            if name in late:
+                return "had no answer in time"
+            reason = self.result.passed_over.get(name) or (self._reason(name, skips[name]) if name in skips else None)
+            return f"was not analysed ({reason.text})" if reason else None
+
+        return Unknown(self.filter, self.operations, why, self._place)
 
     def _place(self, at: At) -> Place:
         return self._shown(self.line_map.place(at.line, at.column))
