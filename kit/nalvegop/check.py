@@ -32,6 +32,7 @@ _ON_LOCKS = {
 # Functions of the models that give an object without saying which: where one is called a finding may be false.
 _CONTAINER = "container_of gives another object each time"
 _COUNTED = "arithmetic on a pointer gives another object each time"
+_SUM = "what a pointer and a number add up to is not known"
 _OFFSET = "the number that offsetof gives is not known"
 _POINTER = "a pointer made of a number leads to another object each time"
 _ADDRESS = "the number of a pointer is not known"
@@ -147,7 +148,7 @@ class FileCheck:
         """Checks the whole file, and once more where something can be put in place of casts that the checker did not take."""
         for _ in range(_MOST_CASTS):
             verdicts = self.options.checker.check(filtered.text, self.model, max(self._left() / 3, 1), self.renamed)
-            if not self.filter.refuse(_refused_casts(verdicts)):
+            if not self.filter.refuse(_refused(verdicts)):
                 break
             before, filtered = filtered, self.filter.run()
             if filtered.text == before.text:
@@ -184,7 +185,8 @@ class FileCheck:
             found = self._checked(self._one_by_one.run(only=[name], without=unknown).text, waiting)
             self.filter.with_pointers |= self._one_by_one.with_pointers
             self.filter.with_addresses |= self._one_by_one.with_addresses
-            if not found or not self._one_by_one.refuse(_refused_casts(found)):
+            self.filter.with_sums |= self._one_by_one.with_sums
+            if not found or not self._one_by_one.refuse(_refused(found)):
                 break
         return found
 
@@ -287,6 +289,8 @@ class FileCheck:
             found.add(_COUNTED)
         if finding.kind == "inner" and finding.function in self.filter.with_pointers:
             found.add(_POINTER)
+        if finding.function in self.filter.with_sums:
+            found.add(_SUM)
         if finding.function in self.filter.with_offsets:
             found.add(_OFFSET)
         if finding.function in self.filter.with_addresses:
@@ -354,10 +358,10 @@ class FileCheck:
         return finding
 
 
-def _refused_casts(verdicts: Verdicts) -> list[At]:
-    """Returns the places of casts between pointers and numbers for which functions were passed over."""
+def _refused(verdicts: Verdicts) -> list[At]:
+    """Returns the places of casts between pointers and numbers, and of sums of these, for which functions were passed over."""
     skips = [it.skip for it in verdicts.functions if it.skip]
-    return [it.at for it in skips if (it.reason, it.kind) == ("unsupported", "cast") and it.at]
+    return [it.at for it in skips if it.reason == "unsupported" and it.kind in ("cast", "arith") and it.at]
 
 
 def callees_first(functions: list[Segment]) -> list[str]:
