@@ -3,7 +3,6 @@
 from __future__ import annotations
 
 import os
-import time
 from collections.abc import Mapping
 from dataclasses import dataclass, field
 from functools import cached_property
@@ -15,23 +14,25 @@ from .findings import OBJECT, Finding, Step, Teller, one_of_each_array
 from .leaks import Leaks
 from .lines import LineMap, Place, SourceFiles
 from .machines import operations
+from .missing import Missing, Unknown
 from .noise import Comments
 from .observed import Observers, Values
 from .preprocess import Models, NotPreprocessed, fitting_models, preprocessed, width_model
+from .processes import Allowance
 from .reasons import Reason, words_of
 from .segments import Segment
 from .unread import unread
 from .verdicts import At, Function, NotVerdicts, Report, Skip, Verdicts
 
-# Calls that change a lock, or an object: who calls a function with one of them, of which nothing is known, may miss rows.
+# Calls that change a lock: a report on a path with a function of which nothing is known, and that has one, may be false.
 _ON_LOCKS = {
     *"spin_lock spin_unlock spin_trylock mutex_lock mutex_unlock mutex_trylock".split(),
     *"pthread_mutex_lock pthread_mutex_unlock pthread_mutex_trylock".split(),
 }
-_EFFECTS = _ON_LOCKS | {*"malloc calloc kmalloc kzalloc free kfree".split()}
 # Functions of the models that give an object without saying which: where one is called a finding may be false.
 _CONTAINER = "container_of gives another object each time"
 _COUNTED = "arithmetic on a pointer gives another object each time"
+_SUM = "what a pointer and a number add up to is not known"
 _OFFSET = "the number that offsetof gives is not known"
 _POINTER = "a pointer made of a number leads to another object each time"
 _ADDRESS = "the number of a pointer is not known"
@@ -66,7 +67,8 @@ class FileResult:
     late: list[str] = field(default_factory=list)
     # Functions that had an answer in time only with nothing known of those that they call, and which those are.
     without_calls: dict[str, list[str]] = field(default_factory=dict)
-    warnings: list[str] = field(default_factory=list)
+    # Calls of functions of which nothing is known, and that do something by their text.
+    missing: list[Missing] = field(default_factory=list)
     text: str = ""
 
     @property
@@ -81,7 +83,7 @@ class FileCheck:
         self.it, self.options = it, options
         self.files = SourceFiles(it.folder)
         self.result = FileResult(shown(it.folder, it.file))
-        self.end = time.monotonic() + options.seconds
+        self.time = Allowance(options.seconds)
         # Of functions that were checked for themselves: what was unknown then.
         self._unknown_to: dict[str, set[str]] = {}
         self._observed: dict[str, tuple[Observers, Function] | None] = {}
@@ -97,7 +99,7 @@ class FileCheck:
         return self.result
 
     def _left(self) -> float:
-        return max(self.end - time.monotonic(), 0.1)
+        return max(self.time.left, 0.1)
 
     def _run(self) -> None:
         name = self.options.models or fitting_models(self.it)
@@ -146,7 +148,7 @@ class FileCheck:
         """Checks the whole file, and once more where something can be put in place of casts that the checker did not take."""
         for _ in range(_MOST_CASTS):
             verdicts = self.options.checker.check(filtered.text, self.model, max(self._left() / 3, 1), self.renamed)
-            if not self.filter.refuse(_refused_casts(verdicts)):
+            if not self.filter.refuse(_refused(verdicts)):
                 break
             before, filtered = filtered, self.filter.run()
             if filtered.text == before.text:
@@ -178,12 +180,13 @@ class FileCheck:
         where there are none in its time or memory."""
         found: Verdicts | None = None
         for _ in range(_MOST_CASTS):
-            if time.monotonic() >= self.end:
+            if self.time.is_over:
                 break
             found = self._checked(self._one_by_one.run(only=[name], without=unknown).text, waiting)
             self.filter.with_pointers |= self._one_by_one.with_pointers
             self.filter.with_addresses |= self._one_by_one.with_addresses
-            if not found or not self._one_by_one.refuse(_refused_casts(found)):
+            self.filter.with_sums |= self._one_by_one.with_sums
+            if not found or not self._one_by_one.refuse(_refused(found)):
                 break
         return found
 
@@ -206,7 +209,7 @@ class FileCheck:
     def _look(self, name: str) -> tuple[Observers, Function] | None:
         """Checks a function with statements in it that tell values; None where there is no answer."""
         for with_numbers in (True, False):
-            if time.monotonic() >= self.end:
+            if self.time.is_over:
                 return None
             observers = Observers(self._one_by_one.run(only=[name], without=self._unknown_to.get(name, ())).text, name, with_numbers)
             try:
@@ -236,6 +239,7 @@ class FileCheck:
         comments = Comments(self.files)
         leaks = Leaks(self.filter, self._is_model, self._with_unknown)
         self._name_lost(verdicts)
+        unknown = self._unknown(verdicts)
         for function in verdicts.functions:
             if function.name in self.result.passed_over:
                 continue
@@ -248,14 +252,15 @@ class FileCheck:
                 self.result.passed_over[function.name] = self._reason(function.name, function.skip)
             names = self._segments[function.name].names if function.name in self._segments else frozenset[str]()
             lost = self._lost_calls(function.name, names, verdicts) if function.reports else {}
-            told = [self._finding(teller, function, report, lost, doubts) for report, doubts in leaks.told(function, {*lost})]
+            missing = [] if function.skip else [*unknown.called_by(function.name, self.result.without_calls.get(function.name, []))]
+            self.result.missing += missing
+            told = [self._finding(teller, function, report, lost, doubts, missing) for report, doubts in leaks.told(function, {*lost})]
             for finding in one_of_each_array(told):
                 finding.marks += self._unsure(finding, names)
                 if comments.hides(finding, place.line):
                     self.result.hidden += 1
                     continue
                 self.result.findings.append(self._with_shown_places(finding))
-        self._warn(verdicts)
         self.result.findings.sort(key=lambda it: it.place)
 
     def _reason(self, name: str, skip: Skip) -> Reason:
@@ -284,6 +289,8 @@ class FileCheck:
             found.add(_COUNTED)
         if finding.kind == "inner" and finding.function in self.filter.with_pointers:
             found.add(_POINTER)
+        if finding.function in self.filter.with_sums:
+            found.add(_SUM)
         if finding.function in self.filter.with_offsets:
             found.add(_OFFSET)
         if finding.function in self.filter.with_addresses:
@@ -294,10 +301,12 @@ class FileCheck:
         """Returns whether a name is that of a function of the models, or of an operation: all that counts of it is known."""
         return name.startswith(MODEL_HEAD) or name in PUT | self.operations
 
-    def _finding(self, teller: Teller, function: Function, report: Report, lost: Mapping[str, frozenset[str]], doubts: list[str]) -> Finding:
+    def _finding(
+        self, teller: Teller, function: Function, report: Report, lost: Mapping[str, frozenset[str]], doubts: list[str], missing: list[Missing]
+    ) -> Finding:
         """Tells a report. One on a lock may be false where a call on its path may lock or unlock, and is not followed; a
         leak where one may have freed the memory."""
-        made = teller.finding(function, report, self._values(function, report))
+        made = teller.finding(function, report, self._values(function, report), {it.callee: it.note for it in missing})
         if doubts:
             made.marks.append(f"{' or '.join(map(repr, doubts))} may have freed it or given it away")
         calls = {it.word for run in report.runs for it in run.events if it.kind == "call"}
@@ -325,15 +334,16 @@ class FileCheck:
     def _segments(self) -> dict[str, Segment]:
         return {it.function: it for it in self.filter.unit.segments if it.function}
 
-    def _warn(self, verdicts: Verdicts) -> None:
-        """Notes who calls a function of which nothing is known, and that has an effect by its text, or that of what it calls."""
-        for function in self.result.analysed:
-            names = self._segments[function.name].names if function.name in self._segments else frozenset[str]()
-            for name, reached in sorted(self._lost_calls(function.name, names, verdicts).items()):
-                if reached & (_EFFECTS | self.operations):
-                    self.result.warnings.append(
-                        f"'{function.name}' calls '{name}', of which nothing is known: what it does to locks and memory is not in the answer"
-                    )
+    def _unknown(self, verdicts: Verdicts) -> Unknown:
+        skips, late = {it.name: it.skip for it in verdicts.functions if it.skip}, {*self.result.late}
+
+        def why(name: str) -> str | None:
+            if name in late:
+                return "had no answer in time"
+            reason = self.result.passed_over.get(name) or (self._reason(name, skips[name]) if name in skips else None)
+            return f"was not analysed ({reason.text})" if reason else None
+
+        return Unknown(self.filter, self.operations, why, self._place)
 
     def _place(self, at: At) -> Place:
         return self._shown(self.line_map.place(at.line, at.column))
@@ -348,10 +358,10 @@ class FileCheck:
         return finding
 
 
-def _refused_casts(verdicts: Verdicts) -> list[At]:
-    """Returns the places of casts between pointers and numbers for which functions were passed over."""
+def _refused(verdicts: Verdicts) -> list[At]:
+    """Returns the places of casts between pointers and numbers, and of sums of these, for which functions were passed over."""
     skips = [it.skip for it in verdicts.functions if it.skip]
-    return [it.at for it in skips if (it.reason, it.kind) == ("unsupported", "cast") and it.at]
+    return [it.at for it in skips if it.reason == "unsupported" and it.kind in ("cast", "arith") and it.at]
 
 
 def callees_first(functions: list[Segment]) -> list[str]:

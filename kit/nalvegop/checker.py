@@ -8,7 +8,7 @@ import tempfile
 from collections.abc import Mapping, Sequence
 from dataclasses import dataclass
 
-from .processes import ran
+from .processes import CLOCK, ran
 from .verdicts import Verdicts, read_json
 
 TOP = os.path.dirname(os.path.dirname(os.path.dirname(os.path.abspath(__file__))))
@@ -71,7 +71,7 @@ def _ran(words: Sequence[str], folder: str, seconds: float) -> subprocess.Comple
     try:
         return ran(words, folder, seconds)
     except subprocess.TimeoutExpired as error:
-        raise OutOfTime(f"no answer within {seconds:.0f} seconds") from error
+        raise OutOfTime(f"no answer within {seconds:.0f} seconds of a processor, or {CLOCK * seconds:.0f} by the clock") from error
     except OSError as error:
         raise NotChecked(f"{words[0]}: {error.strerror}") from error
 

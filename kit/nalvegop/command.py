@@ -43,6 +43,8 @@ class Status(enum.IntEnum):
 _SPARSE_ALONE = ("--arch=", "-mlittle-endian", "-mbig-endian")
 # How many of the functions without an answer are named, if not all are to be.
 _SHOWN_NAMES = 5
+# How many calls of functions that were not analysed are shown, if not all are to be.
+_SHOWN_CALLS = 10
 _STATUSES = (
     "status: 0 nothing found; 1 findings; 2 some file, or some function in time, was not analysed, with findings or without; 3 the words are not of this form"
 )
@@ -89,7 +91,7 @@ def parser() -> argparse.ArgumentParser:
 def _common(it: argparse.ArgumentParser) -> None:
     it.add_argument("-p", dest="database", metavar="DATABASE", help="compile_commands.json, or the folder where it stands")
     it.add_argument("-j", dest="jobs", type=_number(1, 256), default=1, metavar="N", help="files at a time (1)")
-    it.add_argument("--seconds", type=_number(1, 86_400), default=60, help="the time that a file may take (60)")
+    it.add_argument("--seconds", type=_number(1, 86_400), default=60, help="the seconds of a processor that a file may take (60); by the clock ten times that")
     it.add_argument("--models", choices=("linux", "libc", "none"), help="macros that stand for a library's; by default what fits the file's includes")
     it.add_argument("--model", action="append", default=[], metavar="FILE", help="a header of your own to put in front; may be given again")
     it.add_argument(
@@ -176,6 +178,7 @@ def _check(it: argparse.Namespace, flags: list[str]) -> int:
     if it.update_baseline:
         status = Status.NOT_ALL if status == Status.NOT_ALL else Status.CLEAN
     _show(results, it, status)
+    _name_missing(results, it.verbose)
     print(f"nalvegop: {summary(results, known)}", file=sys.stderr)
     return status
 
@@ -256,8 +259,16 @@ def _name_failures(results: list[FileResult], is_verbose: bool) -> None:
         if is_verbose:
             for name, why in it.passed_over.items():
                 print(f"nalvegop: {why.place or it.places.get(name) or it.file}: '{name}' is passed over: {why.text}", file=sys.stderr)
-            for text in it.warnings:
-                print(f"nalvegop: {it.file}: {text}", file=sys.stderr)
+
+
+def _name_missing(results: list[FileResult], is_verbose: bool) -> None:
+    """Says which calls are missing in the answers."""
+    every = [one for it in results for one in it.missing]
+    shown = every if is_verbose else every[:_SHOWN_CALLS]
+    for one in shown:
+        print(f"{one.place}: note: {one.text}", file=sys.stderr)
+    if len(shown) < len(every):
+        print(f"nalvegop: and {len(every) - len(shown)} more such calls (--verbose shows all)", file=sys.stderr)
 
 
 def _listed(names: list[str], is_verbose: bool) -> str:
@@ -357,7 +368,7 @@ def _rows(it: argparse.Namespace, flags: list[str]) -> int:
     functions = [one for one in result.functions if it.function in (None, one.name)]
     if not functions:
         raise Trouble(f"{it.file} has no function {it.function} of which something is known", Status.NOT_ALL)
-    _print(text for one in functions for text in rows_text(one, result.without_calls.get(one.name, [])))
+    _print(text for one in functions for text in rows_text(one, result))
     return Status.CLEAN
 
 

@@ -60,8 +60,8 @@ class CountedPointers:
             return None
         end, at = operator, operator
         while self.tokens[at].text in ("+", "-"):
-            end = self._term_end(at + 1)
-            if end == at + 1 or self.changes(at + 1, end, (self.harmless,)) or self.tokens[at].text == "-" and not self._is_number(at + 1):
+            end = self.term_end(at + 1)
+            if end == at + 1 or self.changes(at + 1, end, (self.harmless,)) or self.tokens[at].text == "-" and not self.is_number(at + 1):
                 return None
             at = end
         if self._is_address(begins[1] - 1) and not self._is_pointer_again(begins[0], end):
@@ -123,8 +123,8 @@ class CountedPointers:
 
     # ---- what it is counted by
 
-    def _term_end(self, at: int) -> int:
-        """Returns the end of a product: an operand of `+` or `-`."""
+    def term_end(self, at: int) -> int:
+        """Returns the end of a product that begins there: an operand of `+` or `-`."""
         while self.tokens[at].text in ("+", "-", "~", "!"):
             at += 1
         while self.tokens[at].text not in _ENDS:
@@ -142,7 +142,7 @@ class CountedPointers:
                 return True
         return False
 
-    def _is_number(self, at: int) -> bool:
+    def is_number(self, at: int) -> bool:
         """Returns whether a term surely is a number, by how it begins: behind a `-` a pointer may stand too."""
         token = self.tokens[at]
         if token.text == "(":

@@ -20,6 +20,7 @@ from .old_parameters import OldParameters
 from .segments import KEYWORDS, Segment, Unit
 from .shadows import Shadow, Shadows, other_name
 from .statics import Static, Statics
+from .sums import Sum, Sums
 from .tokens import LineIndex, Sheet, Token, tokens_of
 from .verdicts import At
 
@@ -41,8 +42,12 @@ CLEANUP_CALL = "nalvegop_cleanup_push"
 PART, MODEL_HEAD = "nv_at", "nalvegop_"
 # The one for a number that is not known, the one for the number of a pointer, and the one for what a number leads to.
 NUMBER, ADDRESS, POINTER = "nalvegop_ulong", "nv_to", "nv_"
+# The one for what a sum of a pointer and a number leads to: it has two letters, so that it fits in place of `p + n`. The
+# filter declares it where the text has no such name.
+STEPPED = "Nv"
+_STEPPED_HEAD = f"void *{STEPPED}(const void *);"
 # All that the filter puts somewhere.
-PUT = frozenset({PART, NUMBER, ADDRESS, POINTER})
+PUT = frozenset({PART, NUMBER, ADDRESS, POINTER, STEPPED})
 
 
 @dataclass
@@ -89,9 +94,10 @@ class Filter:
         self.passed_over: dict[str, tuple[str, At]] = {}
         # The functions in which an object, or a number, that is not known was put in place of something.
         self.with_parts, self.with_offsets = set[str](), set[str]()
-        self.with_pointers, self.with_addresses = set[str](), set[str]()
+        self.with_pointers, self.with_addresses, self.with_sums = set[str](), set[str](), set[str]()
         self._values, self._casts = CountedPointers(self.tokens, self.partner, MODEL_HEAD), Casts(self.tokens, self.partner)
-        # The places of casts that the checker does not take; the tokens that got another name.
+        self._sums = Sums(self.tokens, self.partner, self._values)
+        # The places of casts and sums that the checker does not take; the tokens that got another name.
         self._refused, self._other_at = set[At](), set[int]()
 
     # ---- what is left
@@ -108,8 +114,8 @@ class Filter:
         return self._lines.line(self.tokens[at].start)
 
     def refuse(self, places: Iterable[At]) -> bool:
-        """Notes casts between pointers and numbers that the checker does not take. Returns whether that is new, and there
-        may be something to put in their places."""
+        """Notes casts between pointers and numbers, and sums of these, that the checker does not take. Returns whether that is
+        new, and there may be something to put in their places."""
         new = {*places} - self._refused
         self._refused |= new
         return self._has_pointer and bool(new)
@@ -198,6 +204,8 @@ class Filter:
             self._offsets(segment, gone)
         if self._has_pointer:
             self._refused_casts(segment, gone)
+            swallowed = self._refused_sums(segment, gone)
+            dropped = [it for it in dropped if it[0] not in swallowed]
         self._asserts(segment.body[0], segment.end)
         self._asm_statements(segment.body[0], segment.end)
         self._once_loops(segment.body[0], segment.end)
@@ -260,6 +268,87 @@ class Filter:
         if len(value) > end - at:
             return False
         self.sheet.put(at, value.ljust(end - at))
+        return True
+
+    def _refused_sums(self, segment: Segment, gone: set[int]) -> set[int]:
+        """A sum of a pointer and a number that the checker does not take, and others of the function that are like it:
+        `*(p + n)` becomes `p[n]`; `p + n` an object that is not known, to which `p` goes away; and `p` becomes that in `p += n`.
+        Returns the tokens of which nothing is left."""
+        found = [*self._sums.of(segment)] if self._refused else []
+        refused = [it for it in found if self.at(it.operator) in self._refused]
+        if not refused:
+            return set()
+        words, names, swallowed = {self._sums.words(it) for it in refused}, self._sums.pointers(segment), set[int]()
+        for it in found:
+            one, (first, last) = self._sums.words(it), it.variable or (it.first, it.operator)
+            if one not in words and (len(one) > 1 or one[0] not in names) or gone & {*range(first, last)}:
+                continue
+            if not gone & {*range(it.operator, it.end)} and self._put_element(it):
+                self._count("sums")
+            elif self._put_for_sum(segment, it):
+                swallowed |= {*range(it.first, it.end)}
+                self._count("sums")
+        return swallowed
+
+    def _put_element(self, it: Sum) -> bool:
+        """`*(p + n)` becomes `p[n]`, and `(p + n)->m` becomes `p[n].m`."""
+        kind = self._sums.element(it)
+        if not kind:
+            return False
+        opening = it.first - 1
+        self._blank(opening - (kind == "*"), opening + 1)
+        self._put(self.tokens[it.operator], "[")
+        self._put(self.tokens[it.end], "]")
+        if kind == "->":
+            self._put(self.tokens[it.end + 1], ".")
+        return True
+
+    def _put_for_sum(self, segment: Segment, it: Sum) -> bool:
+        """Puts an object that is not known in place of a sum, if there is room and the name for it is free."""
+        start, end = self.tokens[it.first].start, self.tokens[it.end - 1].end
+        first, last = it.variable or (it.first, it.operator)
+        pointer = self._text[self.tokens[first].start : self.tokens[last - 1].end]
+        value = f"{pointer} = {STEPPED}({pointer})" if it.variable else f"{STEPPED}({pointer})"
+        # (the operand moves, so nothing may be in it of which a path tells)
+        is_plain = not self._other_at & {*range(first, last)} and not {token.text for token in self.tokens[first:last]} & {"?", "&&", "||"}
+        if "\n" in pointer or not is_plain or not self._sums.is_free(it):
+            return False
+        is_within = len(value) <= end - start and "\n" not in self._text[start:end]
+        rest = [] if is_within else self._rest_of_line(it)
+        if rest is None or not self._is_stepped_declared(segment):
+            return False
+        if is_within:
+            self.sheet.put(start, value.ljust(end - start))
+        else:
+            self._blank(it.first, it.end + len(rest))
+            self._tails.setdefault(self._line(it.first), []).append("".join([value, *rest]))
+        self.with_sums.add(segment.function or "")
+        return True
+
+    def _rest_of_line(self, it: Sum) -> list[str] | None:
+        """Returns what stands behind a sum in its line, if it can be moved with it behind the end: no place of it is told."""
+        line = self._line(it.first)
+        if line in self._tails:
+            return None
+        if self._line(it.end) > line:
+            return []
+        behind = it.end
+        while self._line(behind) == line:
+            behind += 1
+        rest = [token.text for token in self.tokens[it.end : behind]]
+        return rest if {*rest} <= {")", ";", ",", "{"} else None
+
+    def _is_stepped_declared(self, segment: Segment) -> bool:
+        """Declares the function for sums before a function, where the text does not have the name."""
+        if STEPPED in self._taken:
+            # (this text has been filtered already)
+            heads = [it for it in self.unit.segments if STEPPED in it.declares]
+            return bool(heads) and all(self._text[self.tokens[it.first].start : self.tokens[it.end - 1].end] == _STEPPED_HEAD for it in heads)
+        if not self._has_room_before(segment):
+            return False
+        tails = self._tails.setdefault(self._line(segment.first - 1), [])
+        if _STEPPED_HEAD not in tails:
+            tails.append(_STEPPED_HEAD)
         return True
 
     def _counted_pointers(self, segment: Segment, but: set[int]) -> set[int]:

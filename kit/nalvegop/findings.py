@@ -5,7 +5,7 @@ from __future__ import annotations
 import hashlib
 import re
 from collections import Counter
-from collections.abc import Sequence
+from collections.abc import Mapping, Sequence
 from dataclasses import dataclass, field
 
 from .filter import PUT
@@ -101,9 +101,9 @@ class Teller:
     def place(self, at: At) -> Place:
         return self.map.place(at.line, at.column)
 
-    def finding(self, function: Function, report: Report, values: Sequence[Values]) -> Finding:
-        """Tells a report; `values`: what is known of each of its runs."""
-        paths = [self._path(function, report, number, values[number]) for number in range(len(report.runs))]
+    def finding(self, function: Function, report: Report, values: Sequence[Values], notes: Mapping[str, str]) -> Finding:
+        """Tells a report; `values`: what is known of each of its runs; `notes`: what is to be said where a function is called."""
+        paths = [self._path(function, report, number, values[number], notes) for number in range(len(report.runs))]
         place = self._main_place(function, report)
         made = Finding(report.kind, function.name, place, self._message(function, report), paths)
         made.known_by, made.about = self._known_by(function, report), report.about
@@ -248,14 +248,15 @@ class Teller:
 
     # ---- paths
 
-    def _path(self, function: Function, report: Report, number: int, values: Values) -> Path:
+    def _path(self, function: Function, report: Report, number: int, values: Values, notes: Mapping[str, str]) -> Path:
         run = report.runs[number]
         steps = list[Step]()
         for at, it in enumerate(run.events):
             # (what the filter puts in place of a pointer or of a number is no call of the source's)
             if it.kind != "call" or self._called(it) not in PUT:
                 gave = _gives(values.gave[at]) if at in values.gave and it.word not in PUT | {OBJECT} else ""
-                steps.append(Step(self.place(it.at), self._step(function, report, run, it) + gave))
+                note = f"; it {notes[it.word]}" if it.kind == "call" and it.word in notes else ""
+                steps.append(Step(self.place(it.at), self._step(function, report, run, it) + gave + note))
         entry = self._tested(run, values)
         return Path(self._head(function, report, number, entry), steps, run.choice, entry)
 

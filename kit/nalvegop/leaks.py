@@ -12,7 +12,7 @@ from collections.abc import Callable, Iterator
 from functools import cached_property
 
 from .filter import BUILT_IN, Filter
-from .segments import KEYWORDS, Segment
+from .segments import Segment
 from .verdicts import Function, Report
 
 FREEING = frozenset({"free", "kfree"})
@@ -73,7 +73,7 @@ class Leaks:
         if name not in self._may_free:
             seen, work = {name}, [name]
             while work:
-                called = {*self._called(self._bodies[work.pop()])}
+                called = {it for it, _ in self._filter.unit.calls(self._bodies[work.pop()])}
                 if any(it in FREEING or it not in self._bodies and it not in BUILT_IN and not self._is_model(it) for it in called):
                     break
                 work += [it for it in called - seen if it in self._bodies]
@@ -82,13 +82,3 @@ class Leaks:
                 self._may_free[name] = False
             self._may_free.setdefault(name, True)
         return self._may_free[name]
-
-    def _called(self, it: Segment) -> Iterator[str]:
-        """Gives the names before round brackets in a body: of functions, and of pointers to functions."""
-        tokens = self._filter.tokens
-        for at in range(it.body[0], it.end - 1):
-            if tokens[at].is_word and tokens[at + 1].text == "(" and tokens[at].text not in KEYWORDS:
-                yield tokens[at].text
-            elif tokens[at].text == ")" and tokens[at + 1].text == "(" and tokens[self._filter.partner[at] + 1].text == "*":
-                # (`(*f)(a)`)
-                yield "*"

@@ -9,7 +9,7 @@ from dataclasses import dataclass
 from functools import lru_cache
 
 from .compilations import Compilation
-from .processes import ran
+from .processes import CLOCK, ran
 
 # The headers of the models.
 MODELS = os.path.join(os.path.dirname(os.path.dirname(os.path.abspath(__file__))), "models")
@@ -77,7 +77,7 @@ def _compiled(words: list[str], folder: str, seconds: float) -> subprocess.Compl
     except OSError as error:
         raise NotPreprocessed(f"{words[0]}: {error.strerror}") from error
     except subprocess.TimeoutExpired as error:
-        raise NotPreprocessed(f"{words[0]} -E did not end within {seconds:.0f} seconds") from error
+        raise NotPreprocessed(f"{words[0]} -E did not end within {seconds:.0f} seconds of a processor, or {CLOCK * seconds:.0f} by the clock") from error
     if said.returncode:
         lines = said.stderr.decode(errors="replace").strip().split("\n")
         shown = next((line for line in lines if "error" in line), lines[0])

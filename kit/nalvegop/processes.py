@@ -1,10 +1,17 @@
-"""Runs a program for a limited time, and ends it with all that it started; also where a signal ends the command."""
+"""Runs a program for a limited time, and ends it with all that it started; also where a signal ends the command.
+
+Time is that of a processor, so that a busy machine gives the same answers; by the clock all may take `CLOCK` times as
+long.
+"""
 
 from __future__ import annotations
 
+import math
 import os
+import resource
 import signal
 import subprocess
+import time
 from collections.abc import Iterator, Sequence
 from contextlib import contextmanager, suppress
 from types import FrameType
@@ -57,17 +64,55 @@ class Ending:
 ENDING = Ending()
 
 
+CLOCK = 10
+
+
+class Allowance:
+    """Seconds of a processor that may be used from here on, by this process and by the programs that it ran."""
+
+    def __init__(self, seconds: float) -> None:
+        self._end, self._clock_end = _used() + seconds, time.monotonic() + CLOCK * seconds
+
+    @property
+    def left(self) -> float:
+        """Returns the seconds that are left: no more than the clock leaves, of which each may take `CLOCK`."""
+        return min(self._end - _used(), (self._clock_end - time.monotonic()) / CLOCK)
+
+    @property
+    def is_over(self) -> bool:
+        return self.left <= 0
+
+
+def _used() -> float:
+    """Returns the seconds of a processor that this process and the programs that it waited for have used."""
+    return sum(os.times()[:4])
+
+
+def _limit(number: int, seconds: int) -> int:
+    """Lets a program use so many seconds of a processor, or fewer where the user has a limit, and returns how many."""
+    bound = resource.prlimit(number, resource.RLIMIT_CPU)[1]
+    most = seconds if bound == resource.RLIM_INFINITY else min(seconds, bound)
+    # (with one number for both limits it is killed: the signal of the first one would have its memory written to a file)
+    resource.prlimit(number, resource.RLIMIT_CPU, (most, most))
+    return most
+
+
 def ran(words: Sequence[str], folder: str, seconds: float) -> subprocess.CompletedProcess[bytes]:
-    """Runs a program in a folder. subprocess.TimeoutExpired where it has not ended after so many seconds."""
+    """Runs a program in a folder. subprocess.TimeoutExpired where it has not ended after so many seconds of a processor,
+    counted in whole ones, or `CLOCK` times as many by the clock."""
+    most, before = max(math.ceil(seconds), 1), _used()
     with ENDING.put_off():
         with subprocess.Popen(words, cwd=folder, stdin=subprocess.DEVNULL, stdout=subprocess.PIPE, stderr=subprocess.PIPE, start_new_session=True) as it:
             try:
+                most = _limit(it.pid, most)
                 with ENDING.let_in():
-                    out, err = it.communicate(timeout=seconds)
+                    out, err = it.communicate(timeout=CLOCK * seconds)
             except BaseException:
                 # (what it started may hold the pipes open; behind a KeyboardInterrupt Popen itself waits for a quarter of a second)
                 with suppress(ProcessLookupError):
                     os.killpg(it.pid, signal.SIGKILL)
                 it.wait()
                 raise
+    if it.returncode == -signal.SIGKILL and _used() - before > most - 0.1:
+        raise subprocess.TimeoutExpired(words, seconds, out, err)
     return subprocess.CompletedProcess(words, it.returncode, out, err)

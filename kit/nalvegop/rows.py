@@ -2,7 +2,7 @@
 
 from __future__ import annotations
 
-from collections.abc import Iterator, Sequence
+from collections.abc import Iterator
 
 from .check import FileResult
 from .findings import KINDS, Finding, pretty
@@ -32,11 +32,12 @@ def _title(item: Item) -> str:
     }[item.what]
 
 
-def rows_text(function: Function, lost: Sequence[str] = ()) -> Iterator[str]:
-    """Gives the summary as tables with a column for each parameter of the entry bits; `lost`: calls that are not in it."""
+def rows_text(function: Function, result: FileResult) -> Iterator[str]:
+    """Gives the summary as tables with a column for each parameter of the entry bits, and which calls are not in it."""
     yield f"{function.name}:"
-    if lost:
-        yield f"  without what {', '.join(lost)} does, for want of time"
+    if function.name in result.without_calls:
+        yield f"  without what {', '.join(result.without_calls[function.name])} does, for want of time"
+    yield from _missing(function, result)
     if function.skip:
         yield f"  passed over: {Reason(words_of(function.skip)).text}"
         return
@@ -60,6 +61,13 @@ def _cells(row: Row, has_before: bool) -> list[str]:
     return [*bits, *[_word(row.before)] * has_before, _result(row), *[_word(row.after)] * (row.after is not None)]
 
 
+def _missing(function: Function, result: FileResult) -> Iterator[str]:
+    """Gives the calls whose effects are in no row."""
+    for it in result.missing:
+        if it.caller == function.name:
+            yield f"  it calls '{it.callee}', which {it.note}"
+
+
 def story(it: Finding, result: FileResult) -> Iterator[str]:
     """Gives the whole story of a finding: what its kind means, its paths, and the rows of its function in words."""
     yield from lines_of_one(it, SourceFiles())
@@ -69,6 +77,7 @@ def story(it: Finding, result: FileResult) -> Iterator[str]:
     if not function:
         return
     yield f"What '{it.function}' does, for each way in which its parameters are 0 or not:"
+    yield from _missing(function, result)
     for item in function.items:
         for row in item.rows:
             yield f"  {_in_words(function, item, row)}"

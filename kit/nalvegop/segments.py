@@ -2,7 +2,7 @@
 
 from __future__ import annotations
 
-from collections.abc import Sequence
+from collections.abc import Iterator, Sequence
 from dataclasses import dataclass
 
 from .tokens import Token, partners
@@ -105,6 +105,16 @@ class Unit:
         behind = self.partner[at] + 1
         is_next = behind < len(self.tokens) and self.tokens[behind].is_word and not self.tokens[behind].text.startswith("__a")
         return behind if is_list and is_next and self.tokens[at - 1].is_word and self.tokens[at - 1].text not in KEYWORDS else None
+
+    def calls(self, it: Segment) -> Iterator[tuple[str, int]]:
+        """Gives the names before round brackets in a body, of functions and of pointers to functions, each with its token;
+        for a call as `(*f)(a)` it gives `*`."""
+        for at in range(it.body[0], it.end - 1):
+            token, behind = self.tokens[at], self.tokens[at + 1].text
+            if behind == "(" and token.is_word and token.text not in KEYWORDS:
+                yield token.text, at
+            elif behind == "(" and token.text == ")" and self.tokens[self.partner[at] + 1].text == "*":
+                yield "*", at
 
     def typedefs(self) -> frozenset[str]:
         """Returns the names that typedefs declare, and not the tags and enumerators in them."""

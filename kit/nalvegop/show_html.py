@@ -47,6 +47,7 @@ def _parts(results: list[FileResult], files: SourceFiles, status: int) -> Iterat
             *(f"{why.place or result.file}: {name} is passed over: {why.text}" for name, why in result.passed_over.items()),
             *(f"{name}: no answer in time" for name in result.late),
             *(f"{name}: without what {', '.join(calls)} does, for want of time" for name, calls in result.without_calls.items()),
+            *(f"{one.place}: {one.text}" for one in result.missing),
         ]
         if result.failure or rest:
             yield f"<h2>{escape(result.file)}: what was not analysed</h2>\n"

@@ -7,12 +7,13 @@ from typing import Any
 from .check import FileResult
 from .findings import Finding, Path
 from .lines import Place
+from .missing import Missing
 from .reasons import Reason
 from .rows import story
 
 
 def as_json(results: list[FileResult], status: int) -> dict[str, Any]:
-    return {"format": "nalvegop findings", "version": 1, "status": status, "files": [_file(it) for it in results]}
+    return {"format": "nalvegop findings", "version": 2, "status": status, "files": [_file(it) for it in results]}
 
 
 def _file(it: FileResult) -> dict[str, Any]:
@@ -24,7 +25,7 @@ def _file(it: FileResult) -> dict[str, Any]:
         "passed_over": [_passed_over(name, why) for name, why in it.passed_over.items()],
         "late": it.late,
         "without_calls": [{"function": name, "calls": calls} for name, calls in it.without_calls.items()],
-        "warnings": it.warnings,
+        "missing": [_missing(one) for one in it.missing],
         "hidden": it.hidden,
         "findings": [_finding(finding, it) for finding in it.findings],
     }
@@ -32,6 +33,10 @@ def _file(it: FileResult) -> dict[str, Any]:
 
 def _passed_over(name: str, why: Reason) -> dict[str, Any]:
     return {"function": name, "reason": why.words, "text": why.text, **({"place": _place(why.place)} if why.place else {})}
+
+
+def _missing(it: Missing) -> dict[str, Any]:
+    return {"caller": it.caller, "callee": it.callee, **_place(it.place), "does": it.does, "text": it.text}
 
 
 def _finding(it: Finding, result: FileResult) -> dict[str, Any]:

@@ -37,7 +37,7 @@ class _Log:
         return {"id": kind, "name": kind, "shortDescription": {"text": kind}, "fullDescription": {"text": text}, "defaultConfiguration": {"level": "warning"}}
 
     def _notifications(self, results: list[FileResult]) -> list[dict[str, Any]]:
-        """Says what was not analysed."""
+        """Says what was not analysed, and where that is missing."""
         found = [("error", Place(it.file, 1, 1), f"{it.file}: {it.failure}") for it in results if it.failure]
         found += [("warning", it.places.get(name, Place(it.file, 1, 1)), f"{it.file}: '{name}' had no answer in time") for it in results for name in it.late]
         found += [
@@ -45,6 +45,7 @@ class _Log:
             for it in results
             for name, calls in it.without_calls.items()
         ]
+        found += [("note", one.place, one.text) for it in results for one in it.missing]
         return [{"level": level, "message": {"text": text}, "locations": [self._location(place)]} for level, place, text in found]
 
     def _result(self, it: Finding) -> dict[str, Any]:

@@ -20,6 +20,8 @@ from nalvegop.show_html import coloured
 from tests.support import COMMAND, EMPTY, folder, nalvegop, needs_checker, program, told_by
 
 _NOTHING = f"echo '{EMPTY}'"
+# (`--seconds` counts a processor)
+_FOREVER = "while :; do :; done"
 _LOST = "#include <stdlib.h>\nvoid lost(void)\n{\n\tvoid *p = malloc(1);\n}\n"
 
 
@@ -74,6 +76,7 @@ class Statuses(unittest.TestCase):
             ("exit 6", "memory was refused"),
             ('echo "saturn_check: unit.c:1:2: lexical" >&2; exit 2', "unit.c:1:2: lexical"),
             ("kill -SEGV $$", "signal 11"),
+            ("kill -KILL $$", "signal 9"),
             ("echo what", "is not JSON"),
             ('echo \'{"format": "nalvegop verdicts", "version": 2}\'', "this kit reads 'nalvegop verdicts', version 1"),
         ):
@@ -83,7 +86,7 @@ class Statuses(unittest.TestCase):
                 self.assertIn(why, said.stderr)
 
     def test_a_file_that_takes_too_long_is_named_and_the_others_go_on(self) -> None:
-        slow = f"grep -q slow unit.c && sleep 30; {_NOTHING}"
+        slow = f"grep -q slow unit.c && {_FOREVER}; {_NOTHING}"
         with folder(a__c="int slow(void) { return 1; }\n", b__c="int quick(void) { return 1; }\n") as room:
             said = nalvegop("check", "--seconds", "3", "a.c", "b.c", at=room, checker=program(room, slow))
             self.assertEqual(said.returncode, 2)
@@ -92,9 +95,9 @@ class Statuses(unittest.TestCase):
 
     def test_a_slow_function_leaves_time_to_the_others(self) -> None:
         source = "int slow(void) { return 1; }\n" + "".join(f"int f{it}(void) {{ return 1; }}\n" for it in range(3))
-        text = f"grep -q slow unit.c && sleep 60; {_NOTHING}"
+        text = f"grep -q slow unit.c && {_FOREVER}; {_NOTHING}"
         with folder(a__c=source) as room:
-            said = nalvegop("check", "--seconds", "24", "--format", "json", "a.c", at=room, checker=program(room, text))
+            said = nalvegop("check", "--seconds", "9", "--format", "json", "a.c", at=room, checker=program(room, text))
             self.assertEqual(json.loads(said.stdout)["files"][0]["late"], ["slow"])
 
     def test_a_function_that_is_slow_with_what_it_calls_is_answered_without(self) -> None:
@@ -103,8 +106,8 @@ class Statuses(unittest.TestCase):
         text = """
 at, has_body = lines.index("int m;") + 1, "int helper(int n) {" in text
 if any(it.startswith("{") for it in lines):
-    if has_body:
-        time.sleep(300)
+    while has_body:
+        pass
     row = {"entry": [True], "before": {"state": "U"}, "result": "none", "after": "error"}
     events = [call(at + 3, 3, "spin_lock"), call(at + 4, 3, "helper"), call(at + 5, 3, "spin_lock"), event(at + 5, 3, "error")]
     report = {"kind": "double", "path": {"text": "m"}, "runs": [{"choice": "0", "location": "m", "events": events}]}
@@ -113,7 +116,7 @@ if has_body:
     function("helper", at + 1, 5, ["n"])
 """
         with folder(a__c=source) as room:
-            words = "check", "--seconds", "36", "--models", "none", "a.c"
+            words = "check", "--seconds", "12", "--models", "none", "a.c"
             said = nalvegop("check", "--format", "json", *words[1:], at=room, checker=told_by(room, text))
             file = json.loads(said.stdout)["files"][0]
             self.assertEqual((said.returncode, file["late"], file["analysed"]), (1, [], ["helper", "caller"]))
@@ -150,7 +153,7 @@ function("f", at + 2, 6, [], [ends], [{"kind": "leak", "place": place(at + 4, 7)
 
     def test_many_functions_without_an_answer_are_not_all_named(self) -> None:
         source = "".join(f"int f{it}(void) {{ return 1; }}\n" for it in range(9))
-        slow = f"sleep 30; {_NOTHING}"
+        slow = _FOREVER
         with folder(a__c=source) as room:
             said = nalvegop("check", "--seconds", "2", "a.c", at=room, checker=program(room, slow))
             self.assertIn("a.c: no answer in time: f0, f1, f2, f3, f4 and 4 more (--verbose names all)", said.stderr)

@@ -10,7 +10,7 @@ import unittest
 from typing import Any
 from unittest import mock
 
-from nalvegop.processes import Ending, ran
+from nalvegop.processes import Allowance, Ending, ran
 
 _SIGNALS = (signal.SIGINT, signal.SIGTERM)
 
@@ -60,7 +60,7 @@ class Programs(unittest.TestCase):
 
     def test_what_a_program_started_is_ended_too(self) -> None:
         with self.assertRaises(subprocess.TimeoutExpired) as caught:
-            ran(["sh", "-c", "sleep 300 & echo $!; wait"], ".", 5)
+            ran(["sh", "-c", "sleep 300 & echo $!; wait"], ".", 0.5)
         number = int(caught.exception.stdout or b"0")
         self.assertGreater(number, 0)
         # (where the machine is busy it ends a little later, and whoever takes it over may not have seen it yet)
@@ -68,6 +68,30 @@ class Programs(unittest.TestCase):
         while state_of(number) not in ("Z", "X", "gone") and time.monotonic() < end:
             time.sleep(0.05)
         self.assertIn(state_of(number), ("Z", "X", "gone"))
+
+    def test_a_program_has_its_seconds_of_a_processor(self) -> None:
+        self.assertEqual(ran(["sleep", "2"], ".", 1).returncode, 0)
+        with mock.patch("nalvegop.processes.CLOCK", 1000), self.assertRaises(subprocess.TimeoutExpired) as caught:
+            ran(["sh", "-c", "echo begun; while :; do :; done"], ".", 0.5)
+        self.assertEqual((caught.exception.stdout, caught.exception.timeout), (b"begun\n", 0.5))
+
+    def test_a_program_that_waits_is_ended_by_the_clock(self) -> None:
+        begun = time.monotonic()
+        with self.assertRaises(subprocess.TimeoutExpired):
+            ran(["sleep", "300"], ".", 0.2)
+        self.assertGreaterEqual(time.monotonic() - begun, 2)
+
+    def test_a_program_that_is_killed_has_had_time(self) -> None:
+        self.assertEqual(ran(["sh", "-c", "kill -KILL $$"], ".", 1).returncode, -signal.SIGKILL)
+
+    def test_what_is_left_counts_a_processor(self) -> None:
+        given = Allowance(100)
+        time.sleep(0.5)
+        self.assertGreater(given.left, 99.8)
+        ran(["sh", "-c", "n=0; while [ $n -lt 100000 ]; do n=$((n + 1)); done"], ".", 50)
+        self.assertLess(given.left, 99.97)
+        self.assertFalse(given.is_over)
+        self.assertTrue(Allowance(0).is_over)
 
     def test_a_signal_waits_and_comes_once(self) -> None:
         self.ending.listen()

@@ -125,7 +125,7 @@ class Schema(unittest.TestCase):
 
     @needs_checker
     def test_logs_of_projects(self) -> None:
-        for name in ("words", "port", "header", "cleanup"):
+        for name in ("words", "port", "header", "cleanup", "missing"):
             said = nalvegop("check", "-p", ".", "--format", "sarif", at=os.path.join(PROJECTS, name))
             self.assertEqual(self.faults(json.loads(said.stdout)), [], name)
 
