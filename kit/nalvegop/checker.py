@@ -3,15 +3,13 @@
 from __future__ import annotations
 
 import os
-import re
 import subprocess
 import tempfile
 from collections.abc import Mapping, Sequence
 from dataclasses import dataclass
-from functools import lru_cache
 
 from .processes import ran
-from .verdicts import Verdicts, read_json, read_text
+from .verdicts import Verdicts, read_json
 
 TOP = os.path.dirname(os.path.dirname(os.path.dirname(os.path.abspath(__file__))))
 # A program to run in place of the one that bin/saturn_check finds.
@@ -44,16 +42,6 @@ def find_program(is_unproved: bool) -> str:
     return said.stdout.strip()
 
 
-@lru_cache(maxsize=None)
-def writes_json(program: str) -> bool:
-    """Returns whether the program knows `--format json`."""
-    try:
-        said = subprocess.run([program, "--help"], stdin=subprocess.DEVNULL, capture_output=True, text=True, timeout=30, check=False)
-    except (OSError, subprocess.TimeoutExpired):
-        return False
-    return "--format" in said.stdout
-
-
 @dataclass(frozen=True)
 class Checker:
     """The program and the options with which it runs."""
@@ -71,17 +59,12 @@ class Checker:
                 it.write(text)
             words = [self.program, "--depth", str(self.depth), "--reach", str(self.reach), "--model", model]
             words += ["--machine", os.path.abspath(self.machine)] if self.machine else []
-            is_json = writes_json(self.program)
-            words += ["--format", "json"] if is_json else []
-            said = _ran([*words, "unit.c"], room, seconds)
+            said = _ran([*words, "--format", "json", "unit.c"], room, seconds)
         if said.returncode == 6:
             raise OutOfMemory("memory was refused")
         if said.returncode not in (0, 1):
             raise NotChecked(_why(said))
-        told = said.stdout.decode("latin-1")
-        if renamed:
-            told = re.sub(rf"\b(?:{'|'.join(renamed)})\b", lambda it: renamed[it[0]], told)
-        return (read_json if is_json else read_text)(told)
+        return read_json(said.stdout, renamed)
 
 
 def _ran(words: Sequence[str], folder: str, seconds: float) -> subprocess.CompletedProcess[bytes]:

@@ -3,6 +3,7 @@
 from __future__ import annotations
 
 import importlib
+import json
 import os
 import subprocess
 import sys
@@ -44,11 +45,50 @@ def folder(**files: str) -> Iterator[str]:
         yield room
 
 
+# What a check of nothing says.
+EMPTY = json.dumps({"format": "nalvegop verdicts", "version": 1, "functions": [], "notes": []})
+# What a script in Python that stands for saturn_check begins and ends with: it adds to `functions`.
+_BEGIN, _END = (
+    """\
+import json, sys, time
+text = open("unit.c").read()
+lines, functions = text.split("\\n"), []
+
+def place(line, column):
+    return {"line": line, "column": column}
+
+def event(line, column, kind, **more):
+    return {"place": place(line, column), "kind": kind, **more}
+
+def call(line, column, callee):
+    return event(line, column, "call", callee=callee)
+
+def function(name, line, column, entry, items=(), reports=()):
+    bits = [{"name": it, "type": "int"} for it in entry]
+    more = {"entry": bits, "items": [*items], "writes": [], "reports": [*reports]}
+    functions.append({"name": name, "place": place(line, column), "skipped": None, **more})
+
+""",
+    """
+print(json.dumps({"format": "nalvegop verdicts", "version": 1, "functions": functions, "notes": []}))
+""",
+)
+
+
 def program(room: str, text: str) -> str:
     """Writes a script that stands for saturn_check, and returns its path."""
+    return _script(room, f"#!/bin/sh\n{text}\n")
+
+
+def told_by(room: str, text: str) -> str:
+    """Writes a script in Python that stands for saturn_check and tells functions, and returns its path."""
+    return _script(room, f"#!{sys.executable} -IS\n{_BEGIN}{text}{_END}")
+
+
+def _script(room: str, text: str) -> str:
     path = os.path.join(room, "checker")
     with open(path, "w", encoding="utf-8") as it:
-        it.write(f"#!/bin/sh\n{text}\n")
+        it.write(text)
     os.chmod(path, 0o755)
     return path
 

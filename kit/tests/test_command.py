@@ -17,10 +17,9 @@ from typing import TypeVar
 from nalvegop.findings import Finding, one_of_each_array
 from nalvegop.lines import Place
 from nalvegop.show_html import coloured
-from tests.support import COMMAND, folder, nalvegop, needs_checker, program
+from tests.support import COMMAND, EMPTY, folder, nalvegop, needs_checker, program, told_by
 
-_EMPTY = "total functions 0 skipped 0 rows 0 reports 0"
-_NOTHING = f'case "$1" in --help) ;; *) echo "{_EMPTY}" ;; esac'
+_NOTHING = f"echo '{EMPTY}'"
 _LOST = "#include <stdlib.h>\nvoid lost(void)\n{\n\tvoid *p = malloc(1);\n}\n"
 
 
@@ -75,7 +74,8 @@ class Statuses(unittest.TestCase):
             ("exit 6", "memory was refused"),
             ('echo "saturn_check: unit.c:1:2: lexical" >&2; exit 2', "unit.c:1:2: lexical"),
             ("kill -SEGV $$", "signal 11"),
-            ("echo what", "not understood"),
+            ("echo what", "is not JSON"),
+            ('echo \'{"format": "nalvegop verdicts", "version": 2}\'', "this kit reads 'nalvegop verdicts', version 1"),
         ):
             with folder(a__c="int x;\n") as room:
                 said = nalvegop("check", "a.c", at=room, checker=program(room, text))
@@ -83,7 +83,7 @@ class Statuses(unittest.TestCase):
                 self.assertIn(why, said.stderr)
 
     def test_a_file_that_takes_too_long_is_named_and_the_others_go_on(self) -> None:
-        slow = f'case "$1" in --help) exit 0 ;; esac; grep -q slow unit.c && sleep 30; echo "{_EMPTY}"'
+        slow = f"grep -q slow unit.c && sleep 30; {_NOTHING}"
         with folder(a__c="int slow(void) { return 1; }\n", b__c="int quick(void) { return 1; }\n") as room:
             said = nalvegop("check", "--seconds", "3", "a.c", "b.c", at=room, checker=program(room, slow))
             self.assertEqual(said.returncode, 2)
@@ -92,7 +92,7 @@ class Statuses(unittest.TestCase):
 
     def test_a_slow_function_leaves_time_to_the_others(self) -> None:
         source = "int slow(void) { return 1; }\n" + "".join(f"int f{it}(void) {{ return 1; }}\n" for it in range(3))
-        text = f'case "$1" in --help) exit 0 ;; esac; grep -q slow unit.c && sleep 60; echo "{_EMPTY}"'
+        text = f"grep -q slow unit.c && sleep 60; {_NOTHING}"
         with folder(a__c=source) as room:
             said = nalvegop("check", "--seconds", "24", "--format", "json", "a.c", at=room, checker=program(room, text))
             self.assertEqual(json.loads(said.stdout)["files"][0]["late"], ["slow"])
@@ -100,25 +100,26 @@ class Statuses(unittest.TestCase):
     def test_a_function_that_is_slow_with_what_it_calls_is_answered_without(self) -> None:
         source = "int m;\nint helper(int n) { spin_unlock(&m); return n; }\nint caller(int n)\n{ spin_lock(&m);\n  helper(n);\n  spin_lock(&m); return 0; }\n"
         # (stands for the checker: it never ends on a text with both bodies; lines are counted from that of `int m;`)
-        text = f"""case "$1" in --help) exit 0 ;; esac
-            at=$(grep -n '^int m;' unit.c | cut -d: -f1)
-            grep -q '^int helper(int n) {{' unit.c && helper=1
-            if grep -q '^{{' unit.c; then
-              [ "$helper" ] && sleep 300
-              printf 'function caller at unit.c:%d:5\\n  entry n\\n  lock m\\n    1 U -> - !\\n  report double m\\n' $((at + 2))
-              printf '    choice 0\\n    %d:3 call spin_lock\\n    %d:3 call helper\\n' $((at + 3)) $((at + 4))
-              printf '    %d:3 call spin_lock\\n    %d:3 error m\\n' $((at + 5)) $((at + 5))
-            fi
-            [ "$helper" ] && printf 'function helper at unit.c:%d:5\\n  entry n\\n' $((at + 1))
-            echo '{_EMPTY}'"""
+        text = """
+at, has_body = lines.index("int m;") + 1, "int helper(int n) {" in text
+if any(it.startswith("{") for it in lines):
+    if has_body:
+        time.sleep(300)
+    row = {"entry": [True], "before": {"state": "U"}, "result": "none", "after": "error"}
+    events = [call(at + 3, 3, "spin_lock"), call(at + 4, 3, "helper"), call(at + 5, 3, "spin_lock"), event(at + 5, 3, "error")]
+    report = {"kind": "double", "path": {"text": "m"}, "runs": [{"choice": "0", "location": "m", "events": events}]}
+    function("caller", at + 2, 5, ["n"], [{"item": "state", "path": {"text": "m"}, "rows": [row]}], [report])
+if has_body:
+    function("helper", at + 1, 5, ["n"])
+"""
         with folder(a__c=source) as room:
-            words = "check", "--seconds", "12", "--models", "none", "a.c"
-            said = nalvegop("check", "--format", "json", *words[1:], at=room, checker=program(room, text))
+            words = "check", "--seconds", "36", "--models", "none", "a.c"
+            said = nalvegop("check", "--format", "json", *words[1:], at=room, checker=told_by(room, text))
             file = json.loads(said.stdout)["files"][0]
             self.assertEqual((said.returncode, file["late"], file["analysed"]), (1, [], ["helper", "caller"]))
             self.assertEqual(file["without_calls"], [{"function": "caller", "calls": ["helper"]}])
             self.assertEqual(file["findings"][0]["unsure"], ["what 'helper' does is not followed"])
-            said = nalvegop(*words, "--strict", at=room, checker=program(room, text))
+            said = nalvegop(*words, "--strict", at=room, checker=told_by(room, text))
             self.assertEqual(said.returncode, 2)
             self.assertIn("a.c: without what they call, for want of time: caller\n", said.stderr)
             self.assertIn("2 functions analysed in 1 file, 1 of them without what they call, for want of time", said.stderr)
@@ -126,15 +127,17 @@ class Statuses(unittest.TestCase):
     def test_a_leak_that_may_be_none_is_looked_for_once_more(self) -> None:
         source = "int m;\nvoid clear(int **p) { free(*p); m = 1; }\nvoid f(void)\n{ int *q;\n  q = malloc(4);\n  clear(&q); }\n"
         # (stands for the checker: it refuses the text in which `clear` has no body)
-        text = f"""case "$1" in --help) exit 0 ;; esac
-            grep -q 'free(\\*p)' unit.c || exit 2
-            at=$(grep -n '^int m;' unit.c | cut -d: -f1)
-            printf 'function clear at unit.c:%d:6\\n  entry p\\n' $((at + 1))
-            printf 'function f at unit.c:%d:6\\n  entry -\\n  exits\\n    - -> -\\n  report leak %d:7\\n    choice 0\\n' $((at + 2)) $((at + 4))
-            printf '    %d:7 call malloc\\n    %d:3 call clear\\n    %d:14 end\\n' $((at + 4)) $((at + 5)) $((at + 5))
-            echo '{_EMPTY}'"""
+        text = """
+if "free(*p)" not in text:
+    sys.exit(2)
+at = lines.index("int m;") + 1
+events = [call(at + 4, 7, "malloc"), call(at + 5, 3, "clear"), event(at + 5, 14, "end")]
+ends = {"item": "end", "rows": [{"entry": [], "before": None, "result": "none", "after": None}]}
+function("clear", at + 1, 6, ["p"])
+function("f", at + 2, 6, [], [ends], [{"kind": "leak", "place": place(at + 4, 7), "runs": [{"choice": "0", "location": "", "events": events}]}])
+"""
         with folder(a__c=source) as room:
-            said = nalvegop("check", "--models", "none", "--format", "json", "a.c", at=room, checker=program(room, text))
+            said = nalvegop("check", "--models", "none", "--format", "json", "a.c", at=room, checker=told_by(room, text))
             file = json.loads(said.stdout)["files"][0]
             self.assertEqual((said.returncode, file["failure"]), (1, None))
             self.assertEqual(file["findings"][0]["unsure"], ["'clear' may have freed it or given it away"])
@@ -147,7 +150,7 @@ class Statuses(unittest.TestCase):
 
     def test_many_functions_without_an_answer_are_not_all_named(self) -> None:
         source = "".join(f"int f{it}(void) {{ return 1; }}\n" for it in range(9))
-        slow = f'case "$1" in --help) exit 0 ;; esac; sleep 30; echo "{_EMPTY}"'
+        slow = f"sleep 30; {_NOTHING}"
         with folder(a__c=source) as room:
             said = nalvegop("check", "--seconds", "2", "a.c", at=room, checker=program(room, slow))
             self.assertIn("a.c: no answer in time: f0, f1, f2, f3, f4 and 4 more (--verbose names all)", said.stderr)
@@ -156,13 +159,13 @@ class Statuses(unittest.TestCase):
             self.assertEqual(nalvegop("explain", "--seconds", "2", "a.c:1", at=room, checker=program(room, slow)).returncode, 2)
 
     def test_files_side_by_side_are_shown_in_their_order(self) -> None:
-        late = f'case "$1" in --help) exit 0 ;; esac; grep -q first unit.c && sleep 1; echo "note unit.c:1:1 unsupported float"; echo "{_EMPTY}"'
+        late = f"grep -q first unit.c && sleep 1; {_NOTHING}"
         with folder(a__c="int first(void) { return 1; }\n", b__c="int x;\n", c__c="int y;\n") as room:
             said = nalvegop("check", "-j", "3", "--format", "json", "a.c", "b.c", "c.c", at=room, checker=program(room, late))
             self.assertEqual([it["file"] for it in json.loads(said.stdout)["files"]], ["a.c", "b.c", "c.c"])
 
     def test_what_runs_is_ended_with_the_command(self) -> None:
-        slow = 'case "$1" in --help) exit 0 ;; esac; echo $$ >>"$PIDS"; exec sleep 300'
+        slow = 'echo $$ >>"$PIDS"; exec sleep 300'
         for number, jobs in ((signal.SIGTERM, "1"), (signal.SIGTERM, "2"), (signal.SIGINT, "2")):
             with folder(a__c="int f(void) { return 1; }\n", b__c="int f(void) { return 1; }\n") as room:
                 pids = os.path.join(room, "pids")
@@ -198,7 +201,7 @@ class Statuses(unittest.TestCase):
             self.assertEqual(nalvegop("check", "-p", "missing.json", at=room, checker=checker).returncode, 2)
 
     def test_as_the_checker_of_the_kernels_make(self) -> None:
-        echo = 'case "$1" in --help) exit 0 ;; esac; grep -q "int given" unit.c || exit 6; echo "' + _EMPTY + '"'
+        echo = f'grep -q "int given" unit.c || exit 6; {_NOTHING}'
         with folder(a__c="NAME int f(void) { return given; }\n") as room:
             said = nalvegop(
                 "sparse",

@@ -1,4 +1,4 @@
-"""Verdicts: the text of a check, and the JSON of the same check, give the same."""
+"""Verdicts: what is read of the JSON of a check."""
 
 from __future__ import annotations
 
@@ -7,44 +7,8 @@ import unittest
 from typing import Any
 
 from nalvegop.reasons import Reason, words_of
-from nalvegop.verdicts import At, NotVerdicts, Verdicts, read_json, read_text
-
-TEXT = """\
-note unit.c:1:5 unsupported float
-function enter at unit.c:6:13
-  entry lock
-  exits
-    1 -> -
-  lock *lock
-    1 U -> - L
-    1 L -> - !
-function odd at unit.c:9:6
-  skipped unsupported float 9:20
-function many at unit.c:10:6
-  skipped limit nodes 4097
-function serve at unit.c:11:6
-  entry -
-  exits no
-  param p
-    - -> 0 freed
-  out p
-    - -> - same
-  writes *p
-  report leak 13:24
-    choice d4
-    13:24 call kmalloc
-    14:2 call *
-    15:9 switch -3
-    16:9 if 1
-    17:1 loop 0
-    18:1 goto out
-    19:17 return
-  report inner call@13:24->lock
-    choice none
-    13:24 call kmalloc
-    20:1 error call@13:24->lock
-total functions 4 skipped 2 rows 5 reports 2
-"""
+from nalvegop.verdicts import At, Event, Function, Item, NotVerdicts, Report, Row, Run, Skip, Verdicts, read_json
+from tests.support import EMPTY
 
 
 def _place(line: int, column: int) -> dict[str, Any]:
@@ -122,27 +86,74 @@ VALUE: dict[str, Any] = {
 }
 
 
-class Reading(unittest.TestCase):
-    def test_text_and_json_give_the_same(self) -> None:
-        self.assertEqual(read_text(TEXT), read_json(json.dumps(VALUE)))
+_READ_EVENTS = [
+    Event(At(13, 24), "call", "kmalloc"),
+    Event(At(14, 2), "call", "*"),
+    Event(At(15, 9), "switch", "-3"),
+    Event(At(16, 9), "if", "1"),
+    Event(At(17, 1), "loop", "0"),
+    Event(At(18, 1), "goto", "out"),
+    Event(At(19, 17), "return"),
+]
+_READ = Verdicts(
+    [
+        Function(
+            "enter",
+            At(6, 13),
+            entry=["lock"],
+            items=[Item("end", "", [Row("1", None, "-", None)]), Item("state", "*lock", [Row("1", "U", "-", "L"), Row("1", "L", "-", "!")])],
+        ),
+        Function("odd", At(9, 6), Skip("unsupported", "float", At(9, 20))),
+        Function("many", At(10, 6), Skip("limit", "nodes", None, 4097)),
+        Function(
+            "serve",
+            At(11, 6),
+            items=[Item("end", "", []), Item("param", "p", [Row("", None, "0", "freed")]), Item("out", "p", [Row("", None, "-", "same")])],
+            writes=["*p"],
+            reports=[
+                Report("leak", "", At(13, 24), [Run("d4", _READ_EVENTS)]),
+                Report("inner", "call@13:24->lock", None, [Run("none", [_READ_EVENTS[0], Event(At(20, 1), "error", "call@13:24->lock")])]),
+            ],
+        ),
+    ],
+    [Skip("unsupported", "float", At(1, 5))],
+)
 
-    def test_what_the_text_says(self) -> None:
-        found = read_text(TEXT)
-        self.assertEqual([it.name for it in found.functions], ["enter", "odd", "many", "serve"])
+
+class Reading(unittest.TestCase):
+    maxDiff = None
+
+    def test_all_that_a_check_says(self) -> None:
+        found = read_json(json.dumps(VALUE))
+        self.assertEqual(found, _READ)
         self.assertEqual([Reason(words_of(it.skip)).text for it in found.functions if it.skip], ["floating point", "too large"])
-        self.assertEqual(found.functions[3].reports[0].at, At(13, 24))
-        self.assertEqual(found.functions[3].reports[0].runs[0].events[2].word, "-3")
+
+    def test_members_that_are_not_known(self) -> None:
+        more = {**VALUE, "functions": [{**it, "asides": [{}]} for it in VALUE["functions"]], "says": 1}
+        self.assertEqual(read_json(json.dumps(more)), _READ)
+
+    def test_names_that_stand_for_others(self) -> None:
+        renamed = {"lock": "mutex", "kmalloc": "list", "U": "t", "kind": "held", "p": "end", "out": "name"}
+        event = Event(At(20, 1), "error", "call@13:24->mutex")
+        enter, _, _, serve = read_json(json.dumps(VALUE), renamed).functions
+        self.assertEqual((enter.entry, enter.items[1]), (["mutex"], Item("state", "*mutex", [Row("1", "U", "-", "L"), Row("1", "L", "-", "!")])))
+        self.assertEqual([(it.what, it.name) for it in serve.items], [("end", ""), ("param", "end"), ("out", "end")])
+        self.assertEqual(serve.writes, ["*end"])
+        events = [event, Event(At(13, 24), "call", "list"), Event(At(18, 1), "goto", "name")]
+        leak, inner = serve.reports
+        self.assertEqual([inner.runs[0].events[1], leak.runs[0].events[0], leak.runs[0].events[5]], events)
+        self.assertEqual((leak.kind, inner.kind, inner.about), ("leak", "inner", "call@13:24->mutex"))
 
     def test_nothing(self) -> None:
-        self.assertEqual(read_text("total functions 0 skipped 0 rows 0 reports 0\n"), Verdicts())
+        self.assertEqual(read_json(EMPTY), Verdicts())
 
     def test_other_texts_are_refused(self) -> None:
-        for text in ("", "function f at a.c:1:1\n", TEXT[:-60], "total\n"):
-            with self.assertRaises(NotVerdicts):
-                read_text(text)
-        for text in ("", "{}", "[]", json.dumps({**VALUE, "version": 2})):
-            with self.assertRaises(NotVerdicts):
+        lacking: dict[str, Any] = {**VALUE, "functions": [{**_SERVE, "reports": [{"kind": "leak"}]}]}
+        for text in ("", "{}", "[]", "total functions 0 skipped 0 rows 0 reports 0\n", json.dumps(lacking)):
+            with self.assertRaisesRegex(NotVerdicts, "is not JSON of the form"):
                 read_json(text)
+        with self.assertRaisesRegex(NotVerdicts, "'nalvegop verdicts', version 2, and this kit reads 'nalvegop verdicts', version 1"):
+            read_json(json.dumps({**VALUE, "version": 2}))
 
 
 if __name__ == "__main__":

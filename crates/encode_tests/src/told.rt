@@ -89,10 +89,15 @@ pub fn which_hold(values: &[bool], gates: &[Gate]) -> Option<(usize, usize)> {
     Some((count, last))
 }
 
-// Whether the gates tell which locations a run has touched.
-fn are_touched(values: &[bool], touched: &[Gate], slots: &[Slot]) -> bool {
-    for (gate, slot) in touched.iter().zip(slots) {
-        if holds(values, *gate) != Some(slot.marks.touched) {
+// Whether the gates tell of a location that a step ended the run, which had touched it then.
+fn is_touched(values: &[bool], fates: &Fates, touched: Gate) -> Option<bool> {
+    Some(holds(values, fates.stopped)? && holds(values, touched)?)
+}
+
+// Whether the gates tell which locations a run has touched that a step ended.
+fn are_touched(values: &[bool], fates: &Fates, slots: &[Slot]) -> bool {
+    for (gate, slot) in fates.touched.as_slice().iter().zip(slots) {
+        if is_touched(values, fates, *gate) != Some(slot.marks.touched) {
             return false;
         }
     }
@@ -102,15 +107,15 @@ fn are_touched(values: &[bool], touched: &[Gate], slots: &[Slot]) -> bool {
 // Whether no run ended before the function does, nor at a location.
 fn none_ended(values: &[bool], fates: &Fates) -> bool {
     holds(values, fates.over) == Some(false)
+        && holds(values, fates.stopped) == Some(false)
         && which_hold(values, fates.bads.as_slice()) == Some((0, 0))
-        && which_hold(values, fates.touched.as_slice()) == Some((0, 0))
 }
 
 // Whether the run ended by an error at that location and at no other.
 fn erred_at(values: &[bool], fates: &Fates, at: u32, slots: &[Slot]) -> bool {
     holds(values, fates.over) == Some(true)
         && which_hold(values, fates.bads.as_slice()) == Some((1, at as usize))
-        && are_touched(values, fates.touched.as_slice(), slots)
+        && are_touched(values, fates, slots)
 }
 
 // Whether the run was set aside.

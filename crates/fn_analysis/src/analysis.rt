@@ -165,7 +165,8 @@ fn of_body<'p>(
 }
 
 /// The verdict of the function with that number, whose kept callees these are, ascending, with the verdict of each: its
-/// skip; or its summary and its reports, by trying every choice. A number that no function has is answered by a skip.
+/// skip; or its summary and its reports. They are found by gates and a solver, and by trying every choice where a function has
+/// no gates. A number that no function has is answered by a skip.
 #[tactic(auto, unfolding(sc_gather::specs::Seen::source_of, sc_world::specs::Programs::source_by))]
 pub fn analyse<'p>(
     alloc: Global,

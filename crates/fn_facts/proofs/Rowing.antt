@@ -3,7 +3,7 @@ use Rattle.std.proofs.Common.{◌≡◌, ℕ, nat_eq, Bool, true, false, ◌&&�
 use Rattle.std.specs.Prelude.{Result, Ok, Err}
 use Rattle.bit_net.specs.declared.nodes.Gate.{Gate}
 use Rattle.bit_net.specs.declared.nodes.Node.{Node}
-use Rattle.bit_net.specs.Runs.{Runs, Grown, Gives, Always}
+use Rattle.bit_net.specs.Runs.{Runs, Grown, Gives}
 use Rattle.bit_words.specs.Number.{number}
 use Rattle.run_store.specs.Concrete.{Cell}
 use Rattle.sum_rows.specs.declared.row.Row.{Row}
@@ -192,17 +192,4 @@ row_shown a n1 n2 n3 ns at b x e y g r g1 g2 g3 sb sx se gy gives =
           ∙ (ap (λ c. v b && c) (gy.value (bit_at bits) v r3) ∙ (ap (λ c. c && (v x || v e)) (sb.value bits v s w r1 t)
           ∙ (ap (λ c. begins o at r && (c || v e)) (sx.value bits v s w r2 t)
           ∙ (ap (λ c. begins o at r && ((exits o && ends_so o at r) || c)) (se.value bits v s w r2 t) ∙ lock_row o at r)))));
-    }
-
--- what never begins is no row
-pub never_row : (a : Around) (ns : List Node) (at b : ℕ) (r : Row) → Always ns (λ choice v. v b ≡ false) → Shows a ns (λ o. begins o at r) b
-    → Shows a ns (λ o. has_lock_row o at r) b
-never_row a ns at b r never s =
-    record {
-      below = s.below;
-      value = λ bits v e w runs t.
-          (let o = over a bits e w in
-          let none = never.holds (bit_at bits) v runs in
-          none ∙ (ap (λ c. c && ((exits o && ends_so o at r) || (errs_at e at && is_bad_row r))) (sym none ∙ s.value bits v e w runs t)
-          ∙ lock_row o at r));
     }

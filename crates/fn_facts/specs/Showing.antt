@@ -20,7 +20,8 @@ use Rattle.flow_ends.specs.Fates.{AreFates}
 use Rattle.flow_ends.specs.Encoded.{TellsRun}
 use Rattle.error_laws.specs.Errors.{IsErrorOf}
 use Rattle.fn_facts.specs.declared.around.Around.{Around}
-use Rattle.fn_facts.specs.Seen.{over, bits_from, given}
+use Rattle.fn_facts.specs.declared.shared.Shared.{Shared}
+use Rattle.fn_facts.specs.Seen.{over, bits_from, errs_known, given}
 
 -- the runs of a function end by errors at its locations alone
 pub record HasErrorsOf (s : Source) (p : Layout) : Type 0 where
@@ -71,6 +72,12 @@ pub record ShowsNumberAtExit (a : Around) (ns : List Node) (of : Over → ℕ) (
 pub record IsTruth (ns : List Node) (val : Val) (gate : ℕ) : Type 0 where
   pub below : gate < length ns
   pub value : (choice v : ℕ → Bool) → Runs ns choice v → (c : Cell) → Meets v val c → v gate ≡ is_true c
+
+-- what all rows of a function read
+pub record AreShared (a : Around) (ns : List Node) (s : Shared) : Type 0 where
+  pub given : ShowsNumber a ns given s.given.bits.items
+  pub truth : IsTruth ns a.encoded.now.result s.truth.at
+  pub known : Shows a ns (λ o. errs_known o.ended) s.known.at
 
 -- the bits of the parameters before the one with number k, where those of types ts are left
 pub record BitsSoFar (a : Around) (ns : List Node) (k : ℕ) (ts : List Ty) (word : List Gate) : Type 0 where

@@ -10,7 +10,7 @@ ghost use Rattle.fn_facts.specs.Seen as seen;
 ghost use Rattle.fn_facts.specs.Showing.{IsReady, Shows};
 
 use crate::around::{Around, count, param_object};
-use crate::ends::{ends_at, errs_known, gate_or_never};
+use crate::ends::{ends_at, gate_or_never};
 use crate::joining::at_exit;
 use crate::marks::has;
 use bit_net::{Gate, Net, OutOfMemory};
@@ -19,9 +19,10 @@ use run_store::Flag;
 use std::alloc::Global;
 
 /// Holds where the run touches a location, and comes to the function's end or to an error that the caller knows. `OutOfMemory` comes also
-/// where there is no location with that number.
-pub fn touches(around: &Around, net: &mut Net, at: u32) -> Result<Gate, OutOfMemory>
+/// where there is no location with that number. `known` holds where the run ends by such an error.
+pub fn touches(around: &Around, net: &mut Net, known: Gate, at: u32) -> Result<Gate, OutOfMemory>
     requires ready { IsReady around.now net.old }
+    requires known { Shows around.now net.old (λ o. seen.errs_known o.ended) known.at }
     ensures grown { Grown net.old net.new }
     ensures ok { IfOk result (λ r. Shows around.now net.new (λ o. spec.is_rowed o.ended && spec.has o flags.Touched at) r.at) }
 {
@@ -30,7 +31,6 @@ pub fn touches(around: &Around, net: &mut Net, at: u32) -> Result<Gate, OutOfMem
     }
     let marked = has(around, net, Flag::Touched, at);
     let exits = at_exit(around, net, marked)?;
-    let known = errs_known(around, net)?;
     let fates = &around.encoded.fates;
     let noted = gate_or_never(net, fates.touched.as_slice(), at);
     let touched = net.and(fates.stopped, noted)?;

@@ -10,7 +10,7 @@ ghost use Rattle.sc_world.specs.Tree as tree;
 ghost use Rattle.sc_world.specs.World as worlds;
 ghost use Rattle.run_world.specs.Seen.{env};
 ghost use Rattle.fn_facts.specs.Seen as seen;
-ghost use Rattle.fn_facts.specs.Showing.{IsReady, IsTruth, ShowsAtExit};
+ghost use Rattle.fn_facts.specs.Showing.{IsTruth, ShowsAtExit};
 
 use crate::around::Around;
 use bit_net::{Gate, Net, OutOfMemory};
@@ -65,29 +65,39 @@ pub fn gives_pointer(around: &Around) -> bool
 
 // Holds where a function that gives a number or a pointer gives this.
 #[tactic(auto, using(crate::proofs::Truths::gift_laws))]
-fn gives_such(around: &Around, net: &mut Net, wanted: Gives) -> Result<Gate, OutOfMemory>
-    requires ready { IsReady around.now net.old }
+fn gives_such(
+    around: &Around,
+    net: &mut Net,
+    truth: Gate,
+    wanted: Gives,
+) -> Result<Gate, OutOfMemory>
+    requires truth { IsTruth net.old around.now.encoded.now.result truth.at }
     requires cell { seen.has_bit (env around.now.here).source.result ≡ true }
     ensures grown { Grown net.old net.new }
     ensures ok { IfOk result (λ r. ShowsAtExit around.now net.new (λ o. known.same_gives wanted (spec.result o)) r.at) }
 {
-    let not_zero = is_true(net, &around.encoded.result)?;
+    let _encoded = around.encoded;
     match wanted {
         Gives::Nothing => Ok(net.constant(false)),
-        Gives::Zero => net.not(not_zero),
-        Gives::NotZero => Ok(not_zero),
+        Gives::Zero => net.not(truth),
+        Gives::NotZero => Ok(truth),
     }
 }
 
-/// Holds where a run that comes to the function's end gives this.
+/// Holds where a run that comes to the function's end gives this. `truth` holds where what it gives is neither 0 nor null.
 #[tactic(auto, using(crate::proofs::Truths::gift_laws))]
-pub fn gives(around: &Around, net: &mut Net, wanted: Gives) -> Result<Gate, OutOfMemory>
-    requires ready { IsReady around.now net.old }
+pub fn gives(
+    around: &Around,
+    net: &mut Net,
+    truth: Gate,
+    wanted: Gives,
+) -> Result<Gate, OutOfMemory>
+    requires truth { IsTruth net.old around.now.encoded.now.result truth.at }
     ensures grown { Grown net.old net.new }
     ensures ok { IfOk result (λ r. ShowsAtExit around.now net.new (λ o. known.same_gives wanted (spec.result o)) r.at) }
 {
     if gives_cell(around) {
-        gives_such(around, net, wanted)
+        gives_such(around, net, truth, wanted)
     } else {
         Ok(net.constant(matches!(wanted, Gives::Nothing)))
     }

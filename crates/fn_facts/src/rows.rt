@@ -7,7 +7,7 @@ ghost use Rattle.sum_rows.specs.declared.row.Gives.TheVariants as gifts;
 ghost use Rattle.sc_world.specs.Known as known;
 ghost use Rattle.sc_world.specs.Shows as spec;
 ghost use Rattle.fn_facts.specs.Seen as seen;
-ghost use Rattle.fn_facts.specs.Showing.{IsReady, Shows, ShowsAtExit, ShowsNumber};
+ghost use Rattle.fn_facts.specs.Showing.{IsReady, IsTruth, Shows, ShowsAtExit, ShowsNumber};
 
 use crate::around::Around;
 use crate::ends::errs_at;
@@ -16,7 +16,6 @@ use crate::joining::{at_exit, both, either};
 use crate::numbers::{is_state, number_is, state_before, state_now};
 use crate::results::gives;
 use bit_net::{Gate, Net, OutOfMemory};
-use gl_sets::is_never;
 use sum_rows::{Gives, Row, State};
 
 /// Holds where a row of a location begins so: with these entry bits and from this state, no pointer on the path of the location being
@@ -42,13 +41,21 @@ pub fn begins(
     Ok(begins)
 }
 
-// Holds where a run that comes to the function's end has a row that ends so.
-fn ends_so(around: &Around, net: &mut Net, at: u32, row: Row) -> Result<Gate, OutOfMemory>
+/// Holds where the run comes to the function's end, and a row of a location ends so: with what it gives, and with this state. What the row
+/// begins with is not read. `truth` holds where what the function gives is neither 0 nor null.
+pub fn ends_so(
+    around: &Around,
+    net: &mut Net,
+    truth: Gate,
+    at: u32,
+    row: Row,
+) -> Result<Gate, OutOfMemory>
     requires ready { IsReady around.now net.old }
+    requires truth { IsTruth net.old around.now.encoded.now.result truth.at }
     ensures grown { Grown net.old net.new }
     ensures ok { IfOk result (λ r. Shows around.now net.new (λ o. spec.exits o && seen.ends_so o at row) r.at) }
 {
-    let gives = gives(around, net, row.result)?;
+    let gives = gives(around, net, truth, row.result)?;
     let to = is_state(net, state_now(around, net, at), row.after)?;
     let change = net.and(gives, to)?;
     let ends = at_exit(around, net, change)?;
@@ -78,25 +85,23 @@ fn errs_so(around: &Around, net: &Net, at: u32, row: Row) -> Gate
     }
 }
 
-/// Holds where the run has that row of a location. `begins` holds where the row begins so.
+/// Holds where the run has that row of a location. `begins` holds where the row begins so, and `ends` where it ends so.
 pub fn has_lock_row(
     around: &Around,
     net: &mut Net,
     begins: Gate,
+    ends: Gate,
     at: u32,
     row: Row,
 ) -> Result<Gate, OutOfMemory>
     requires ready { IsReady around.now net.old }
     requires begins { Shows around.now net.old (λ o. seen.begins o at row) begins.at }
+    requires ends { Shows around.now net.old (λ o. spec.exits o && seen.ends_so o at row) ends.at }
     ensures grown { Grown net.old net.new }
     ensures ok { IfOk result (λ r. Shows around.now net.new (λ o. spec.has_lock_row o at row) r.at) }
 {
-    if is_never(net, begins) {
-        return Ok(begins);
-    }
-    let change = ends_so(around, net, at, row)?;
     let error = errs_so(around, net, at, row);
-    let ends = net.or(change, error)?;
-    let has = net.and(begins, ends)?;
+    let over = net.or(ends, error)?;
+    let has = net.and(begins, over)?;
     Ok(has)
 }

@@ -1,7 +1,8 @@
 -- Questions that are asked.
-use Rattle.std.proofs.Common.{◌≡◌, ◌⊎◌, ℕ, ◌<◌, ◌≤◌, ◌^◌, nat_eq, nat_lt, Bool, true, false, ◌&&◌, ◌||◌, List, length, map, Option, Some, None, inl, inr, refl, sym, ◌∙◌, ap, subst, arith}
+use Rattle.std.proofs.Common.{◌≡◌, ◌⊎◌, ℕ, ◌<◌, ◌≤◌, ◌^◌, nat_eq, nat_lt, Bool, true, false, ◌&&◌, ◌||◌, List, [], length, map, Option, Some, None, inl, inr, refl, sym, ◌∙◌, ap, subst, arith}
 use Rattle.std.specs.List.{list_all}
-use Rattle.std.specs.Prelude.{IfSome}
+use Rattle.std.specs.Prelude.{IfSome, All}
+use Rattle.std.proofs.lemmas.List.Elements.{All-nil, All-weaker}
 use Rattle.std.proofs.lemmas.Bool.{ltb-true}
 use Rattle.std.proofs.lemmas.List.Folds.{list_all-map}
 use Rattle.bit_net.specs.declared.nodes.Node.{Node}
@@ -21,22 +22,23 @@ use Rattle.sc_world.specs.Layout.{Layout, location, location_of, or_zero}
 use Rattle.sc_world.specs.World.{bit_at}
 use Rattle.sc_world.specs.Exec.{run}
 use Rattle.sc_world.specs.Shows as shows
-use Rattle.sc_world.specs.Shows.{Over, Query, exits, is_fate, has_out_row, has_param_row, param_object, says}
+use Rattle.sc_world.specs.Shows.{Over, Query, exits, is_fate, has_out_row, has_param_row, param_object, result, says}
 use Rattle.sc_world.specs.Verdict.{run_over}
 use Rattle.sum_rows.specs.declared.row.Row.{Row}
 use Rattle.sum_rows.specs.declared.row.State.TheVariants as state
-use Rattle.sc_world.specs.Known.{same_state}
+use Rattle.sc_world.specs.Known.{same_gives, same_state}
 use Rattle.fn_facts.specs.declared.around.Around.{Around}
-use Rattle.fn_facts.specs.Seen.{begins, given, is_given, is_met, over, state_before}
-use Rattle.fn_facts.specs.Showing.{HasErrorsOf, IsReady, Shows, ShowsNumber}
-use Rattle.fn_facts.proofs.Growing.{number_grows, ready_grows, shows_grows}
+use Rattle.fn_facts.specs.Seen.{begins, ends_so, given, is_given, is_met, over, state_before, state_now}
+use Rattle.fn_facts.specs.Showing.{AreShared, HasErrorsOf, IsReady, Shows}
+use Rattle.fn_facts.proofs.Growing.{ready_grows, shared_grows, shows_grows}
 use Rattle.fn_walks.specs.Seen.{fate}
 use Rattle.fn_walks.specs.declared.walking.Walk.{Walk}
 use Rattle.fn_walks.specs.Walks.{IsWalk}
 use Rattle.fn_walks.proofs.Reaching.{walk_grows}
 use Rattle.fn_questions.specs.declared.facts.Facts.{Facts}
 use Rattle.fn_questions.specs.declared.facts.Begun.{Begun}
-use Rattle.fn_questions.specs.Asking.{AreFacts, IsReadyToAsk, ShowsBegin, errs_at_locations}
+use Rattle.fn_questions.specs.declared.facts.Ended.{Ended}
+use Rattle.fn_questions.specs.Asking.{AreFacts, IsReadyToAsk, ShowsBegin, ShowsEnd, errs_at_locations}
 use Rattle.fn_questions.specs.Seen.{out_fate, row_with}
 
 -- What is known stays while the net grows.
@@ -49,13 +51,19 @@ walk_grows_if : (a : Around) (old new : List Node) (w : Option Walk) → Grown o
 walk_grows_if a old new None g s = s
 walk_grows_if a old new (Some w) g s = walk_grows a old new w g s
 
+ended_grow : (a : Around) (old new : List Node) (es : List Ended) → Grown old new → All (ShowsEnd a old) es → All (ShowsEnd a new) es
+ended_grow a old new es g all =
+    All-weaker (ShowsEnd a old) (ShowsEnd a new)
+    (λ e s. shows_grows a old new (λ o. exits o && ends_so o e.at e.row) e.gate.at g s) es all
+
 pub facts_grow : (old new : List Node) (f : Facts) → Grown old new → AreFacts old f → AreFacts new f
 facts_grow old new f g a =
     record {
       ready = ready_grows f.around old new g a.ready;
       objects = a.objects;
-      given = number_grows f.around old new given f.given.bits.items g a.given;
+      shared = shared_grows f.around old new f.shared g a.shared;
       begun = begun_grows f.around old new f.begun g a.begun;
+      ended = ended_grow f.around old new f.ended.items g a.ended;
       walk = walk_grows_if f.around old new f.walk g a.walk;
     }
 
@@ -75,6 +83,24 @@ begun_shown a ns b at row there same_given same_before s =
           s.value bits v r w runs t
           ∙ ap (λ k. begins (over a bits r w) k b.row) there
           ∙ begin_alike (over a bits r w) at b.row row same_given same_before;
+    }
+
+-- rows that end alike
+end_alike : (o : Over) (at : ℕ) (r s : Row) → r.result ≡ s.result → r.after ≡ s.after → ends_so o at r ≡ ends_so o at s
+unfolding ends_so
+end_alike o at r s same_gift same_after =
+    ap (λ g. same_gives g (result o) && same_state r.after (state.At (state_now o at))) same_gift
+    ∙ ap (λ x. same_gives s.result (result o) && same_state x (state.At (state_now o at))) same_after
+
+pub ended_shown : (a : Around) (ns : List Node) (e : Ended) (at : ℕ) (row : Row) → e.at ≡ at → e.row.result ≡ row.result → e.row.after ≡ row.after
+    → ShowsEnd a ns e → Shows a ns (λ o. exits o && ends_so o at row) e.gate.at
+ended_shown a ns e at row there same_gift same_after s =
+    record {
+      below = s.below;
+      value = λ bits v r w runs t.
+          (let o = over a bits r w in
+          s.value bits v r w runs t
+          ∙ ap (λ b. exits o && b) (ap (λ k. ends_so o k e.row) there ∙ end_alike o at e.row row same_gift same_after));
     }
 
 encoded_grows : (s : Source) (p : Layout) (old new : List Node) (e : Encoded) → Grown old new → IsEncoded s p old e → IsEncoded s p new e
@@ -172,12 +198,15 @@ no_walk a ns w none = subst (λ x. IfSome x (IsWalk a ns)) (sym none) tt
 nothing_begun : (a : Around) (ns : List Node) (b : Option Begun) → b ≡ None → IfSome b (ShowsBegin a ns)
 nothing_begun a ns b none = subst (λ x. IfSome x (ShowsBegin a ns)) (sym none) tt
 
+nothing_ended : (a : Around) (ns : List Node) (es : List Ended) → es ≡ [] → All (ShowsEnd a ns) es
+nothing_ended a ns es none = subst (All (ShowsEnd a ns)) (sym none) (All-nil (ShowsEnd a ns))
+
 pub new_ready : (f : Facts) (old new : List Node) → length f.around.here.places.now.locations.items < 2 ^ 32
     → (texts f.texts).layout ≡ (env f.around.here).layout
     → IsEncoded (env f.around.here).source (env f.around.here).layout old f.around.encoded.now → HasObjects (env f.around.here).layout
     → ErrsThere (env f.around.here).source (env f.around.here).layout
-    → Grown old new → ShowsNumber f.around new given f.given.bits.items → f.begun ≡ None → f.walk ≡ None → IsReadyToAsk new f
-new_ready f old new few same is objects errs grown number none none_walked =
+    → Grown old new → AreShared f.around new f.shared → f.begun ≡ None → f.ended.items ≡ [] → f.walk ≡ None → IsReadyToAsk new f
+new_ready f old new few same is objects errs grown made none none_ended none_walked =
     let s = (env f.around.here).source in
     let p = (env f.around.here).layout in
     let now = encoded_grows s p old new f.around.encoded.now grown is in
@@ -185,8 +214,9 @@ new_ready f old new few same is objects errs grown number none none_walked =
       facts = record {
         ready = made_ready f.around new few now;
         objects = objects;
-        given = number;
+        shared = made;
         begun = nothing_begun f.around new f.begun none;
+        ended = nothing_ended f.around new f.ended.items none_ended;
         walk = no_walk f.around new f.walk none_walked;
       };
       texts = same;

@@ -1,7 +1,8 @@
 //! The gate of every question.
 
-ghost use Rattle.std.specs.Prelude.{◌≡◌, IfOk, IsTrue, OnOk};
+ghost use Rattle.std.specs.Prelude.{◌≡◌, ◌&&◌, All, IfOk, IfSome, IsTrue, List, OnOk};
 ghost use Rattle.bit_net.specs.Runs.{Grown};
+ghost use Rattle.bit_net.specs.declared.nodes.Node.{Node};
 ghost use Rattle.flow_ends.specs.Encoded.{IsAnswer};
 ghost use Rattle.location_texts.specs.Seen as spelled;
 ghost use Rattle.run_questions.specs.Seen.{query};
@@ -9,13 +10,16 @@ ghost use Rattle.run_world.specs.Seen.{env};
 ghost use Rattle.sc_world.specs.Shows as spec;
 ghost use Rattle.fn_facts.specs.Seen as seen;
 ghost use Rattle.fn_facts.specs.Showing.{Shows};
-ghost use Rattle.fn_questions.specs.Asking.{AreFacts, HasWalk, IsReadyToAsk};
+ghost use Rattle.fn_facts.specs.declared.around.Around.{Around};
+ghost use Rattle.fn_questions.specs.Asking.{AreFacts, HasWalk, IsReadyToAsk, ShowsEnd};
 
-use crate::facts::{Begun, Facts};
+use crate::facts::{Begun, Ended, Facts};
 use crate::kinds::{cell_from, result_from};
 use crate::rows::{Pointed, has_changed, has_exit_row, has_out_row, has_param_row};
 use bit_net::{Gate, Net, OutOfMemory};
-use fn_facts::{begins, ends_at, ends_at_text, has_lock_row, param_object, sets, touches, writes};
+use fn_facts::{
+    begins, ends_at, ends_at_text, ends_so, has_lock_row, param_object, sets, touches, writes,
+};
 use fn_walks::{Beside, From, Walk, escape_from, loses, loss_from, walked};
 use run_questions::Query;
 use sc_base::Pos;
@@ -38,6 +42,27 @@ fn is_from(walk: &Walk, from: From) -> bool
     ensures { IsTrue result → walk.now.from ≡ from }
 {
     walk.from.result == from.result && is_beside(walk.from.beside, from.beside)
+}
+
+// The gate of the end of a row of a location, if it is among these.
+fn known_end(ended: &[Ended], at: u32, row: Row) -> Option<Gate>
+    ensures { (a : Around) (ns : List Node) → All (ShowsEnd a ns) ended.now
+        → IfSome result (λ g. Shows a ns (λ o. spec.exits o && seen.ends_so o at row) g.at) }
+{
+    for end in ended {
+        if end.is_end_of(at, row) {
+            return Some(end.gate);
+        }
+    }
+    None
+}
+
+// Whether these are ends of rows of that location, as far as the first one tells.
+fn is_of(ended: &[Ended], at: u32) -> bool {
+    match ended.first() {
+        Some(end) => end.at == at,
+        None => true,
+    }
 }
 
 impl<'p, 'm, 'f> Facts<'p, 'm, 'f> {
@@ -73,7 +98,10 @@ impl<'p, 'm, 'f> Facts<'p, 'm, 'f> {
     {
         self.keep_walk(net, result_from())?;
         match &self.walk {
-            Some(walk) => has_exit_row(&self.around, net, &self.given, walk, row),
+            Some(walk) => {
+                let exits = has_exit_row(&self.around, net, &self.shared, walk, row)?;
+                Ok(exits)
+            }
             None => Err(OutOfMemory),
         }
     }
@@ -92,9 +120,29 @@ impl<'p, 'm, 'f> Facts<'p, 'm, 'f> {
         {
             return Ok(begun.gate);
         }
-        let given = self.given.bits.as_slice();
+        let given = self.shared.given.bits.as_slice();
         let gate = begins(&self.around, net, given, at, row)?;
         self.begun = Some(Begun { at, row, gate });
+        Ok(gate)
+    }
+
+    // Holds where the run comes to the function's end, and a row of a location ends so. What was asked for of one location is kept.
+    fn ends(&mut self, net: &mut Net, at: u32, row: Row) -> Result<Gate, OutOfMemory>
+        requires facts { AreFacts net.old self.old }
+        ensures grown { Grown net.old net.new }
+        ensures facts { AreFacts net.new self.new }
+        ensures around { self.new.around ≡ self.old.around }
+        ensures texts { self.new.texts ≡ self.old.texts }
+        ensures ok { IfOk result (λ r. Shows self.old.around net.new (λ o. spec.exits o && seen.ends_so o at row) r.at) }
+    {
+        if let Some(gate) = known_end(self.ended.as_slice(), at, row) {
+            return Ok(gate);
+        }
+        let gate = ends_so(&self.around, net, self.shared.truth, at, row)?;
+        if !is_of(self.ended.as_slice(), at) {
+            self.ended = Vec::new(net.alloc());
+        }
+        self.ended.push(Ended { at, row, gate })?;
         Ok(gate)
     }
 
@@ -108,7 +156,8 @@ impl<'p, 'm, 'f> Facts<'p, 'm, 'f> {
         ensures ok { IfOk result (λ r. Shows self.old.around net.new (λ o. spec.says (spelled.texts self.old.texts) o (spec.Locks at row)) r.at) }
     {
         let begins = self.begins(net, at, row)?;
-        let locks = has_lock_row(&self.around, net, begins, at, row)?;
+        let ends = self.ends(net, at, row)?;
+        let locks = has_lock_row(&self.around, net, begins, ends, at, row)?;
         Ok(locks)
     }
 
@@ -126,7 +175,10 @@ impl<'p, 'm, 'f> Facts<'p, 'm, 'f> {
         let from = escape_from(&self.around, object);
         self.keep_walk(net, from)?;
         match &self.walk {
-            Some(walk) => has_changed(&self.around, net, walk, object),
+            Some(walk) => {
+                let changes = has_changed(&self.around, net, walk, object)?;
+                Ok(changes)
+            }
             None => Err(OutOfMemory),
         }
     }
@@ -146,7 +198,10 @@ impl<'p, 'm, 'f> Facts<'p, 'm, 'f> {
         self.keep_walk(net, from)?;
         let param = Pointed { number, object };
         match &self.walk {
-            Some(walk) => has_param_row(&self.around, net, &self.given, walk, param, row),
+            Some(walk) => {
+                let params = has_param_row(&self.around, net, &self.shared, walk, param, row)?;
+                Ok(params)
+            }
             None => Err(OutOfMemory),
         }
     }
@@ -165,7 +220,10 @@ impl<'p, 'm, 'f> Facts<'p, 'm, 'f> {
         self.keep_walk(net, cell_from(object))?;
         let param = Pointed { number, object };
         match &self.walk {
-            Some(walk) => has_out_row(&self.around, net, &self.given, walk, param, row),
+            Some(walk) => {
+                let outs = has_out_row(&self.around, net, &self.shared, walk, param, row)?;
+                Ok(outs)
+            }
             None => Err(OutOfMemory),
         }
     }
@@ -182,7 +240,10 @@ impl<'p, 'm, 'f> Facts<'p, 'm, 'f> {
     {
         self.keep_walk(net, loss_from())?;
         match &self.walk {
-            Some(walk) => loses(&self.around, net, walk, pos),
+            Some(walk) => {
+                let leaks = loses(&self.around, net, walk, pos)?;
+                Ok(leaks)
+            }
             None => Err(OutOfMemory),
         }
     }
@@ -199,7 +260,7 @@ impl<'p, 'm, 'f> Facts<'p, 'm, 'f> {
     {
         match asked {
             Query::Exits(row) => self.exits(net, row),
-            Query::Touches(at) => touches(&self.around, net, at),
+            Query::Touches(at) => touches(&self.around, net, self.shared.known, at),
             Query::Locks(at, row) => self.locks(net, at, row),
             Query::Changes(n) => self.changes(net, n),
             Query::Params(n, row) => self.params(net, n, row),

@@ -10,9 +10,8 @@ ghost use Rattle.fn_questions.specs.Asking.{IsReadyToAsk, errs_at_locations as e
 
 use crate::erring::errs_at_locations;
 use bit_net::{Gate, Net, OutOfMemory};
-use bit_words::Word;
 use error_laws::errors_are_at_locations;
-use fn_facts::{Around, entry_number};
+use fn_facts::{Around, Shared};
 use fn_walks::Walk;
 use location_texts::Texts;
 use sum_rows::Row;
@@ -38,6 +37,27 @@ impl Begun {
     }
 }
 
+/// How a row of a location ends, as a gate.
+#[derive(Clone, Copy, Debug)]
+pub struct Ended {
+    pub at: u32,
+    pub row: Row,
+    /// Holds where the run comes to the function's end, and the row ends so.
+    pub gate: Gate,
+}
+
+impl Ended {
+    /// Whether a row of a location ends so.
+    pub fn is_end_of(&self, at: u32, row: Row) -> bool
+        ensures at { IsTrue result → self.now.at ≡ at }
+        ensures gives { IsTrue result → self.now.row.result ≡ row.result }
+        ensures after { IsTrue result → self.now.row.after ≡ row.after }
+        ensures all { self.now.at ≡ at → self.now.row.result ≡ row.result → self.now.row.after ≡ row.after → IsTrue result }
+    {
+        self.at == at && self.row.result == row.result && self.row.after == row.after
+    }
+}
+
 /// What is known of a function before questions are asked.
 #[derive(Drop)]
 pub struct Facts<'p, 'm, 'f> {
@@ -45,10 +65,12 @@ pub struct Facts<'p, 'm, 'f> {
     pub around: Around<'p, 'm, 'f>,
     /// What texts of locations read.
     pub texts: Texts<'p, 'f>,
-    /// The entry bits as a number.
-    pub given: Word,
+    /// What all rows read.
+    pub shared: Shared,
     /// How the row of a location begins that was asked for last: rows that begin alike are asked for one after the other.
     pub begun: Option<Begun>,
+    /// How rows of one location end, as far as they were asked for: many rows that begin otherwise end alike.
+    pub ended: Vec<Ended>,
     /// The walks over pointers that were asked for last: all rows of an item need the same ones.
     pub walk: Option<Walk>,
 }
@@ -74,12 +96,14 @@ impl<'p, 'm, 'f> Facts<'p, 'm, 'f> {
             return Ok(None);
         }
         errors_are_at_locations();
-        let given = entry_number(&around, net)?;
+        let shared = Shared::new(&around, net)?;
+        let ended = Vec::new(net.alloc());
         Ok(Some(Facts {
             around,
             texts,
-            given,
+            shared,
             begun: None,
+            ended,
             walk: None,
         }))
     }

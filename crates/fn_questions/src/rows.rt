@@ -7,15 +7,14 @@ ghost use Rattle.sc_world.specs.Shows as spec;
 ghost use Rattle.run_world.specs.Seen.{env};
 ghost use Rattle.walk_laws.specs.Objects.{HasObjects};
 ghost use Rattle.fn_facts.specs.Seen as facts;
-ghost use Rattle.fn_facts.specs.Showing.{Fact, IsReady, Shows, ShowsAtExit, ShowsNumber};
+ghost use Rattle.fn_facts.specs.Showing.{AreShared, Fact, IsReady, Shows, ShowsAtExit};
 ghost use Rattle.fn_walks.specs.Seen as walks;
 ghost use Rattle.fn_walks.specs.Walks.{IsWalk};
 ghost use Rattle.fn_questions.specs.Seen as seen;
 
 use crate::kinds::{is_nil, out_fate_is, result_kind_is};
 use bit_net::{Gate, Net, OutOfMemory};
-use bit_words::Word;
-use fn_facts::{Around, at_exit, gives, has, is_given, number_is};
+use fn_facts::{Around, Shared, at_exit, gives, has, is_given, number_is};
 use fn_walks::{Walk, fate_is, is_escaped};
 use run_store::Flag;
 use sum_rows::Row;
@@ -32,12 +31,12 @@ pub struct Pointed {
 fn row_with(
     around: &Around,
     net: &mut Net,
-    given: &Word,
+    shared: &Shared,
     row: Row,
     end: Gate,
 ) -> Result<Gate, OutOfMemory>
     requires ready { IsReady around.now net.old }
-    requires given { ShowsNumber around.now net.old facts.given given.now.bits.items }
+    requires shared { AreShared around.now net.old shared.now }
     requires end { end.at < length net.old }
     ensures grown { Grown net.old net.new }
     ensures below { IfOk result (λ r. r.at < length net.new) }
@@ -47,8 +46,8 @@ fn row_with(
     if !is_nil(row.before) {
         return Ok(net.constant(false));
     }
-    let entered = number_is(net, given.bits.as_slice(), row.given)?;
-    let given_so = gives(around, net, row.result)?;
+    let entered = number_is(net, shared.given.bits.as_slice(), row.given)?;
+    let given_so = gives(around, net, shared.truth, row.result)?;
     let ends = net.and(given_so, end)?;
     let has = net.and(entered, ends)?;
     Ok(has)
@@ -58,20 +57,20 @@ fn row_with(
 pub fn has_exit_row(
     around: &Around,
     net: &mut Net,
-    given: &Word,
+    shared: &Shared,
     walk: &Walk,
     row: Row,
 ) -> Result<Gate, OutOfMemory>
     requires ready { IsReady around.now net.old }
     requires objects { HasObjects (env around.now.here).layout }
-    requires given { ShowsNumber around.now net.old facts.given given.now.bits.items }
+    requires shared { AreShared around.now net.old shared.now }
     requires walk { IsWalk around.now net.old walk.now }
     requires from { walk.now.from ≡ seen.result_from }
     ensures grown { Grown net.old net.new }
     ensures ok { IfOk result (λ r. Shows around.now net.new (λ o. spec.exits o && known.same_row row (spec.exit_row o)) r.at) }
 {
     let kind = result_kind_is(around, net, walk, row.after)?;
-    let end = row_with(around, net, given, row, kind)?;
+    let end = row_with(around, net, shared, row, kind)?;
     let has = at_exit(around, net, end)?;
     Ok(has)
 }
@@ -115,14 +114,14 @@ fn with_param(around: &Around, net: &mut Net, number: u32, row: Gate) -> Result<
 pub fn has_param_row(
     around: &Around,
     net: &mut Net,
-    given: &Word,
+    shared: &Shared,
     walk: &Walk,
     param: Pointed,
     row: Row,
 ) -> Result<Gate, OutOfMemory>
     requires ready { IsReady around.now net.old }
     requires objects { HasObjects (env around.now.here).layout }
-    requires given { ShowsNumber around.now net.old facts.given given.now.bits.items }
+    requires shared { AreShared around.now net.old shared.now }
     requires walk { IsWalk around.now net.old walk.now }
     requires from { walk.now.from ≡ walks.escape_from (env around.now.here).layout param.object }
     ensures grown { Grown net.old net.new }
@@ -130,7 +129,7 @@ pub fn has_param_row(
         (λ o. spec.exits o && (facts.is_given o param.number && seen.row_with row (λ p. known.same_state row.after (walks.fate p param.object)) o)) r.at) }
 {
     let fate = fate_is(around, net, walk, param.object, row.after)?;
-    let end = row_with(around, net, given, row, fate)?;
+    let end = row_with(around, net, shared, row, fate)?;
     let has = with_param(around, net, param.number, end)?;
     Ok(has)
 }
@@ -139,14 +138,14 @@ pub fn has_param_row(
 pub fn has_out_row(
     around: &Around,
     net: &mut Net,
-    given: &Word,
+    shared: &Shared,
     walk: &Walk,
     param: Pointed,
     row: Row,
 ) -> Result<Gate, OutOfMemory>
     requires ready { IsReady around.now net.old }
     requires objects { HasObjects (env around.now.here).layout }
-    requires given { ShowsNumber around.now net.old facts.given given.now.bits.items }
+    requires shared { AreShared around.now net.old shared.now }
     requires walk { IsWalk around.now net.old walk.now }
     requires from { walk.now.from ≡ seen.cell_from param.object }
     ensures grown { Grown net.old net.new }
@@ -154,7 +153,7 @@ pub fn has_out_row(
         (λ o. spec.exits o && (facts.is_given o param.number && seen.row_with row (λ p. known.same_state row.after (seen.out_fate p param.object)) o)) r.at) }
 {
     let fate = out_fate_is(around, net, walk, param.object, row.after)?;
-    let end = row_with(around, net, given, row, fate)?;
+    let end = row_with(around, net, shared, row, fate)?;
     let has = with_param(around, net, param.number, end)?;
     Ok(has)
 }

@@ -4,10 +4,13 @@ use clap::error::ErrorKind;
 use clap::{Arg, ArgAction, Command, Error};
 use std::alloc::Global;
 
+/// What `--version` tells.
+const VERSION: &str = "2026.12";
+
 /// Why nothing is solved.
 #[derive(Debug, Drop)]
 pub enum NoWork {
-    /// The words ask for help: the text of it.
+    /// The words ask for help, or for the version: the text of it.
     Help(String),
     /// They are not of the form: the text that says so.
     Bad(String),
@@ -19,7 +22,7 @@ pub enum NoWork {
 fn no_work(alloc: Global, error: &Error) -> NoWork {
     match error.to_string(alloc) {
         Ok(text) => {
-            if error.kind() == ErrorKind::DisplayHelp {
+            if error.kind() == ErrorKind::DisplayHelp || error.kind() == ErrorKind::DisplayVersion {
                 NoWork::Help(text)
             } else {
                 NoWork::Bad(text)
@@ -34,7 +37,8 @@ pub fn proof_named<'a>(alloc: Global, words: &'a [String]) -> Result<Option<&'a 
     let proof = Arg::new(alloc, "proof")
         .long("proof")
         .action(ArgAction::Set);
-    let command = match Command::new(alloc, "sat_solve").arg(proof) {
+    let named = Command::new(alloc, "sat_solve").version(VERSION);
+    let command = match named.arg(proof) {
         Ok(command) => command,
         Err(_) => return Err(NoWork::Memory),
     };

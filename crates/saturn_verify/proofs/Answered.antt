@@ -92,7 +92,7 @@ of_help words source out err help = record {
   read_fault = λ e. absurd (cc);
   not_firm = λ e. absurd (cc);
   write_fault = λ e. absurd (cc);
-  complete = λ good files to_out to_err. absurd (rw good at help);
+  complete = λ good files to_out to_err. ⊎_elim (λ h. absurd (rw good at h)) (λ h. absurd (rw good at h)) help;
   quiet = λ e. absurd (let wrong : true ≡ false = e in (cc));
 }
 

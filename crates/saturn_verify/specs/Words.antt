@@ -1,11 +1,11 @@
 -- The words of the command line: the program's name, and one file. What the words give is what `clap` defines for
 -- this command.
 
-use Rattle.std.specs.Prelude.{◌≡◌, ◌≢◌, ⊤, List, [], ℕ, Option, Some, codes, true}
+use Rattle.std.specs.Prelude.{◌≡◌, ◌≢◌, ◌⊎◌, ⊤, List, [], ℕ, Option, Some, codes, true}
 use Rattle.clap.specs.Words.{App, Kinds, IsAmong, fault_of, first_of, matches_of, new_app, new_rule, with_rule}
 use Rattle.clap.specs.declared.builder.action.ArgAction.TheVariants.{Set}
 use Rattle.clap.specs.declared.error.kind.ErrorKind.{ErrorKind}
-use Rattle.clap.specs.declared.error.kind.ErrorKind.TheVariants.{DisplayHelp}
+use Rattle.clap.specs.declared.error.kind.ErrorKind.TheVariants.{DisplayHelp, DisplayVersion}
 use Rattle.saturn_verify.specs.declared.words.NoFile.{NoFile}
 use Rattle.saturn_verify.specs.declared.words.NoFile.TheVariants.{Help, Bad, Memory}
 
@@ -13,17 +13,17 @@ use Rattle.saturn_verify.specs.declared.words.NoFile.TheVariants.{Help, Bad, Mem
 abbrev pub command : App
 command = with_rule (new_app (codes "saturn_verify")) (record (new_rule (codes "FILE")) { required = true; action = Some Set })
 
--- the faults of the words, of which a call for help is one
+-- the faults of the words, of which calls for help and for the version are some
 unfoldable pub faults : List (List ℕ) → Kinds
 faults words = fault_of command words
 
--- the words ask for help
+-- the words ask for help, or for the version
 abbrev pub AskForHelp : List (List ℕ) → Type 0
-AskForHelp words = IsAmong DisplayHelp (faults words)
+AskForHelp words = IsAmong DisplayHelp (faults words) ⊎ IsAmong DisplayVersion (faults words)
 
--- the words have a fault other than that
+-- the words have a fault other than these
 abbrev pub HaveFault : List (List ℕ) → Type 0
-HaveFault words = (kind : ErrorKind) × IsAmong kind (faults words) × (kind ≢ DisplayHelp)
+HaveFault words = (kind : ErrorKind) × IsAmong kind (faults words) × (kind ≢ DisplayHelp) × (kind ≢ DisplayVersion)
 
 unfoldable pub file_of : List (List ℕ) → Option (List ℕ)
 file_of words = first_of (codes "FILE") (matches_of command words)

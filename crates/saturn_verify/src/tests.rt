@@ -78,9 +78,11 @@ fn the_words_name_one_file(rt: HostRuntime) -> Result<(), Fail> {
         assert_eq!(rt; ran.verified, Verified::BadWords);
         assert!(rt; ran.out.is_empty() && !ran.err.is_empty());
     }
-    let helped = run(&rt, &["saturn_verify", "--help"], REFUTED, 1000)?;
-    assert_eq!(rt; helped.verified, Verified::Helped);
-    assert!(rt; !helped.out.is_empty() && helped.err.is_empty());
+    for call in ["--help", "--version"] {
+        let told = run(&rt, &["saturn_verify", call], REFUTED, 1000)?;
+        assert_eq!(rt; told.verified, Verified::Helped);
+        assert!(rt; !told.out.is_empty() && told.err.is_empty());
+    }
     Ok(())
 }
 

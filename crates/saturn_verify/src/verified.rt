@@ -20,7 +20,7 @@ pub enum Verified {
     WriteFault,
     /// Memory was refused. Nothing was written.
     Memory,
-    /// The words ask for help, which was written.
+    /// The words ask for help or for the version, which was written.
     Helped,
 }
 

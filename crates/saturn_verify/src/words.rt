@@ -1,22 +1,34 @@
 // The words of the command line, read by `clap`.
 
-ghost use Rattle.std.specs.Prelude.{ℕ, List, IfOk, IfErr, map, string_bytes};
-ghost use Rattle.clap.specs.Words.{HasKind};
+ghost use Rattle.std.specs.Prelude.{◌≡◌, ◌≢◌, ◌⊎◌, ℕ, List, IfOk, IfErr, IsTrue, codes, false, map, string_bytes};
+ghost use Rattle.clap.specs.Words.{HasKind, app_of, new_app};
+ghost use Rattle.clap.specs.declared.error.kind.ErrorKind.TheVariants.{DisplayHelp, DisplayVersion};
 ghost use Rattle.saturn_verify.specs.Words.{faults, Name, HaveNoFile};
 
 use clap::error::ErrorKind;
 use clap::{Arg, ArgAction, Command, Error};
 use std::alloc::Global;
 
+/// What `--version` tells.
+const VERSION: &str = "2026.12";
+
 /// Why the words name no file.
 #[derive(Debug, Drop)]
 pub enum NoFile {
-    /// They ask for help: the text of it.
+    /// They ask for help, or for the version: the text of it.
     Help(String),
     /// They are not of the form: the text that says so.
     Bad(String),
     /// Memory was refused.
     Memory,
+}
+
+// Whether it is no fault but a call for help, or for the version.
+fn is_call(kind: ErrorKind) -> bool
+    ensures call { IsTrue result → (kind ≡ DisplayHelp) ⊎ (kind ≡ DisplayVersion) }
+    ensures fault { result ≡ false → (kind ≢ DisplayHelp) × (kind ≢ DisplayVersion) }
+{
+    kind == ErrorKind::DisplayHelp || kind == ErrorKind::DisplayVersion
 }
 
 // Why a parse gave no matches.
@@ -28,7 +40,7 @@ fn no_file(alloc: Global, error: &Error) -> NoFile
     }
     match error.to_string(alloc) {
         Ok(text) => {
-            if error.kind() == ErrorKind::DisplayHelp {
+            if is_call(error.kind()) {
                 NoFile::Help(text)
             } else {
                 NoFile::Bad(text)
@@ -36,6 +48,13 @@ fn no_file(alloc: Global, error: &Error) -> NoFile
         }
         Err(_) => NoFile::Memory,
     }
+}
+
+// The command without its arguments.
+fn named<'a>(alloc: Global) -> Command<'a>
+    ensures { app_of result ≡ new_app (codes "saturn_verify") }
+{
+    Command::new(alloc, "saturn_verify").version(VERSION)
 }
 
 /// The file that the words name.
@@ -46,7 +65,7 @@ pub fn file_named<'a>(alloc: Global, words: &'a [String]) -> Result<&'a str, NoF
     let file = Arg::new(alloc, "FILE")
         .required(true)
         .action(ArgAction::Set);
-    let command = match Command::new(alloc, "saturn_verify").arg(file) {
+    let command = match named(alloc).arg(file) {
         Ok(command) => command,
         Err(_) => return Err(NoFile::Memory),
     };

@@ -81,7 +81,7 @@ fn files_argument<'a>(alloc: Global) -> Arg<'a>
 // ---- commands
 
 // What `--version` tells.
-const VERSION: &str = "2026.11";
+const VERSION: &str = "2026.12";
 
 // A command that tells its version, and ends its help with this text.
 fn named<'a>(alloc: Global, name: &'a str, end: &'a str) -> Command<'a>

@@ -13,7 +13,7 @@ pub unwrap-requires : goal.unwrap-requires
 unwrap-requires c =
     let name_id : c.action-file.result.id.now ≡ codes "FILE" = search rules in
     let first : (t : List ℕ) → c.action-file.result.id.now ≡ t → slice_index t 0 ≡ 70 = λ t e. rw (← e, name_id) refl in
-    let given = one_required_value c.new-2.result c.in-Ok.command c.action-file.result c.in-Ok-try_get_matches_from.matches
+    let given = one_required_value c.named.result c.in-Ok.command c.action-file.result c.in-Ok-try_get_matches_from.matches
     c.in-Ok.ensures (search rules) (search rules) (search rules) (search rules) (search rules) (search rules) (search rules)
     (search rules) (search rules) (search rules)
     (λ e. let bad : 0 ≡ 70 = first [] e in absurd (omega arith))
@@ -29,7 +29,7 @@ unfolding faults file_of
 returns-in-Ok-try_get_matches_from-clause-named c =
     let words : List (List ℕ) = map string_bytes c.args.words.now in
     let rule_is : rule_of c.action-file.result ≡ file_rule = search rules in
-    let app_is : app_of c.in-Ok.command ≡ command = c.in-Ok.ensures.shape (search rules) ∙ ap₂ with_rule c.new-2.ensures.app rule_is in
+    let app_is : app_of c.in-Ok.command ≡ command = c.in-Ok.ensures.shape (search rules) ∙ ap₂ with_rule c.named.ensures rule_is in
     let matches = c.in-Ok-try_get_matches_from.matches in
     let good : fault_of (app_of c.in-Ok.command) words ≡ [] =
     c.in-Ok-try_get_matches_from.ensures.kinds (ap is_simple_and_free app_is ∙ is_free) in
@@ -46,6 +46,6 @@ unfolding faults
 returns-in-Err-try_get_matches_from-clause-none c =
     let words : List (List ℕ) = map string_bytes c.args.words.now in
     let rule_is : rule_of c.action-file.result ≡ file_rule = search rules in
-    let app_is : app_of c.in-Ok.command ≡ command = c.in-Ok.ensures.shape (search rules) ∙ ap₂ with_rule c.new-2.ensures.app rule_is in
+    let app_is : app_of c.in-Ok.command ≡ command = c.in-Ok.ensures.shape (search rules) ∙ ap₂ with_rule c.named.ensures rule_is in
     let P : App → Type 0 = λ a. HasKind (fault_of a words) c.in-Err-try_get_matches_from.error in
     c.no_file.ensures words (subst P app_is (c.in-Err-try_get_matches_from.ensures.kinds (ap is_simple_and_free app_is ∙ is_free)))
