@@ -35,7 +35,7 @@ GONE = re.compile(r"has no field|is not in scope|has no `|was not admitted")
 COMPILES_NOT = re.compile(r"\berror\[[\w-]+\]")
 # What it says of each function.
 FUNCTION = re.compile(r"fn (\S+): (proved|not proved|no proof|could not tell)(.*)")
-RESTS = re.compile(r": it calls ")
+RESTS = re.compile(r"[:;] it calls ")
 HEAD = re.compile(r"( *)(?:pub(?:\([a-z]+\))? )?(?:const )?(?:unsafe )?fn (\w+)")
 IMPL = re.compile(r"( *)impl\b(?:<.*?>)? (.*?) *\{?$")
 
@@ -149,6 +149,8 @@ def place(edit: Edit, path: str, text: str, at: int, old: str) -> None:
 def rounds_of(edits: list[Edit]) -> Iterator[list[Edit]]:
     """Returns the edits in rounds, in each of which no two change what has one proof."""
     left = [it for it in edits if not it.said]
+    # (a change of more than bodies is checked with the whole crate, and best over what is kept)
+    left.sort(key=lambda it: not it.bodies_alone)
     while left:
         taken, units = list[Edit](), set[str]()
         for edit in left:
@@ -191,6 +193,9 @@ def verdict(lines: list[str], edit: Edit) -> str:
     if found and not words:
         return "LET THROUGH"
     if words & {"not proved", "no proof"}:
+        open_goals = [it[1] for it in (re.search(r"did not prove `([^`]+)`", why) for _, why in found) if it]
+        if open_goals:
+            return f"refused: {open_goals[0]} (no answer, and none is found)"
         wrong = places(lines, edit)
         goals = [it for it in wrong if not (it[0].startswith("proofs/") and GONE.search(it[1]))]
         if wrong:
