@@ -11,7 +11,7 @@ use layout_base::Places;
 use name_interner::Interner;
 use places::places;
 use run_laws::layouts_are_closed;
-use sc_base::List;
+use sc_base::{List, NameId, Names};
 use sc_check::check;
 use sc_gather::Context;
 use sc_lexer::{LexAnswer, tokens};
@@ -58,29 +58,36 @@ fn read(alloc: Global, names: &mut Interner, text: &str) -> Result<Unit, LexAnsw
     Ok(unit(alloc, &found)?)
 }
 
-// The typed program of a file, with that machine; with that of locks where there is none.
+// The typed program of one file, with that machine; with that of locks where there is none.
 #[tactic(auto, using(crate::proofs::Wholeness::whole_if_given))]
-fn typed(alloc: Global, text: &str, machine: Option<MachineSpec>) -> Option<Program>
+fn checked(
+    alloc: Global,
+    names: Names,
+    files: List<NameId>,
+    units: &[Unit],
+    machine: Option<MachineSpec>,
+) -> Option<Program>
     requires { IfSome machine IsWhole }
     ensures { IfSome result (λ p. HasWholeMachine p) }
 {
     whole_machines();
+    match check(alloc, names, files, units, Widths::Ilp32, machine) {
+        Ok(program) => Some(program),
+        Err(_) => None,
+    }
+}
+
+// The same of its text.
+fn typed(alloc: Global, text: &str, machine: Option<MachineSpec>) -> Option<Program>
+    requires { IfSome machine IsWhole }
+    ensures { IfSome result (λ p. HasWholeMachine p) }
+{
     let mut names = Interner::new(alloc);
     let mut units = Vec::new(alloc);
     units.push(read(alloc, &mut names, text).ok()?).ok()?;
     let files = List::new(alloc);
     let names = names.into_names().ok()?;
-    match check(
-        alloc,
-        names,
-        files,
-        units.as_slice(),
-        Widths::Ilp32,
-        machine,
-    ) {
-        Ok(program) => Some(program),
-        Err(_) => None,
-    }
+    checked(alloc, names, files, units.as_slice(), machine)
 }
 
 /// The typed program of a file, with the machine that the second text spells; with that of locks where that is empty.
