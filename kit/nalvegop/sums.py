@@ -16,6 +16,7 @@ from .segments import KEYWORDS, Segment
 from .tokens import Token
 
 # What may stand round a pointer to anything: nothing that looks behind it, and no `?:`, which would give it no type.
+_TYPE_WORDS = {*"void char short int long signed unsigned _Bool float double const volatile struct union enum static register".split()}
 _OPERATORS = {*"+ - += -= ++ --".split()}
 _BEFORE, _BEHIND = {*"= return , ( == !=".split()}, {*"; , ) == !=".split()}
 
@@ -90,13 +91,20 @@ class Sums:
         return tuple(token.text for token in self.tokens[first:end])
 
     def pointers(self, segment: Segment) -> set[str]:
-        """Returns the names that stand behind a `*` in the function, or before a `[`, as if they were declared: parameters and variables."""
-        found = set[str]()
-        for at in range(segment.first, segment.end - 1):
-            is_star = self.tokens[at - 1].text == "*" and self.tokens[at + 1].text in (",", ";", "=", ")")
-            if is_star and self.tokens[at].is_word and (self.tokens[at - 2].is_word or self.tokens[at - 2].text in ("*", ",")):
-                found.add(self.tokens[at].text)
-        return found - KEYWORDS
+        """Returns the names that a function declares as pointers: parameters and variables."""
+        stars = [at for at in range(segment.parameters[0], segment.end - 2) if self.tokens[at].text == "*" and self.tokens[at + 1].is_word]
+        return {self.tokens[at + 1].text for at in stars if self._is_declarator(segment, at)} - KEYWORDS
+
+    def _is_declarator(self, segment: Segment, star: int) -> bool:
+        """Returns whether a `*` stands in a declaration, as far as words tell, and is no product."""
+        behind = self.tokens[star + 2].text
+        if star < segment.parameters[1]:
+            return behind in (",", ")")
+        at = star
+        while self.tokens[at - 1].text == "*" or self.tokens[at - 1].is_word and self.tokens[at - 1].text not in KEYWORDS - _TYPE_WORDS:
+            at -= 1
+        before = self.tokens[at - 1].text
+        return behind in (",", "=", ";") and (before in (";", "{", "}") and self.tokens[at].is_word or before == "," and self.tokens[at].text == "*")
 
     def is_free(self, it: Sum) -> bool:
         """Returns whether a pointer to anything may stand in its place."""

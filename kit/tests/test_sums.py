@@ -80,6 +80,10 @@ class Sums(unittest.TestCase):
         self.check("g(p @+ n); g(q + n, n + n);\ng(s->m + n);\nn++;", "g(Nv(p)); g(Nv(q), n + n);\ng(s->m + n);\nn++;", True)
         self.check("g(s->m @+ n); g(s->m + 1);", "g(Nv(s->m)); g(Nv(s->m));", True)
 
+    def test_a_factor_is_no_pointer(self) -> None:
+        self.check("int i; g(p @+ n * i, n * i); i = n * n;\nn++; g(i + 1);", "int i; g(Nv(p) , n * i); i = n * n;\nn++; g(i + 1);", True)
+        self.check("int *i, k = 1, *j; g(p @+ n);\ng(i + 1); g(j + 1); g(k + 1);", "int *i, k = 1, *j; g(Nv(p));\ng(Nv(i)); g(Nv(j)); g(k + 1);", True)
+
     def test_sums_that_stay(self) -> None:
         for body in (
             "g((p @+ n)[1]);",
