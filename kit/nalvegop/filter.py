@@ -209,6 +209,7 @@ class Filter:
         self._asserts(segment.body[0], segment.end)
         self._asm_statements(segment.body[0], segment.end)
         self._once_loops(segment.body[0], segment.end)
+        self._void_returns(segment)
         self._statement_expressions(segment.body[0], segment.end)
         for first, end in dropped:
             self._blank(first, end)
@@ -660,6 +661,26 @@ class Filter:
             self._blank(at, at + 1)
             self._blank(closing + 1, closing + 6)
             self._count("dozero")
+
+    def _void_returns(self, segment: Segment) -> None:
+        """`return f();` in a function of type void (GNU C) becomes `f();` where the function ends behind it, and `{ f();`
+        with `return;}` behind the end of the line where nothing else stands in that line."""
+        words = {it.text for it in self.tokens[segment.first : segment.name_at]}
+        if "void" not in words or "*" in words:
+            return
+        for at in range(segment.body[0], segment.end - 3):
+            end = self.partner[at + 2] + 1
+            if self.tokens[at].text != "return" or self.tokens[at + 2].text != "(" or not self.tokens[at + 1].is_word or self.tokens[end].text != ";":
+                continue
+            behind = self.tokens[end + 1].text if end + 1 == segment.end - 1 else ""
+            if behind == "}" and self.tokens[at - 1].text in (";", "{", "}", "else"):
+                self._blank(at, at + 1)
+            elif self._line(end + 1) > self._line(end) and self._line(end) not in self._tails:
+                self._put(self.tokens[at], "{")
+                self._tails.setdefault(self._line(end), []).append("return;}")
+            else:
+                continue
+            self._count("void returns")
 
     def _is_left_early(self, opening: int, closing: int) -> bool:
         """Returns whether a break or continue between these braces belongs to the loop whose body they are."""

@@ -76,6 +76,14 @@ class Steps(unittest.TestCase):
         self.becomes("void f(int a) { do { a++; } while (0); }", "void f(int a) { { a++; } }")
         self.becomes("void f(int a) { if (a) do { a++; } while (0); else a--; }", "void f(int a) { if (a) { a++; } else a--; }")
 
+    def test_what_a_void_function_returns(self) -> None:
+        self.becomes("void g(void); void f(int a) { if (a) g(); return g(); }", "void g(void); void f(int a) { if (a) g(); g(); }")
+        self.becomes(
+            "void g(void);\nvoid f(int a) {\nif (a) return g();\na++;\n}\n", "void g(void);\nvoid f(int a) {\nif (a) { g();return;}\na++;\n}\n"
+        )
+        for same in ("void g(void); void f(int a) { while (a) return g(); }", "int g(void); int f(int a) { return g(); }", "int *g(void); void *f(int a) { return g(); }"):
+            self.becomes(same, same)
+
     def test_loops_that_are_left_stay(self) -> None:
         for inside in ("if (a) break; a++;", "if (a) continue; a++;", "switch (a) { default: continue; }"):
             text = f"void f(int a) {{ do {{ {inside} }} while (0); }}"
