@@ -149,7 +149,8 @@ class Reading(unittest.TestCase):
 
     def test_other_texts_are_refused(self) -> None:
         lacking: dict[str, Any] = {**VALUE, "functions": [{**_SERVE, "reports": [{"kind": "leak"}]}]}
-        for text in ("", "{}", "[]", "total functions 0 skipped 0 rows 0 reports 0\n", b"\xff", json.dumps(lacking)):
+        others: list[str | bytes] = ["", "{}", "[]", "total functions 0 skipped 0 rows 0 reports 0\n", b"\xff", json.dumps(lacking)]
+        for text in others:
             with self.assertRaisesRegex(NotVerdicts, "is not JSON of the form"):
                 read_json(text)
         with self.assertRaisesRegex(NotVerdicts, "'nalvegop verdicts', version 2, and this kit reads 'nalvegop verdicts', version 1"):
