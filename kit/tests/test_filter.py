@@ -80,7 +80,11 @@ class Steps(unittest.TestCase):
         self.becomes("void g(void); void f(int a) { if (a) g(); return g(); }", "void g(void); void f(int a) { if (a) g(); g(); }")
         within = filtered("void g(void);\nvoid f(int a) {\nif (a) return g();\na++;\n}\n").text
         self.assertEqual(within, "void g(void);\nvoid f(int a) {\nif (a) {      g(); return;}\na++;\n}\n")
-        for same in ("void g(void); void f(int a) { while (a) return g(); }", "int g(void); int f(int a) { return g(); }", "int *g(void); void *f(int a) { return g(); }"):
+        for same in (
+            "void g(void); void f(int a) { while (a) return g(); }",
+            "int g(void); int f(int a) { return g(); }",
+            "int *g(void); void *f(int a) { return g(); }",
+        ):
             self.becomes(same, same)
 
     def test_loops_that_are_left_stay(self) -> None:
