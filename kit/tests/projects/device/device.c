@@ -9,7 +9,7 @@ void device_open(struct device *dev)
 }
 
 /* wrong: an open device is locked twice */
-void device_reset(struct device *dev, _Bool again)
+void device_reset(struct device *dev, int again)
 {
 	device_enter(dev);
 	if (again)
