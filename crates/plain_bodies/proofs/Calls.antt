@@ -15,7 +15,7 @@ use Rattle.sc_rules.specs.declared.walk.Given.TheVariants as takes
 use Rattle.sc_typed.specs.Types.{is_aggregate, is_integer, is_pointer}
 use Rattle.sc_typed.specs.Constants.{is_null_constant}
 use Rattle.sc_rules.specs.Conversions.{type_of}
-use Rattle.sc_calls.specs.Calls.{result_of, takes_many, is_function_name, has_count, promoted_argument, argument_to, argument_unless, argument, front, behind, with_first, arguments, finished_call, params_of, call_with, call_taken, called_signature, call_as, call, callee, given_of, pointer_argument, in_front, first_pointer, builtin_arguments, builtin_callee, builtin_params, builtin_given, builtin_as, builtin_result, signature_or, builtin_call}
+use Rattle.sc_calls.specs.Calls.{result_of, takes_many, is_function_name, has_count, promoted_argument, argument_to, argument_unless, argument, front, behind, with_first, arguments, finished_call, params_of, call_with, call_taken, called_signature, call_as, call, callee, given_of, pointer_argument, in_front, first_pointer, builtin_arguments, no_pointer, passed_unless, passed, builtin_callee, builtin_params, builtin_given, builtin_as, builtin_result, signature_or, builtin_call}
 use Rattle.plain_bodies.specs.Leaves.{FaultAlone}
 use Rattle.plain_bodies.proofs.Steps.{keeps, by_then, by_done, by_if}
 use Rattle.plain_bodies.proofs.Rules.{value_kept, converted_kept}
@@ -77,9 +77,21 @@ module _ {T : Frames Tag} where
   taking_kept ws takes.Any at xs = keeps (λ w. refl)
   taking_kept ws takes.Two at xs = keeps (λ w. refl)
 
+  passed_unless_kept : (at : Option Pos) (xs : List TExpr) → FaultAlone T (passed_unless at xs)
+  passed_unless_kept None xs = keeps (λ w. refl)
+  passed_unless_kept (Some at) xs = keeps (λ w. refl)
+
+  passed_kept : (g : Given) (r : Option (List TExpr)) → FaultAlone T (passed g r)
+  passed_kept g None = keeps (λ w. refl)
+  passed_kept takes.Pointer (Some xs) = passed_unless_kept (no_pointer xs) xs
+  passed_kept takes.Any (Some xs) = keeps (λ w. refl)
+  passed_kept takes.Two (Some xs) = keeps (λ w. refl)
+
   given_kept : (ws : Widths) (name : NameId) (f : Builtin) (s : Signature) (q p : Place) (xs : Option (List (Option TExpr))) → FaultAlone T (builtin_given ws name f s q p xs)
   given_kept ws name f s q p None = keeps (λ w. refl)
-  given_kept ws name f s q p (Some xs) = by_done _ (λ r. finished_call p (builtin_result f) (builtin_callee name f q) r) (arguments_kept ws p.first (builtin_params (given_of f) s) xs)
+  given_kept ws name f s q p (Some xs) =
+      by_then _ _ (arguments_kept ws p.first (builtin_params (given_of f) s) xs) (λ r.
+      by_done _ (λ r. finished_call p (builtin_result f) (builtin_callee name f q) r) (passed_kept (given_of f) r))
 
   builtin_as_kept : (ws : Widths) (name : NameId) (f : Builtin) (s : Signature) (q p : Place) (xs : List (Option TExpr)) → FaultAlone T (builtin_as ws name f s q p xs)
   builtin_as_kept ws name f s q p xs = by_if (has_count (given_of f) (length xs) && takes_many s (length xs)) _ _ (by_then _ _ (taking_kept ws (given_of f) p.first xs) (λ r. given_kept ws name f s q p r)) (keeps (λ w. refl))

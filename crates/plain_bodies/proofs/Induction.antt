@@ -24,7 +24,7 @@ use Rattle.plain_bodies.proofs.Steps.{keeps}
 use Rattle.plain_bodies.proofs.Rules.{constant_kept}
 use Rattle.plain_bodies.proofs.Parts.{name_kept, string_kept, typedef_kept}
 use Rattle.plain_bodies.proofs.Mentioned.{aggregate_kept, enum_kept}
-use Rattle.plain_bodies.proofs.Walk.{OfTyping, OfDeclaring, OfHeading, OfNaming, index_step_kept, field_step_kept, comma_kept, unary_step_kept, pre_step_kept, post_step_kept, called_kept, array_kept, head_kept, assign_kept, choose_kept, operate_kept, cast_step_kept, sizeof_step_kept, sizeof_type_step_kept}
+use Rattle.plain_bodies.proofs.Walk.{OfTyping, OfDeclaring, OfHeading, OfNaming, index_step_kept, field_step_kept, comma_kept, unary_step_kept, pre_step_kept, post_step_kept, called_kept, shape_kept, array_kept, head_kept, assign_kept, choose_kept, operate_kept, cast_step_kept, sizeof_step_kept, sizeof_type_step_kept}
 use Rattle.plain_bodies.proofs.Plain.{never, first_so, second_so, each_so}
 
 module _ (T : Frames Tag) (here : Here) where
@@ -160,7 +160,7 @@ module _ (T : Frames Tag) (here : Here) where
   case-Base (Base-F.Named name at) h = typedef_kept name at
 
   case-Declarator : (y : Declarator-F SB SD SE SA SN SC SH SM SP SS) → declarator_plain (tested-Declarator y) ≡ true → OfDeclaring T (declarator_step here (typed-Declarator y))
-  case-Declarator (Declarator-F.«Declarator::Name» n) h = λ at t. keeps (λ w. refl)
+  case-Declarator (Declarator-F.«Declarator::Name» n) h = shape_kept
   case-Declarator (Declarator-F.Pointer d) h = λ at t. d.1 h at _
   case-Declarator (Declarator-F.Array d None) h = array_kept here (declaring here d.0) None (d.1 h) tt
   case-Declarator (Declarator-F.Array d (Some n)) h = array_kept here (declaring here d.0) (Some (typing here n.0)) (d.1 (first_so (plain_declarator T d.0) _ h)) (n.1 (second_so (plain_declarator T d.0) _ h))

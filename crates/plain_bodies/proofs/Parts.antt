@@ -19,6 +19,7 @@ use Rattle.sc_rules.specs.Faults.{ill_typed_at}
 use Rattle.sc_rules.specs.Conversions.{type_of}
 use Rattle.sc_names.specs.Names.{new_here}
 use Rattle.sc_names.specs.Structs.{is_object, object_at}
+use Rattle.sc_parts.specs.Bounds.{is_bounded, bounded}
 use Rattle.sc_parts.specs.Declarators.{in_range, ranged, length_number, length_of, no_function}
 use Rattle.sc_parts.specs.Names.{is_wide, string, named, a_name, typedef_of, a_typedef}
 use Rattle.sc_parts.specs.Operands.{assigned, sizeof_value, sizeof_type, indexed, accessed}
@@ -44,6 +45,9 @@ module _ {T : Frames Tag} where
 
   pub no_function_kept : (at : Pos) (t : CType) → FaultAlone T (no_function at t)
   no_function_kept at t = by_if (is_function t) _ _ (keeps (λ w. refl)) (keeps (λ w. refl))
+
+  pub bounded_kept : (at : Pos) (t : CType) → FaultAlone T (bounded at t)
+  bounded_kept at t = by_if (is_bounded t) _ _ (keeps (λ w. refl)) (keeps (λ w. refl))
 
   -- Names, strings and operands.
 

@@ -22,7 +22,7 @@ use Rattle.plain_bodies.specs.Leaves.{FaultAlone}
 use Rattle.plain_bodies.proofs.Steps.{keeps, by_then, by_done, by_given, by_both}
 use Rattle.plain_bodies.proofs.Rules.{value_kept, binary_kept, pre_kept, post_kept, conditional_kept, unary_kept, cast_kept, index_kept, field_kept}
 use Rattle.plain_bodies.proofs.Calls.{call_kept, callee_kept, builtin_kept}
-use Rattle.plain_bodies.proofs.Parts.{length_kept, no_function_kept, assigned_kept, sizeof_kept, sizeof_type_kept, indexed_kept, accessed_kept}
+use Rattle.plain_bodies.proofs.Parts.{length_kept, no_function_kept, bounded_kept, assigned_kept, sizeof_kept, sizeof_type_kept, indexed_kept, accessed_kept}
 use Rattle.scopes.specs.Frames.{Frames}
 use Rattle.sc_rules.specs.declared.walk.Tag.{Tag}
 
@@ -96,6 +96,9 @@ module _ {T : Frames Tag} where
 
   type_named_kept : (h : Heading) → OfHeading T h → FaultAlone T (spec.type_named h)
   type_named_kept h k = by_done (h.run h.first) (λ s. s.ctype) (k h.first)
+
+  pub shape_kept : (at : Pos) (t : Option CType) → FaultAlone T (spec.bounded_shape at t)
+  shape_kept at t = by_done _ (λ u. record { ctype = u; own = None }) (by_given t _ (bounded_kept at))
 
   module _ (here : Here) where
     -- Calls.

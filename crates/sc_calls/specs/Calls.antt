@@ -206,10 +206,29 @@ builtin_arguments w _ at as' = done (Some as')
 abbrev pub builtin_callee : NameId → Builtin → Place → TExpr
 builtin_callee name b p = node (what.Function name None) (unknown_function (builtin_result b)) p
 
+-- An operation, a try and a release act on a pointer, which a prototype in sight may have made another value: that is
+-- judged behind the conversions, at the first token of the argument.
+
+-- the place of a first argument that is no pointer
+abbrev pub no_pointer : List TExpr → Option Pos
+no_pointer [] = None
+no_pointer (a ∷ as') = if is_pointer (type_of a) then None else Some (place_of a).first
+
+abbrev pub passed_unless : Option Pos → List TExpr → Check (Option (List TExpr))
+passed_unless None as' = done (Some as')
+passed_unless (Some at) as' = ill_typed i.Operand at
+
+abbrev pub passed : Given → Option (List TExpr) → Check (Option (List TExpr))
+passed g None = done None
+passed takes.Pointer (Some as') = passed_unless (no_pointer as') as'
+passed _ (Some as') = done (Some as')
+
 abbrev pub builtin_given : Widths → NameId → Builtin → Signature → (name_place call_place : Place) → Option (List (Option TExpr)) → Check (Option TExpr)
 builtin_given w name b s q p None = done None
-builtin_given w name b s q p (Some as') =
-    arguments w p.first (builtin_params (given_of b) s) as' >>= λ r. done (finished_call p (builtin_result b) (builtin_callee name b q) r)
+builtin_given w name b s q p (Some as') = do
+  r ← arguments w p.first (builtin_params (given_of b) s) as'
+  taken ← passed (given_of b) r
+  done (finished_call p (builtin_result b) (builtin_callee name b q) taken)
 
 abbrev pub builtin_as : Widths → NameId → Builtin → Signature → (name_place call_place : Place) → List (Option TExpr) → Check (Option TExpr)
 builtin_as w name b s q p as' =

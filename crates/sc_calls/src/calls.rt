@@ -508,6 +508,37 @@ fn finished_builtin(
     finished_call(alloc, p, t, f, all)
 }
 
+// The place of a first argument that is no pointer.
+fn no_pointer(all: &[TExpr]) -> Option<Pos>
+    ensures { result ≡ spec.no_pointer all.now }
+{
+    match all.first() {
+        None => None,
+        Some(a) => {
+            if is_pointer(&a.ctype) {
+                None
+            } else {
+                Some(a.place.first)
+            }
+        }
+    }
+}
+
+// The arguments as they are passed: an operation, a try and a release act on a pointer, which a prototype in sight may
+// have made another value.
+fn passed(walk: &mut Walk, takes: Given, all: Option<List<TExpr>>) -> Option<List<TExpr>>
+    ensures { spec.passed takes all walk.old ≡ (result, walk.new) }
+{
+    let all = all?;
+    match takes {
+        Given::Any | Given::Two => Some(all),
+        Given::Pointer => match no_pointer(all.as_slice()) {
+            None => Some(all),
+            Some(at) => ill_typed(walk, IllTyped::Operand, at),
+        },
+    }
+}
+
 // A call of a built-in function with arguments as it takes them.
 fn builtin_given(
     alloc: Global,
@@ -525,6 +556,7 @@ fn builtin_given(
         Some(given) => {
             let types = builtin_params(alloc, given_of(b.meaning), s)?;
             let all = arguments(alloc, walk, w, p.first, types.as_slice(), given)?;
+            let all = passed(walk, given_of(b.meaning), all);
             finished_builtin(alloc, b, p, all)
         }
     }

@@ -11,7 +11,8 @@ use Rattle.sc_rules.specs.declared.walk.Walk.{Walk}
 use Rattle.sc_rules.specs.declared.walk.Fault.{Fault}
 use Rattle.sc_typed.specs.declared.program.Function.{Function}
 use Rattle.sc_rules.specs.Walks.{then_with, done}
-use Rattle.sc_files.specs.Notes.{noted, begin_file}
+use Rattle.sc_files.specs.declared.notes.Before.{Before}
+use Rattle.sc_files.specs.Notes.{so_far, noted, begin_file}
 use Rattle.sc_declarations.specs.Declarations.{declaration}
 use Rattle.sc_typing.specs.Here.{Here}
 use Rattle.sc_check.specs.Files.{Made, function, file_declaration, file_in, segment_in, segments_in}
@@ -23,15 +24,15 @@ use Rattle.sc_check.proofs.Walked.{cut}
 stays : {A B : Type 0} (r : A × Walk) (g : A → B) → (then_with r (λ a. done (g a))).1 ≡ r.1
 stays (a, w) g = refl
 
-noted_left : (g r : ℕ) (f : Option Fault) (ns ms : List Skip) (w : Walk)
-    → (noted g r f ns w).1 ≡ (noted g r f ms w).1
-noted_left g r None ns ms w = refl
-noted_left g r (Some f) ns ms w = refl
+noted_left : (b : Before) (f : Option Fault) (ns ms : List Skip) (w : Walk)
+    → (noted b f ns w).1 ≡ (noted b f ms w).1
+noted_left b None ns ms w = refl
+noted_left b (Some f) ns ms w = refl
 
 declaration_left : (here : Here) (d : Decl) (ns : List Skip) (w : Walk)
     → (file_declaration here d ns w).1 ≡ (file_declaration here d [] w).1
 declaration_left here d ns w =
-    noted_left (length w.globals) (length w.records) (declaration here true d w).1.first ns []
+    noted_left (so_far w) (declaration here true d w).1.first ns []
     (declaration here true d w).1
 
 one_left : (here : Here) (m : Made) (s : Segment) (w : Walk) → (segment_in here m s w).1 ≡ segment_left here s w

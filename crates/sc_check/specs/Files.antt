@@ -23,7 +23,7 @@ use Rattle.sc_calls.specs.Calls.{result_of}
 use Rattle.sc_declare.specs.Storage.{has_local}
 use Rattle.sc_declare.specs.Functions.{signature_if, signature_at, declare_function_if, local_function}
 use Rattle.sc_files.specs.Functions.{few_params, skip_pos, finish_function}
-use Rattle.sc_files.specs.Notes.{noted_in, begin_file}
+use Rattle.sc_files.specs.Notes.{so_far, noted_in, begin_file}
 use Rattle.sc_typing.specs.Here.{Here}
 use Rattle.sc_typing.specs.declared.shapes.Own.{Own}
 use Rattle.sc_typing.specs.Shapes.{Heading}
@@ -98,7 +98,7 @@ module _ (here : Here) where
 
 abbrev pub file_declaration : Here → Decl → List Skip → Check (List Skip)
 file_declaration here d notes w =
-    noted_in (length w.globals) (length w.records) notes (declaration here true d w).1
+    noted_in (so_far w) notes (declaration here true d w).1
 
 -- The functions and notes of a file, added to those before.
 pub record Made : Type 0 where

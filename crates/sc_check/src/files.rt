@@ -11,7 +11,7 @@ use crate::functions::function;
 use sc_base::{List, OutOfMemory, Skip};
 use sc_declarations::declaration;
 use sc_declare::GlobalNumbers;
-use sc_files::{begin_file, end_declaration};
+use sc_files::{begin_file, end_declaration, so_far};
 use sc_rules::Walk;
 use sc_tree::decl::Decl;
 use sc_tree::unit::{FileDecl, Segment};
@@ -36,10 +36,9 @@ pub fn file_declaration(
         ≡ (notes.new, walk.new)) }
     ensures tied { OnOk result (numbers.new ≡ keys_of walk.new.globals) }
 {
-    let globals = walk.globals.len();
-    let records = walk.records.len();
+    let before = so_far(walk);
     declaration(alloc, walk, numbers, here, true, d)?;
-    end_declaration(alloc, walk, numbers, globals, records, notes)
+    end_declaration(alloc, walk, numbers, before, notes)
 }
 
 // A segment of a file.

@@ -1,5 +1,5 @@
 -- A block that is closed and opened again stands as before.
-use Rattle.std.proofs.Common.{◌≡◌, ℕ, ◌+◌, ◌<◌, List, [], ◌∷◌, ◌++◌, length, refl, ap, arith}
+use Rattle.std.proofs.Common.{◌≡◌, ℕ, ◌<◌, List, [], ◌∷◌, ◌++◌, length, refl, ap, arith}
 use Rattle.scopes.specs.Frames.{Frames, innermost, without_innermost, opened, closed, kept, forgotten}
 
 blocks_back : {T : Type 0} (bs : List (List (ℕ × T))) → 0 < length bs → innermost bs ∷ without_innermost bs ≡ bs

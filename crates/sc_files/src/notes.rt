@@ -13,6 +13,28 @@ use std::alloc::Global;
 use std::mem;
 use struct_table::Structs;
 
+/// How much there was of what a declaration adds to, before it.
+#[derive(Clone, Copy, Debug, PartialEq, Eq)]
+pub struct Before {
+    /// How many globals.
+    pub globals: usize,
+    /// How many records of globals.
+    pub records: usize,
+    /// How many functions that are local to a file.
+    pub local_functions: usize,
+}
+
+/// What a walk has before a declaration.
+pub fn so_far(walk: &Walk) -> Before
+    ensures { result ≡ spec.so_far walk.now }
+{
+    Before {
+        globals: walk.globals.len(),
+        records: walk.records.len(),
+        local_functions: walk.local_functions.len(),
+    }
+}
+
 // The first so many items.
 fn truncate<T: Drop>(alloc: Global, items: &mut List<T>, count: usize)
     ensures { items.new ≡ take count items.old }
@@ -48,20 +70,20 @@ fn take_back(
     alloc: Global,
     walk: &mut Walk,
     numbers: &mut GlobalNumbers,
-    globals: usize,
-    records: usize,
+    before: Before,
 ) -> Result<(), OutOfMemory>
     requires { numbers.old ≡ keys_of walk.old.globals }
-    ensures taken { OnOk result (walk.new ≡ spec.taken_back globals records walk.old) }
+    ensures taken { OnOk result (walk.new ≡ spec.taken_back before walk.old) }
     ensures tied { OnOk result (numbers.new ≡ keys_of walk.new.globals) }
 {
     forget(&mut walk.names)?;
     forget(&mut walk.tags)?;
     let completed = mem::replace(&mut walk.completed, List::new(alloc));
     incomplete_at(alloc, &mut walk.structs, completed.as_slice())?;
-    truncate(alloc, &mut walk.globals, globals);
-    truncate(alloc, &mut walk.records, records);
-    numbers.truncate(globals);
+    truncate(alloc, &mut walk.globals, before.globals);
+    truncate(alloc, &mut walk.records, before.records);
+    truncate(alloc, &mut walk.local_functions, before.local_functions);
+    numbers.truncate(before.globals);
     walk.first = None;
     Ok(())
 }
@@ -77,8 +99,8 @@ fn keep_walk(alloc: Global, walk: &mut Walk) -> Result<(), OutOfMemory>
     Ok(())
 }
 
-/// Ends a declaration at file scope, before which the walk had so many globals and records. Without a fault what it
-/// declared stays. Else its first fault is put behind the notes, and all that it declared goes.
+/// Ends a declaration at file scope, before which the walk had that much. Without a fault what it declared stays. Else
+/// its first fault is put behind the notes, and all that it declared goes.
 ///
 /// `numbers` has the numbers of the globals of `walk`, before and after. Where memory is refused none of the three is of
 /// further use.
@@ -86,19 +108,18 @@ pub fn end_declaration(
     alloc: Global,
     walk: &mut Walk,
     numbers: &mut GlobalNumbers,
-    globals: usize,
-    records: usize,
+    before: Before,
     notes: &mut List<Skip>,
 ) -> Result<(), OutOfMemory>
     requires { numbers.old ≡ keys_of walk.old.globals }
-    ensures noted { OnOk result (spec.noted_in globals records notes.old walk.old ≡ (notes.new, walk.new)) }
+    ensures noted { OnOk result (spec.noted_in before notes.old walk.old ≡ (notes.new, walk.new)) }
     ensures tied { OnOk result (numbers.new ≡ keys_of walk.new.globals) }
 {
     match walk.first {
         None => keep_walk(alloc, walk),
         Some(fault) => {
             notes.push(fault.skip)?;
-            take_back(alloc, walk, numbers, globals, records)
+            take_back(alloc, walk, numbers, before)
         }
     }
 }

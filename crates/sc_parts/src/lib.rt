@@ -1,13 +1,15 @@
 //! What the walk over expressions, types and declarators makes of each part, once the parts of that part are typed
 //! (C11 6.4.5, 6.5, 6.7): names, constants, strings, operators on operands in which a fault may stand, lengths,
-//! parameters, members, enumerators. The walk itself stands above this crate.
+//! bounds of types, parameters, members, enumerators. The walk itself stands above this crate.
 #![tactic(auto)]
 
+mod bounds;
 mod declarators;
 mod fields;
 mod names;
 mod operands;
 
+pub use bounds::bounded;
 pub use declarators::{
     adjusted, array_of, function_with, length_given, no_array, no_function, parameter_of,
     pointer_to, types_of,

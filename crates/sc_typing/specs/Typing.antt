@@ -40,6 +40,7 @@ use Rattle.sc_declare.specs.declared.functions.Parameter.{Parameter}
 use Rattle.sc_calls.specs.Calls.{callee, call, prototype, builtin_call}
 use Rattle.sc_parts.specs.Names.{character, string, undeclared, a_name, a_typedef}
 use Rattle.sc_parts.specs.Operands.{comma_of, assigned, sizeof_value, sizeof_type, indexed, accessed}
+use Rattle.sc_parts.specs.Bounds.{bounded}
 use Rattle.sc_parts.specs.Declarators.{length_of, no_function, no_array, pointer_to, array_of, adjusted, parameter_of, types_of, function_with}
 use Rattle.sc_parts.specs.Fields.{width_of, with_field, only_if, member_object, new_member, aggregate_kind, aggregate_type, enumerator_value, enumerator}
 use Rattle.sc_typing.specs.declared.calls.Callee.{Callee}
@@ -84,11 +85,18 @@ abbrev pub where_named : Option (NameId × Pos) → Pos → Pos
 where_named None first = first
 where_named (Some (name, at)) first = at
 
--- Parameters (C11 6.7.6.3), of which the first has the number k.
+-- The type of what is declared at a place, which is no larger than types may be.
+abbrev pub bounded_shape : Pos → Option CType → Check Shape
+bounded_shape at t = do
+  u ← given t (bounded at)
+  done (record { ctype = u; own = None })
+
+-- Parameters (C11 6.7.6.3), of which the first has the number k. The pointer to a function is one derivation more.
 abbrev pub parameter : ℕ → Heading → Check Parameter
 parameter k h = do
   s ← h.run (where_named h.name h.first)
-  parameter_of k h.name h.first (adjusted s.ctype)
+  t ← given (adjusted s.ctype) (bounded (where_named h.name h.first))
+  parameter_of k h.name h.first t
 
 abbrev pub parameters : ℕ → List Heading → Check (List Parameter)
 parameters k [] = done []
@@ -279,7 +287,7 @@ module _ (here : Here) where
 
   abbrev pub declarator_step : Declarator-F Naming Declaring Typing Naming Naming Counting Heading Adding AddingOne Naming → Declaring
   declarator_step (Declarator-F.«Declarator::Name» n) =
-      record { name = n; bare = true; run = λ at t. done (record { ctype = t; own = None }) }
+      record { name = n; bare = true; run = bounded_shape }
   declarator_step (Declarator-F.Pointer d) = record { name = d.name; bare = false; run = λ at t. d.run at (pointer_to t) }
   declarator_step (Declarator-F.Array d n) = record { name = d.name; bare = false; run = array_declarator d n }
   declarator_step (Declarator-F.Func d hs variadic) = record { name = d.name; bare = false; run = function_declarator d hs variadic }

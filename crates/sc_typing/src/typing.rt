@@ -18,8 +18,8 @@ use sc_names::{begin_body, close_scope, complete_if, open_scope, tag_of};
 use sc_operators::conditional;
 use sc_parts::{
     a_name, a_typedef, accessed, adjusted, aggregate_kind, aggregate_type, array_of, assignment_to,
-    binary_of, called, cast_of, character, comma_of, enumerator, enumerator_value, field_of,
-    index_of, indexed, length_given, member_object, new_member, no_array, no_function,
+    binary_of, bounded, called, cast_of, character, comma_of, enumerator, enumerator_value,
+    field_of, index_of, indexed, length_given, member_object, new_member, no_array, no_function,
     parameter_of, pointer_to, post_increment_of, pre_increment_of, sizeof_of, sizeof_type_of,
     string, unary_of, undeclared, valued, width_given, with_field,
 };
@@ -488,7 +488,7 @@ pub fn declarator(
 {
     match d {
         Declarator::Name(_) => Ok(Shape {
-            ctype: t,
+            ctype: bounded(walk, at, t),
             own: None,
         }),
         Declarator::Pointer(inner) => {
@@ -618,8 +618,9 @@ fn parameter(
     ensures { Gives (spec.parameter number (spec.heading (tables.here_of here.now) h.now) walk.old) result walk.new }
 {
     let name = here.declared_name(&h.declarator);
-    let Shape { ctype, .. } = head(alloc, walk, here, h, where_named(name, h.pos))?;
-    let ctype = adjusted(alloc, ctype)?;
+    let at = where_named(name, h.pos);
+    let Shape { ctype, .. } = head(alloc, walk, here, h, at)?;
+    let ctype = bounded(walk, at, adjusted(alloc, ctype)?);
     parameter_of(alloc, walk, number, name, h.pos, ctype)
 }
 

@@ -24,7 +24,7 @@ use Rattle.sc_rules.specs.declared.walk.Given.TheVariants as takes
 use Rattle.sc_rules.specs.Faults.{ill_typed_at, unsupported_at}
 use Rattle.sc_rules.specs.Walks.{Check, ◌>>=◌, done}
 use Rattle.sc_rules.specs.Conversions.{node, type_of, place_of, promote, convert, opaque_kind, opaque_layer, converted}
-use Rattle.sc_calls.specs.Calls.{unknown_function, called_signature, result_of, takes_many, promoted_argument, argument_to, argument_unless, argument, front, behind as others, with_first, arguments, params_of, finished_call, call_with, call_taken, call_as, call, given_of, builtin_result, has_count, signature_or, two_longs, builtin_params, pointer_argument, in_front, first_pointer, builtin_arguments, builtin_callee, builtin_given, builtin_as, builtin_call}
+use Rattle.sc_calls.specs.Calls.{unknown_function, called_signature, result_of, takes_many, promoted_argument, argument_to, argument_unless, argument, front, behind as others, with_first, arguments, params_of, finished_call, call_with, call_taken, call_as, call, given_of, builtin_result, has_count, signature_or, two_longs, builtin_params, pointer_argument, in_front, first_pointer, builtin_arguments, no_pointer, passed_unless, passed, builtin_callee, builtin_given, builtin_as, builtin_call}
 use Rattle.sc_world.specs.Tree as tree
 use Rattle.sc_world.specs.Tree.{Ty, Int, Exp, Exps, NoExps, Exps', Call, Function}
 use Rattle.sc_world.specs.Source.{Source, Effect, Operation, Try, Allocate, Release, Ends, Expect, Known, Unknown, effect, effect_or, effect_of_name, text_of, known_body, known_at, known_if, place_in, fits_signature, signature_at, sum_at}
@@ -373,12 +373,23 @@ module _ (s : Source) where
         is : seen s (builtin_callee name d q) ≡ callee_seen name d q
         is = name_seen s.structs name None (unknown_function (builtin_result d)) q
 
+    passed_unless_made : (x : Option Pos) (ys : List TExpr) → Taken w at takes.Pointer ys → Gives (Taken w at takes.Pointer) (passed_unless x ys)
+    passed_unless_made None ys h = by_some (Taken w at takes.Pointer) ys h
+    passed_unless_made (Some q) ys h = by_fault (Taken w at takes.Pointer) (ill_typed_at i.Operand q)
+
+    arguments_passed : (g : Given) (o : Option (List TExpr)) → OnSome (Taken w at g) o → Gives (Taken w at g) (passed g o)
+    arguments_passed g None h = by_none (Taken w at g)
+    arguments_passed takes.Pointer (Some ys) h = passed_unless_made (no_pointer ys) ys h
+    arguments_passed takes.Any (Some ys) h = by_some (Taken w at takes.Any) ys h
+    arguments_passed takes.Two (Some ys) h = by_some (Taken w at takes.Two) ys h
+
     given_made : (name : NameId) (d : Builtin) (x : Signature) (q p : Place) (as' : List (Option TExpr)) → at ≡ p.first → Means (Some d) (effect_of_name s (text_of s name)) → (d ≡ b.Refused → ⊥)
         → (given_of d ≡ takes.Two → has_count takes.Two (length as') ≡ true) → Ready w at (given_of d) as'
-        → Gives (Fresh s) (arguments w at (builtin_params (given_of d) x) as' >>= λ r. done (finished_call p (builtin_result d) (builtin_callee name d q) r))
+        → Gives (Fresh s) (arguments w at (builtin_params (given_of d) x) as' >>= λ r. passed (given_of d) r >>= λ t. done (finished_call p (builtin_result d) (builtin_callee name d q) t))
     given_made name d x q p as' is m r count h =
         by_then (OnSome (Taken w at (given_of d))) (OnSome (Fresh s)) (arguments w at (builtin_params (given_of d) x) as') _ (taken_made w at (given_of d) x as' count h)
-        (λ o ho. by_done (OnSome (Fresh s)) (finished_call p (builtin_result d) (builtin_callee name d q) o) (side o ho))
+        (λ o ho. by_then (OnSome (Taken w at (given_of d))) (OnSome (Fresh s)) (passed (given_of d) o) _ (arguments_passed (given_of d) o ho)
+        (λ t ht. by_done (OnSome (Fresh s)) (finished_call p (builtin_result d) (builtin_callee name d q) t) (side t ht)))
       where
         side : (o : Option (List TExpr)) → OnSome (Taken w at (given_of d)) o → OnSome (Fresh s) (finished_call p (builtin_result d) (builtin_callee name d q) o)
         side None ho = tt

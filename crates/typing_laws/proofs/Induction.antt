@@ -19,7 +19,7 @@ use Rattle.sc_typing.specs.Typing.{base_step, declarator_step, expr_step, aggreg
 use Rattle.typing_laws.proofs.Steps.{keeps}
 use Rattle.typing_laws.proofs.Rules.{constant_kept}
 use Rattle.typing_laws.proofs.Parts.{name_kept, string_kept, typedef_kept}
-use Rattle.typing_laws.proofs.Walk.{OfTyping, OfDeclaring, OfHeading, OfNaming, OfAdding, OfAddingOne, OfCounting, Each, index_step_kept, field_step_kept, comma_kept, unary_step_kept, pre_step_kept, post_step_kept, function_kept, called_kept, array_kept, head_kept, part_kept, member_of_kept, aggregate_kept, counted_kept, enum_kept, assign_kept, choose_kept, operate_kept, cast_step_kept, sizeof_step_kept, sizeof_type_step_kept}
+use Rattle.typing_laws.proofs.Walk.{OfTyping, OfDeclaring, OfHeading, OfNaming, OfAdding, OfAddingOne, OfCounting, Each, index_step_kept, field_step_kept, comma_kept, unary_step_kept, pre_step_kept, post_step_kept, shape_kept, function_kept, called_kept, array_kept, head_kept, part_kept, member_of_kept, aggregate_kept, counted_kept, enum_kept, assign_kept, choose_kept, operate_kept, cast_step_kept, sizeof_step_kept, sizeof_type_step_kept}
 
 -- What holds of each part of a list, or of one that may be left out.
 
@@ -126,7 +126,7 @@ module _ (here : Here) where
   case-Base (Base-F.Named name at) alone = typedef_kept name at
 
   case-Declarator : (y : Declarator-F SB SD SE SA SN SC SH SM SP SS) → OfDeclaring (declarator_step here (typed-Declarator y))
-  case-Declarator (Declarator-F.«Declarator::Name» n) = λ at t. keeps (λ w. refl)
+  case-Declarator (Declarator-F.«Declarator::Name» n) = shape_kept
   case-Declarator (Declarator-F.Pointer d) = λ at t. d.1 at _
   case-Declarator (Declarator-F.Array d None) = array_kept here (declaring here d.0) None d.1 tt
   case-Declarator (Declarator-F.Array d (Some n)) = array_kept here (declaring here d.0) (Some (typing here n.0)) d.1 n.1

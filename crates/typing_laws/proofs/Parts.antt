@@ -26,6 +26,7 @@ use Rattle.sc_rules.specs.Conversions.{type_of}
 use Rattle.sc_names.specs.Names.{new_here, declare_if}
 use Rattle.sc_names.specs.Structs.{is_object, object_at, complete_if}
 use Rattle.sc_names.specs.Tags.{new_number, new_tag, declared_tag, found_tag, of_kind, clashes, tag_in, tag_for, tag_unless, tag_of, begin_body}
+use Rattle.sc_parts.specs.Bounds.{is_bounded, bounded}
 use Rattle.sc_parts.specs.Declarators.{in_range, ranged, length_number, length_of, no_function, no_array, declare_param, parameter_of}
 use Rattle.sc_parts.specs.Fields.{width_number, width_of, only_if, member_object, new_member, enumerator_bits, enumerator_value, enumerator}
 use Rattle.sc_parts.specs.Names.{is_wide, string, named, a_name, typedef_of, a_typedef}
@@ -116,6 +117,9 @@ param_kept k new name (Some t) = declare_kept new name (entity.Param k t)
 
 abbrev named_parameter : NameId → Pos → Option CType → Parameter
 named_parameter name at t = record { name = Some name; pos = at; ctype = t }
+
+pub bounded_kept : (at : Pos) (t : CType) → KeepsGlobals (bounded at t)
+bounded_kept at t = by_if (is_bounded t) _ _ (keeps (λ w. refl)) (keeps (λ w. refl))
 
 pub parameter_kept : (k : ℕ) (name : Option (NameId × Pos)) (first : Pos) (t : Option CType) → KeepsGlobals (parameter_of k name first t)
 parameter_kept k None first t = keeps (λ w. refl)

@@ -32,7 +32,7 @@ use Rattle.typing_laws.specs.Kept.{KeepsGlobals}
 use Rattle.typing_laws.proofs.Steps.{keeps, by_then, by_done, by_given, by_both}
 use Rattle.typing_laws.proofs.Rules.{value_kept, binary_kept, pre_kept, post_kept, conditional_kept, unary_kept, cast_kept, index_kept, field_kept}
 use Rattle.typing_laws.proofs.Calls.{call_kept, callee_kept, builtin_kept}
-use Rattle.typing_laws.proofs.Parts.{tag_kept, begin_kept, complete_kept, length_kept, no_function_kept, no_array_kept, parameter_kept, width_kept, member_kept, new_member_kept, number_value_kept, enumerator_kept, assigned_kept, sizeof_kept, sizeof_type_kept, indexed_kept, accessed_kept}
+use Rattle.typing_laws.proofs.Parts.{tag_kept, begin_kept, complete_kept, length_kept, no_function_kept, no_array_kept, bounded_kept, parameter_kept, width_kept, member_kept, new_member_kept, number_value_kept, enumerator_kept, assigned_kept, sizeof_kept, sizeof_type_kept, indexed_kept, accessed_kept}
 
 -- What is asked of the parts.
 
@@ -112,10 +112,15 @@ post_step_kept s a p k = by_then _ _ k (λ x. by_given x _ (post_kept s p))
 type_named_kept : (h : Heading) → OfHeading h → KeepsGlobals (spec.type_named h)
 type_named_kept h k = by_done (h.run h.first) (λ s. s.ctype) (k h.first)
 
--- Parameters.
+-- Declarators and parameters.
+
+pub shape_kept : (at : Pos) (t : Option CType) → KeepsGlobals (spec.bounded_shape at t)
+shape_kept at t = by_done _ (λ u. record { ctype = u; own = None }) (by_given t _ (bounded_kept at))
 
 one_kept : (n : ℕ) (h : Heading) → OfHeading h → KeepsGlobals (spec.parameter n h)
-one_kept n h k = by_then _ _ (k _) (λ s. parameter_kept n h.name h.first (adjusted s.ctype))
+one_kept n h k =
+    by_then _ _ (k _) (λ s.
+    by_then _ _ (by_given (adjusted s.ctype) _ (bounded_kept (spec.where_named h.name h.first))) (λ t. parameter_kept n h.name h.first t))
 
 parameters_kept : (n : ℕ) (hs : List Heading) → Each OfHeading hs → KeepsGlobals (spec.parameters n hs)
 parameters_kept n [] ks = keeps (λ w. refl)

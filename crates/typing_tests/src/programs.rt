@@ -48,6 +48,11 @@ const BODIES: &[(&str, &str, Answer)] = &[
         Answer::Duplicate(true),
     ),
     (
+        "static void f(double);void f(_Bool x){}",
+        "void f(_Bool x){}",
+        Answer::Duplicate(true),
+    ),
+    (
         "static void f(void){}",
         "static void f(void){}",
         Answer::Functions(2),

@@ -330,6 +330,21 @@ const NOT_ALLOWED: &[(&str, IllTyped, u32)] = &[
         23,
     ),
     ("void f(void){void x;}", IllTyped::Incomplete, 19),
+    (
+        "void free(_Bool);void f(char*p){free(p);}",
+        IllTyped::Operand,
+        38,
+    ),
+    (
+        "void free(int);void f(void){free(0);}",
+        IllTyped::Operand,
+        29,
+    ),
+    (
+        "int spin_trylock(_Bool,int);void f(char**p){spin_trylock(*p,1);}",
+        IllTyped::Operand,
+        58,
+    ),
     ("void f(int a){int a;}", IllTyped::Again, 19),
     ("void f(void){int x;extern int x;}", IllTyped::Again, 31),
     ("void f(void){l:;l:;}", IllTyped::Again, 17),

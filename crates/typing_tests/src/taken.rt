@@ -26,6 +26,7 @@ const WHOLE: &[&str] = &[
     "void f(int a){switch(a){case 1:goto l;default:;l:;}}",
     "int f(long long x){return x==4294967296;}",
     "typedef struct{int v;}spinlock_t;void f(_Bool c,spinlock_t*l){spin_lock(l);if(c)spin_lock(l);}",
+    "void free(char*);void f(int*p){free(p);free(0);}",
     "void f(int(*p)[2],char*q){p==0;q==(void*)p;!q;q&&p;}",
     "void f(char*p,_Bool b){b=p;if(p)while(p)do;while(p);}",
     "void f(void){for(int i=0;i<3;++i)break;while(1)continue;}",

@@ -1,6 +1,6 @@
 -- What is checked, and what a check says, as plain data.
 use Rattle.sc_check.specs.Typed.{Sources}
-pub use Rattle.whole_checks.specs.declared.said.Said.{Said as Code}
+use Rattle.whole_checks.specs.declared.said.Said.{Said as Code}
 use Rattle.whole_checks.specs.declared.said.Said.TheVariants as code
 use Rattle.whole_checks.specs.declared.sources.Sources.{Sources as Given}
 use Rattle.whole_checks.specs.Said.{Said, Whole, Twice, Beyond}

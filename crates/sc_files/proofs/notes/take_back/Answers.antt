@@ -5,5 +5,5 @@ use Rattle.sc_files.proofs.notes.take_back.Goals as goal
 
 pub returns-clause-tied : goal.returns-clause-tied
 returns-clause-tied c =
-    c.truncate-3.ensures ∙ ap (take c.args.globals) c.requires ∙ take-map key_of c.args.globals c.args.walk.now.globals
+    c.truncate-4.ensures ∙ ap (take c.args.before.globals) c.requires ∙ take-map key_of c.args.before.globals c.args.walk.now.globals
     ∙ ap (map key_of) (sym c.truncate.ensures)
