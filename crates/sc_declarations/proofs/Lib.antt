@@ -1,3 +1,4 @@
 pub mod Joined
 pub mod Expressions
 pub mod Kept
+pub mod Going
