@@ -34,4 +34,6 @@ mod statements;
 #[cfg(test)]
 mod told;
 #[cfg(test)]
+mod voids;
+#[cfg(test)]
 mod worked;

@@ -1,22 +1,8 @@
--- Marks made along a list of nodes.
+-- Temps, one after another.
 use Rattle.std.proofs.Common.{◌≡◌, ℕ, zero, suc, ◌+◌, ◌-◌, ◌<◌, Bool, true, false, ◌&&◌, ◌||◌, List, [], ◌∷◌, map, replicate, refl, ◌∙◌, ap, arith}
 use Rattle.flow_graph.specs.Conditions.{InTemp, InSlot}
 use Rattle.flow_graph.specs.Growing.{numbers}
-use Rattle.flow_fits.specs.Marks.{marked}
 use Rattle.flow_fits.specs.Voids.{each_temp}
-
--- where there are no marks, none is
-pub none_marked : (n m : ℕ) → marked (replicate n false) m ≡ false
-none_marked zero m = refl
-none_marked (suc n) zero = refl
-none_marked (suc n) (suc m) = none_marked n m
-
--- what is marked is marked, first or last
-pub filled_first : (a b c : Bool) → ((a || b) || c) ≡ (b || (a || c))
-filled_first true true c = refl
-filled_first true false c = refl
-filled_first false true c = refl
-filled_first false false c = refl
 
 -- of the numbers from k on, the first and the others
 pub numbers_first : (test : ℕ → Bool) (f c k : ℕ) → k < c

@@ -8,6 +8,8 @@ use Rattle.sc_world.specs.Source.{Source}
 use Rattle.sc_world.specs.Layout.{Layout}
 use Rattle.flow_graph.specs.Nodes.{Node, Exit}
 use Rattle.flow_graph.specs.Unrolled.{flow}
+use Rattle.flow_exits.specs.Exits.{flow_in_gates}
+use Rattle.flow_exits.specs.Laws.{NodesStay}
 use Rattle.flow_types.specs.Nodes.{TempsAreOfOneType}
 use Rattle.flow_turns.specs.Before.{GivesScalars}
 use Rattle.flow_gates.specs.Graph.{CanEncode}
@@ -35,27 +37,29 @@ dropped : (x y : Bool) → false ≡ (x && (false && y))
 dropped true y = refl
 dropped false y = refl
 
-module _ (s : Source) (p : Layout) (ns : List Node) (same : ns ≡ (flow s).nodes) where
+module _ (s : Source) (p : Layout) (ns : List Node) (same : ns ≡ (flow_in_gates s p).nodes) where
   -- b: what the test of results answered, for these nodes
   module _ (b : Bool) (is : b ≡ gives_scalars s ns) where
-    gives_is : b ≡ gives_scalars s (flow s).nodes
+    gives_is : b ≡ gives_scalars s (flow_in_gates s p).nodes
     gives_is = is ∙ ap (gives_scalars s) same
 
     pub refused : b ≡ false → false ≡ test.can_encode s p
-    refused fails = dropped (function_fits s p) (reads_no_void (flow s).nodes) ∙ ap (λ x. function_fits s p && (x && reads_no_void (flow s).nodes)) (sym fails ∙ gives_is)
+    refused fails =
+        dropped (function_fits s p) (reads_no_void (flow_in_gates s p).nodes)
+        ∙ ap (λ x. function_fits s p && (x && reads_no_void (flow_in_gates s p).nodes)) (sym fails ∙ gives_is)
 
     -- r: what the test of reads answered
     module _ (scalar : b ≡ true) (r : Bool) (reads : r ≡ reads_no_void ns) where
       pub answered : (a : Bool) → a ≡ function_fits s p → a ≡ true → r ≡ test.can_encode s p
       answered a fits holds =
-          reads ∙ ap reads_no_void same ∙ ap (λ x. x && reads_no_void (flow s).nodes) (sym scalar ∙ gives_is)
-          ∙ ap (λ x. x && (gives_scalars s (flow s).nodes && reads_no_void (flow s).nodes)) (sym holds ∙ fits)
+          reads ∙ ap reads_no_void same ∙ ap (λ x. x && reads_no_void (flow_in_gates s p).nodes) (sym scalar ∙ gives_is)
+          ∙ ap (λ x. x && (gives_scalars s (flow_in_gates s p).nodes && reads_no_void (flow_in_gates s p).nodes)) (sym holds ∙ fits)
 
-      pub passes : TempsAreOfOneType → FunctionFits s p → r ≡ true → CanEncode s p
-      passes law fits holds =
+      pub passes : TempsAreOfOneType → NodesStay → FunctionFits s p → r ≡ true → CanEncode s p
+      passes law stay fits holds =
           let types = law s p fits in
           record {
             types = types;
-            void = no_void s p types.kinds (flow s).nodes types.nodes (sym (ap reads_no_void same) ∙ sym reads ∙ holds);
-            scalar = scalars s (flow s).nodes (sym gives_is ∙ scalar);
+            void = no_void s p types.kinds (flow_in_gates s p).nodes ((stay p (flow s).nodes).fit s types.kinds types.nodes) (sym (ap reads_no_void same) ∙ sym reads ∙ holds);
+            scalar = scalars s (flow_in_gates s p).nodes (sym gives_is ∙ scalar);
           }

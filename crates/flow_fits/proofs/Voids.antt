@@ -12,7 +12,8 @@ use Rattle.flow_types.specs.Kinds.{ValueOf, PlaceOf, Kinds, IsKept, IsFor}
 use Rattle.flow_types.specs.Nodes.{NodeFits, AllFit}
 use Rattle.flow_turns.specs.Kept.{is_for_void}
 use Rattle.flow_turns.specs.Before.{ReadsNoVoid, drops}
-use Rattle.flow_fits.specs.Voids.{filled_by, is_that, is_filled, each_temp, each_read, node_reads, reads_no_void}
+use Rattle.flow_exits.specs.Exits.{is_that}
+use Rattle.flow_fits.specs.Voids.{filled_by, is_filled, each_temp, each_read, node_reads, reads_no_void}
 
 -- Tests of lists.
 

@@ -4,7 +4,7 @@ use Rattle.run_laws.specs.Fits.{is_scalar}
 use Rattle.sc_world.specs.Source.{Source}
 use Rattle.sc_world.specs.Layout.{Layout}
 use Rattle.flow_graph.specs.Nodes.{Node, Keep, KeepCells, CallOf, Update, Set, Fill, Branch, Choose, Mark, MarkSwitch, Exit, SetAside}
-use Rattle.flow_graph.specs.Unrolled.{flow}
+use Rattle.flow_exits.specs.Exits.{flow_in_gates}
 use Rattle.function_fits.specs.Functions.{function_fits}
 use Rattle.flow_fits.specs.Voids.{reads_no_void}
 
@@ -33,4 +33,4 @@ abbrev pub gives_scalars : Source → List Node → Bool
 gives_scalars s nodes = is_scalar s.result || gives_none nodes
 
 abbrev pub can_encode : Source → Layout → Bool
-can_encode s p = function_fits s p && (gives_scalars s (flow s).nodes && reads_no_void (flow s).nodes)
+can_encode s p = function_fits s p && (gives_scalars s (flow_in_gates s p).nodes && reads_no_void (flow_in_gates s p).nodes)

@@ -1,4 +1,3 @@
 pub mod Voids
 pub mod Encodable
-pub mod Marks
 pub mod Text

@@ -4,6 +4,7 @@ use Rattle.sc_world.specs.Tree.{is_void, type_of}
 use Rattle.sc_world.specs.Eval.{Value, Place'}
 use Rattle.flow_graph.specs.Nodes.{Node, Keep, KeepCells, CallOf, Update, Set, Fill, Branch, Choose, Mark, MarkSwitch, Exit, SetAside}
 use Rattle.flow_graph.specs.Conditions.{Held, InTemp, InSlot, read_by}
+use Rattle.flow_exits.specs.Exits.{is_that}
 use Rattle.flow_turns.specs.Before.{drops}
 
 -- the temp in which a node keeps something: a place, or a value of another type than `void`
@@ -21,10 +22,6 @@ filled_by (Mark p x next) = None
 filled_by (MarkSwitch p t from next) = None
 filled_by (Exit from) = None
 filled_by (SetAside r) = None
-
-abbrev pub is_that : ℕ → Option ℕ → Bool
-is_that m None = false
-is_that m (Some t) = nat_eq m t
 
 -- some node keeps something in the temp
 abbrev pub is_filled : List Node → ℕ → Bool

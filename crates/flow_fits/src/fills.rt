@@ -4,10 +4,10 @@ ghost use Rattle.std.specs.Prelude.{◌≡◌, ◌<◌, ◌||◌, ℕ, length, m
 ghost use Rattle.flow_graph.specs.Nodes as graph;
 ghost use Rattle.sc_flow.specs.Seen as seen;
 ghost use Rattle.sc_world.specs.Tree as tree;
-ghost use Rattle.flow_fits.specs.Marks as marks;
+ghost use Rattle.flow_exits.specs.Marks as marks;
 ghost use Rattle.flow_fits.specs.Voids as spec;
 
-use crate::marks::{mark, unmarked};
+use flow_exits::{mark, unmarked};
 use sc_base::OutOfMemory;
 use sc_flow::{Expression, Node, Want};
 use sc_gather::{Context, is_void};
@@ -72,7 +72,7 @@ fn filled_by(here: &Context, node: &Node) -> Option<u32>
 }
 
 // Marks the temps that the nodes fill.
-#[tactic(auto, using(crate::proofs::Marking::filled_first))]
+#[tactic(auto, using(flow_exits::proofs::Marking::filled_first))]
 fn mark_filled(flags: &mut [bool], here: &Context, nodes: &[Node])
     ensures { (m : ℕ) → m < length flags.old
         → marks.marked flags.new m ≡ (spec.is_filled (map (seen.node (seen.structs_of here.now)) nodes.now) m || marks.marked flags.old m) }

@@ -5,7 +5,6 @@
 #![tactic(auto)]
 
 mod fills;
-mod marks;
 mod reads;
 mod text;
 mod whole;

@@ -3,11 +3,11 @@
 ghost use Rattle.std.specs.Prelude.{◌≡◌, map};
 ghost use Rattle.flow_graph.specs.Conditions.{InTemp, read_by, temps_of};
 ghost use Rattle.sc_flow.specs.Seen as seen;
-ghost use Rattle.flow_fits.specs.Marks as marks;
+ghost use Rattle.flow_exits.specs.Marks as marks;
 ghost use Rattle.flow_fits.specs.Voids as spec;
 
-use crate::marks::marked;
 use crate::text::names_marked;
+use flow_exits::marked;
 use flow_gates::drops;
 use sc_flow::{Expression, Node, Numbers};
 use sc_gather::Context;

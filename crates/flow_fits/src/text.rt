@@ -4,10 +4,10 @@ ghost use Rattle.std.specs.Prelude.{◌≡◌};
 ghost use Rattle.sc_flow.specs.Seen as seen;
 ghost use Rattle.sc_gather.specs.Seen.{arguments_of};
 ghost use Rattle.sc_world.specs.View.{exp};
-ghost use Rattle.flow_fits.specs.Marks as marking;
+ghost use Rattle.flow_exits.specs.Marks as marking;
 ghost use Rattle.flow_fits.specs.Text as spec;
 
-use crate::marks::marked;
+use flow_exits::marked;
 use sc_base::List;
 use sc_flow::Expression;
 use sc_gather::Context;

@@ -14,6 +14,7 @@ ghost use Rattle.flow_fits.specs.Voids.{reads_no_void as no_void_in};
 
 use crate::fills::filled;
 use crate::reads::each_reads_marked;
+use flow_exits::{nodes_stay, without_values};
 use flow_graph::nodes_are_fine;
 use flow_types::temps_are_of_one_type;
 use function_fits::function_fits;
@@ -90,8 +91,8 @@ fn reads_no_void(alloc: Global, here: &Context, flow: &Flow) -> Result<bool, Out
 }
 
 /// Whether the function at hand has gates: it fits its layout, none of its nodes reads a value of type `void` but to drop it, and
-/// if it gives a value, that is a number or a pointer. `flow` is its graph. Besides the test of its text this takes time that
-/// is linear in the text of all nodes.
+/// if it gives a value, that is a number or a pointer, or nothing that a call of type `void` gives. `flow` is its graph. Besides the test of
+/// its text this takes time that is linear in the text of all nodes.
 #[tactic(auto, unfolding(layout_base::specs::Seen::ground_of))]
 pub fn can_encode<'p, 'm, 'f>(
     alloc: Global,
@@ -108,12 +109,14 @@ pub fn can_encode<'p, 'm, 'f>(
 {
     temps_are_of_one_type();
     nodes_are_fine();
+    nodes_stay();
     if !function_fits(ground, layout) {
         return Ok(false);
     }
-    if !gives_scalars(ground.here, flow) {
+    let ended = without_values(alloc, ground.here, layout, flow)?;
+    if !gives_scalars(ground.here, &ended) {
         return Ok(false);
     }
-    let can = reads_no_void(alloc, ground.here, flow)?;
+    let can = reads_no_void(alloc, ground.here, &ended)?;
     Ok(can)
 }

@@ -5,7 +5,7 @@ use Rattle.bit_net.specs.Circuit.{input_count}
 use Rattle.sc_world.specs.Source.{Source}
 use Rattle.sc_world.specs.Layout.{Layout}
 use Rattle.flow_graph.specs.Nodes as graph
-use Rattle.flow_graph.specs.Unrolled.{flow}
+use Rattle.flow_exits.specs.Exits.{flow_in_gates}
 use Rattle.flow_types.specs.Nodes.{AreOfOneType}
 use Rattle.flow_turns.specs.declared.before.Before.{Before}
 use Rattle.flow_turns.specs.declared.before.Arrival.{Arrival}
@@ -33,9 +33,9 @@ pub record IsThere (s : Source) (p : Layout) (f : Flow) (at : ℕ) (n : graph.No
   pub node : slice_get (nodes_of s f) at ≡ Some n
   pub stands : IsAt s p (nodes_of s f) at ns x here
 
--- Each temp of the graph has one kind by which all nodes fit. No node reads a temp for values of type `void` but to drop it, and a
--- function that gives a value gives a number or a pointer.
+-- Each temp of the graph has one kind by which all nodes fit. In the graph of which gates are made no node reads a temp for values of type
+-- `void` but to drop it, and if it gives a value, that is a number or a pointer.
 pub record CanEncode (s : Source) (p : Layout) : Type 0 where
   pub types : AreOfOneType s p
-  pub void : ReadsNoVoid types.kinds (flow s).nodes
-  pub scalar : GivesScalars s (flow s).nodes
+  pub void : ReadsNoVoid types.kinds (flow_in_gates s p).nodes
+  pub scalar : GivesScalars s (flow_in_gates s p).nodes

@@ -9,13 +9,13 @@ use Rattle.gate_runs.specs.Stands.{told}
 use Rattle.sc_world.specs.Source.{Source}
 use Rattle.sc_world.specs.Layout.{Layout}
 use Rattle.sc_world.specs.World.{Ended, Error, Inner, Aside}
-use Rattle.flow_graph.specs.Laws.{WalksAreRuns}
-use Rattle.flow_graph.specs.Unrolled.{flow}
+use Rattle.flow_graph.specs.Nodes.{Node}
 use Rattle.flow_ends.specs.declared.encoded.Encoded.{Encoded}
 use Rattle.flow_ends.specs.Encoded.{TellsRun, IsEncoded}
 use Rattle.flow_stages.specs.Stage.{Stage, At, Out, Over, whole, is_at}
 use Rattle.flow_turns.specs.declared.before.Before.{Before}
 use Rattle.flow_turns.specs.Before.{AreGates, IsBefore, seen}
+use Rattle.flow_turns.specs.Ends.{AreRuns}
 use Rattle.flow_types.specs.Kinds.{Kinds}
 
 told_past : (v : ℕ → Bool) (gs : List Gate) (l : ℕ) → length gs ≤ l → told v gs l ≡ false
@@ -46,9 +46,9 @@ at_is l (Aside r) = refl
 abbrev encoded : Before → Encoded
 encoded x = record { fates = x.fates; store = x.store; result = x.result }
 
-module _ (s : Source) (p : Layout) (ns : List Gates) (x : Before) (k : Kinds) (gates : AreGates ns x) (locations : length x.fates.bads.items ≡ length p.locations) (bits : List Bool) (v : ℕ → Bool) where
-  tells : Stage (record { source = s; layout = p; bits = bits }) (flow s).nodes (length p.locations) (length (flow s).nodes) (seen v p k x)
-      → TellsRun v (encoded x) (whole (record { source = s; layout = p; bits = bits }) (flow s).nodes)
+module _ (s : Source) (p : Layout) (nodes : List Node) (ns : List Gates) (x : Before) (k : Kinds) (gates : AreGates ns x) (locations : length x.fates.bads.items ≡ length p.locations) (bits : List Bool) (v : ℕ → Bool) where
+  tells : Stage (record { source = s; layout = p; bits = bits }) nodes (length p.locations) (length nodes) (seen v p k x)
+      → TellsRun v (encoded x) (whole (record { source = s; layout = p; bits = bits }) nodes)
   tells (At at kept w h) = absurd (let low = h.behind in let high = h.within in omega arith)
   tells (Out r w h) = subst (TellsRun v (encoded x)) (sym h.is) (
     record {
@@ -65,9 +65,9 @@ module _ (s : Source) (p : Layout) (ns : List Gates) (x : Before) (k : Kinds) (g
     touched = λ is l low. h.ended.touched is l (subst (λ (i : ℕ). l < i) (gates.fates.each_touched ∙ locations) low);
   })
 
-pub finished : (ns : List Gates) (x : Before) → AreGates ns x → WalksAreRuns → (s : Source) (p : Layout) → input_count ns ≡ p.bits
-    → IsBefore s p (flow s).nodes (length (flow s).nodes) ns x → IsEncoded s p ns (encoded x)
-finished ns x gates law s p inputs h = record {
+pub finished : (ns : List Gates) (x : Before) → AreGates ns x → (s : Source) (p : Layout) (nodes : List Node) → input_count ns ≡ p.bits → AreRuns s p nodes
+    → IsBefore s p nodes (length nodes) ns x → IsEncoded s p ns (encoded x)
+finished ns x gates s p nodes inputs runs_are h = record {
   inputs = inputs;
   fates = record {
     over = gates.fates.over;
@@ -85,6 +85,6 @@ finished ns x gates law s p inputs h = record {
   result = gates.result;
   kind = λ void. h.shape.result;
   tells = λ bits few v runs.
-      subst (TellsRun v (encoded x)) (law s p bits)
-      (tells s p ns x h.kinds gates h.shape.locations bits v (h.tells bits few v runs).stage);
+      subst (TellsRun v (encoded x)) (runs_are bits)
+      (tells s p nodes ns x h.kinds gates h.shape.locations bits v (h.tells bits few v runs).stage);
 }

@@ -11,7 +11,8 @@ use Rattle.gl_store.specs.Steps.{IsBlank}
 use Rattle.sc_world.specs.Source.{Source}
 use Rattle.sc_world.specs.Layout.{Layout}
 use Rattle.sc_world.specs.World.{bit_at, kind_of_type, entry_world}
-use Rattle.flow_graph.specs.Nodes.{Node}
+use Rattle.sc_world.specs.Exec.{run}
+use Rattle.flow_graph.specs.Nodes.{Node, walk}
 use Rattle.flow_graph.specs.Conditions.{Held, kept_first}
 use Rattle.flow_types.specs.Kinds.{Kinds}
 use Rattle.flow_ends.specs.Encoded.{kinds_of}
@@ -51,3 +52,7 @@ pub record Begins (ns : List Gates) (store : Store) (blank : Val) (locations tem
   pub at : (s : Source) (p : Layout) (k : Kinds) (nodes : List Node) → IsFit s p k nodes → CanBegin nodes → IsEntry s p ns store
       → IsBlank ns (kind_of_type s (Some s.result)) blank → length p.locations ≡ locations → length k.temps ≡ temps → length k.slots ≡ slots
       → IsBefore s p nodes 0 ns x
+
+-- the walk over the nodes is the run of the function, for every choice
+abbrev pub AreRuns : Source → Layout → List Node → Type 0
+AreRuns s p nodes = (choice : List Bool) → walk s p choice nodes (entry_world s p choice) ≡ run s p choice

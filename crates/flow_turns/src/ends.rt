@@ -8,17 +8,16 @@ ghost use Rattle.gl_store.specs.Meets.{locations_top, val_top};
 ghost use Rattle.gl_store.specs.declared.values.Val.TheVariants as val;
 ghost use Rattle.sc_world.specs.Layout.{Layout};
 ghost use Rattle.sc_world.specs.Source.{Source};
-ghost use Rattle.flow_graph.specs.Unrolled.{flow};
+ghost use Rattle.flow_graph.specs.Nodes.{Node};
 ghost use Rattle.flow_ends.specs.Encoded.{IsEncoded};
 ghost use Rattle.flow_turns.specs.Before.{AreGates, IsBefore};
-ghost use Rattle.flow_turns.specs.Ends.{AreBlank, Begins, AreUnkept};
+ghost use Rattle.flow_turns.specs.Ends.{AreBlank, AreRuns, Begins, AreUnkept};
 ghost use Rattle.flow_turns.specs.Kept.{AreTemps, vals_top};
 
 use crate::before::Before;
 use crate::temps::{Slot, Temps};
 use bit_net::{Gate, Net, OutOfMemory};
 use flow_ends::{Encoded, Fates};
-use flow_graph::walks_are_runs;
 use flow_ways::Ways;
 use gl_store::{Store, Val};
 
@@ -126,12 +125,12 @@ impl Before {
         })
     }
 
-    /// What is told of all runs, when each node of the function's graph was gone past.
+    /// What is told of all runs, when each of the nodes was gone past whose walks are the runs.
     pub fn finish(self, net: &Net) -> Encoded
         requires gates { AreGates net.now self }
-        ensures { (s : Source) (p : Layout) → input_count net.now ≡ p.bits → IsBefore s p (flow s).nodes (length (flow s).nodes) net.now self → IsEncoded s p net.now result }
+        ensures { (s : Source) (p : Layout) (nodes : List Node) → input_count net.now ≡ p.bits → AreRuns s p nodes
+            → IsBefore s p nodes (length nodes) net.now self → IsEncoded s p net.now result }
     {
-        walks_are_runs();
         let _net = net;
         let Before {
             store,

@@ -1,5 +1,5 @@
 -- A node that assigns by an operator: what is asked of the step, from what holds at the node.
-use Rattle.std.proofs.Common.{◌≡◌, ℕ, suc, ◌+◌, ◌<◌, nat_eq, Bool, true, false, ◌||◌, Some, List, [], ◌∷◌, map, length, slice_get, refl, sym, ◌∙◌, ap, subst, arith}
+use Rattle.std.proofs.Common.{◌≡◌, ℕ, ◌<◌, nat_eq, Bool, true, false, ◌||◌, Some, List, [], ◌∷◌, length, slice_get, refl, sym, ◌∙◌, ap, subst, arith}
 use Rattle.std.proofs.lemmas.Bool.{eq-eqb, eqb-true}
 use Rattle.bit_net.specs.declared.nodes.Gate.{Gate}
 use Rattle.bit_net.specs.declared.nodes.Node.{Node as Gates}
@@ -9,7 +9,6 @@ use Rattle.sc_world.specs.Source.{Source}
 use Rattle.sc_world.specs.Layout.{Layout}
 use Rattle.sc_world.specs.Eval.{Want, is_logical}
 use Rattle.flow_graph.specs.Nodes.{Node, Updating, Update}
-use Rattle.flow_graph.specs.Conditions.{InTemp, among}
 use Rattle.flow_stages.proofs.OfNodes.{nodes_are_fine_at}
 use Rattle.flow_turns.specs.declared.before.Before.{Before}
 use Rattle.flow_turns.specs.declared.before.Arrival.{Arrival}

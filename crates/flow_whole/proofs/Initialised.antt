@@ -1,5 +1,5 @@
 -- Nodes of initialisers in braces: what is asked of their steps, from what holds at the node.
-use Rattle.std.proofs.Common.{◌≡◌, ℕ, suc, ◌+◌, ◌<◌, true, Some, List, length, slice_get, refl, sym, ◌∙◌, ap, subst, arith}
+use Rattle.std.proofs.Common.{◌≡◌, ℕ, ◌<◌, Some, List, length, slice_get, sym, ◌∙◌, ap, subst, arith}
 use Rattle.bit_net.specs.declared.nodes.Node.{Node as Gates}
 use Rattle.gl_store.specs.declared.stores.Location.{Location}
 use Rattle.run_laws.specs.Fits.{if_scalar}

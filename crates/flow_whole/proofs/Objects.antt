@@ -1,22 +1,20 @@
 -- A node that sets a local to an object: what is asked of the copy, from what holds at the node.
-use Rattle.std.proofs.Common.{◌≡◌, ℕ, zero, suc, ◌+◌, ◌<◌, Bool, true, false, if◌then◌else◌, Some, List, [], ◌∷◌, ◌++◌, map, length, slice_get, slice_index_or, refl, sym, ◌∙◌, ap, subst, arith}
+use Rattle.std.proofs.Common.{◌≡◌, ℕ, zero, suc, ◌<◌, Bool, false, if◌then◌else◌, Some, List, [], ◌∷◌, ◌++◌, map, length, slice_get, slice_index_or, refl, sym, ◌∙◌, ap, subst, arith}
 use Rattle.bit_net.specs.declared.nodes.Node.{Node as Gates}
 use Rattle.gl_store.specs.declared.stores.Location.{Location}
 use Rattle.gl_store.specs.Meets.{kinds}
-use Rattle.gate_steps.specs.Steps.{kind_at}
 use Rattle.gate_places.specs.Places.{IsLaid}
 use Rattle.run_store.specs.Concrete.{Kind, NoCell}
 use Rattle.run_laws.specs.Fits.{is_scalar, if_scalar}
 use Rattle.sc_world.specs.declared.run.Origin.TheVariants as origin
 use Rattle.sc_world.specs.Tree.{Ty, Exp, type_of}
 use Rattle.sc_world.specs.Source.{Source}
-use Rattle.sc_world.specs.Layout.{Layout, Location as Place, location, location_of}
+use Rattle.sc_world.specs.Layout.{Layout, Location as Place, location_of}
 use Rattle.sc_world.specs.World.{kind_of_type}
 use Rattle.sc_world.specs.Eval.{Want, Value, Place'}
 use Rattle.flow_graph.specs.Nodes.{Node, Set}
 use Rattle.flow_graph.specs.Conditions.{temps_of}
 use Rattle.flow_types.specs.Kinds as flow
-use Rattle.flow_types.specs.Nodes.{NodeFits}
 use Rattle.flow_ends.specs.Encoded.{kinds_of}
 use Rattle.flow_stages.proofs.OfNodes.{nodes_are_fine_at}
 use Rattle.flow_turns.specs.declared.before.Before.{Before}

@@ -7,6 +7,9 @@ ghost use Rattle.gl_store.specs.Meets.{locations_top, val_top};
 ghost use Rattle.gl_store.specs.Steps.{IsBlank};
 ghost use Rattle.sc_world.specs.Source.{Struct};
 ghost use Rattle.sc_world.specs.World.{kind_of_type};
+ghost use Rattle.flow_exits.specs.Ended.{ended as ended_nodes};
+ghost use Rattle.flow_exits.specs.Exits.{ending_flow, flow_in_gates};
+ghost use Rattle.flow_graph.specs.Conditions.{AllFine};
 ghost use Rattle.flow_graph.specs.Unrolled as spec;
 ghost use Rattle.flow_ends.specs.Encoded.{IsEncoded};
 ghost use Rattle.flow_turns.specs.Before.{AreGates, IsAt, IsHere};
@@ -22,9 +25,10 @@ use crate::locals::set;
 use crate::updates::{Updates, update};
 use bit_net::{Net, OutOfMemory};
 use flow_ends::Encoded;
+use flow_exits::{nodes_stay, walks_stay, without_values};
 use flow_fills::Laid;
 use flow_gates::{Calls, Graph, Keeping, Setting, Steps, call, keep};
-use flow_graph::{nodes_are_fine, there_is_no_cycle, what_is_read_was_kept};
+use flow_graph::{nodes_are_fine, there_is_no_cycle, walks_are_runs, what_is_read_was_kept};
 use flow_turns::{Arrival, Before};
 use flow_updates::Assignment;
 use gl_sets::is_never;
@@ -373,6 +377,63 @@ fn visit<S: Steps>(
     Ok(())
 }
 
+// The same, over the graph whose ends give no value where all that it gives is nothing.
+fn encode_ended<S: Steps>(
+    graph: &Graph<S>,
+    laid: &Laid,
+    net: &mut Net,
+    entry: Store,
+    blank: Val,
+    locations: usize,
+) -> Result<Encoded, OutOfMemory>
+    requires laid { IsOf (S.source graph.now.steps.now) (S.layout graph.now.steps.now) laid.now }
+    requires unrolled { seen.flow (S.source graph.now.steps.now).structs graph.now.flow.now
+        ≡ flow_in_gates (S.source graph.now.steps.now) (S.layout graph.now.steps.now) }
+    requires small { IsSmall (S.layout graph.now.steps.now) net.old }
+    requires inputs { input_count net.old ≡ (S.layout graph.now.steps.now).bits }
+    requires have { AllHaveGates (S.takes graph.now.steps.now) (S.makes graph.now.steps.now) graph.now.flow.now.nodes }
+    requires can { CanEncode (S.source graph.now.steps.now) (S.layout graph.now.steps.now) }
+    requires below { locations_top entry.locations.items ≤ length net.old }
+    requires entry { IsEntry (S.source graph.now.steps.now) (S.layout graph.now.steps.now) net.old entry }
+    requires blank { IsBlank net.old (kind_of_type (S.source graph.now.steps.now) (Some (S.source graph.now.steps.now).result)) blank }
+    requires locations { length (S.layout graph.now.steps.now).locations ≡ locations }
+    ensures grown { Grown net.old net.new }
+    ensures ok { IfOk result (λ r. IsEncoded (S.source graph.now.steps.now) (S.layout graph.now.steps.now) net.new r) }
+{
+    there_is_no_cycle();
+    nodes_are_fine();
+    what_is_read_was_kept();
+    walks_are_runs();
+    walks_stay();
+    nodes_stay();
+    let (temps, slots) = (graph.flow.temps as usize, graph.flow.slots as usize);
+    let mut before = Before::begin(net, entry, blank, locations, temps, slots)?;
+    for at in 0..graph.flow.nodes.len() {
+        visit(graph, laid, &mut before, net, at)?;
+    }
+    Ok(before.finish(net))
+}
+
+// The graph, whose ends give no value where all that it gives is nothing.
+#[tactic(auto, unfolding(run_world::specs::Seen::env, layout_base::specs::Seen::ground_of))]
+fn ended<'p, 'm, 'f, S: Steps>(
+    graph: &Graph<'_, 'p, S>,
+    laid: &Laid<'_, 'p, 'm, 'f>,
+    net: &Net,
+) -> Result<Flow<'p>, OutOfMemory>
+    requires laid { IsOf (S.source graph.now.steps.now) (S.layout graph.now.steps.now) laid.now }
+    requires fine { AllFine graph.now.flow.now.temps graph.now.flow.now.slots (nodes_of (S.source graph.now.steps.now) graph.now.flow.now) }
+    ensures nodes { IfOk result (λ r. r.nodes ≡ ended_nodes (S.source graph.now.steps.now).structs (S.layout graph.now.steps.now) graph.now.flow.now.nodes) }
+    ensures seen { IfOk result (λ r. seen.flow (S.source graph.now.steps.now).structs r
+        ≡ ending_flow (S.layout graph.now.steps.now) (seen.flow (S.source graph.now.steps.now).structs graph.now.flow.now)) }
+{
+    let here = laid.here;
+    match without_values(net.alloc(), here.ground.here, laid.layout, graph.flow) {
+        Ok(flow) => Ok(flow),
+        Err(_) => Err(OutOfMemory),
+    }
+}
+
 /// The gates of all runs of a function, from the gates of its store at entry. `laid` has the look-ups in its layout, which has so many
 /// locations; `blank` is what the function gives if it ends without a value.
 pub fn encode<S: Steps>(
@@ -396,13 +457,16 @@ pub fn encode<S: Steps>(
     ensures grown { Grown net.old net.new }
     ensures ok { IfOk result (λ r. IsEncoded (S.source graph.now.steps.now) (S.layout graph.now.steps.now) net.new r) }
 {
-    there_is_no_cycle();
     nodes_are_fine();
-    what_is_read_was_kept();
-    let (temps, slots) = (graph.flow.temps as usize, graph.flow.slots as usize);
-    let mut before = Before::begin(net, entry, blank, locations, temps, slots)?;
-    for at in 0..graph.flow.nodes.len() {
-        visit(graph, laid, &mut before, net, at)?;
-    }
-    Ok(before.finish(net))
+    let flow = ended(graph, laid, net)?;
+    let graph = Graph {
+        steps: graph.steps,
+        flow: &flow,
+    };
+    let made = encode_ended(&graph, laid, net, entry, blank, locations);
+    let Graph {
+        steps: _steps,
+        flow: _flow,
+    } = graph;
+    made
 }

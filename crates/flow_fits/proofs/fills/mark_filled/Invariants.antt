@@ -1,6 +1,6 @@
 use Rattle.std.proofs.Common.{◌≡◌, ◌<◌, ◌||◌, ℕ, length, map, drop}
 use Rattle.sc_flow.specs.Seen.{node, structs_of}
-use Rattle.flow_fits.specs.Marks.{marked}
+use Rattle.flow_exits.specs.Marks.{marked}
 use Rattle.flow_fits.specs.Voids.{is_filled}
 use Rattle.flow_fits.proofs.fills.mark_filled.Given as goal
 

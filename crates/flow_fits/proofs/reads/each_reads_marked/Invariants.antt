@@ -1,6 +1,6 @@
 use Rattle.std.proofs.Common.{◌≡◌, map, drop}
 use Rattle.sc_flow.specs.Seen.{node, structs_of}
-use Rattle.flow_fits.specs.Marks.{marked}
+use Rattle.flow_exits.specs.Marks.{marked}
 use Rattle.flow_fits.specs.Voids.{each_read}
 use Rattle.flow_fits.proofs.reads.each_reads_marked.Given as goal
 

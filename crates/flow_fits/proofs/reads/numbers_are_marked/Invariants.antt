@@ -1,7 +1,7 @@
 use Rattle.std.proofs.Common.{◌≡◌, ◌+◌, ◌-◌, map}
 use Rattle.flow_graph.specs.Conditions.{InTemp}
 use Rattle.flow_graph.specs.Growing.{numbers}
-use Rattle.flow_fits.specs.Marks.{marked}
+use Rattle.flow_exits.specs.Marks.{marked}
 use Rattle.flow_fits.specs.Voids.{each_temp}
 use Rattle.flow_fits.proofs.reads.numbers_are_marked.Given as goal
 

@@ -1,6 +1,6 @@
 use Rattle.std.proofs.Common.{sym, ◌∙◌, ap}
 use Rattle.sc_flow.specs.Seen.{node, all_of, structs_of}
-use Rattle.flow_fits.specs.Marks.{marked}
+use Rattle.flow_exits.specs.Marks.{marked}
 use Rattle.flow_fits.specs.Voids.{node_reads}
 use Rattle.flow_fits.proofs.Marking.{slots_pass}
 use Rattle.flow_fits.proofs.reads.reads_marked.Goals as goal

@@ -1,7 +1,7 @@
 use Rattle.std.proofs.Common.{◌≡◌, drop}
 use Rattle.sc_flow.specs.Seen.{structs_of}
 use Rattle.sc_gather.specs.Seen.{arguments_of}
-use Rattle.flow_fits.specs.Marks.{marked}
+use Rattle.flow_exits.specs.Marks.{marked}
 use Rattle.flow_fits.specs.Text.{all_named}
 use Rattle.flow_fits.proofs.text.+text.Given as goal
 

@@ -1,6 +1,6 @@
 use Rattle.std.proofs.Common.{map, ◌∙◌, ap}
 use Rattle.sc_flow.specs.Seen.{node, structs_of}
-use Rattle.flow_fits.specs.Marks.{marked}
+use Rattle.flow_exits.specs.Marks.{marked}
 use Rattle.flow_fits.specs.Voids.{is_filled, each_read}
 use Rattle.flow_fits.proofs.Voids.{all_agree}
 use Rattle.flow_fits.proofs.whole.reads_no_void.Goals as goal

@@ -1,11 +1,10 @@
-use Rattle.std.proofs.Common.{◌≡◌, refl, sym, ◌∙◌, ap, if◌then◌else◌, Bool}
+use Rattle.std.proofs.Common.{refl, sym, ◌∙◌, ap, if◌then◌else◌, Bool}
 use Rattle.flow_turns.proofs.Past.{grown_both}
-use Rattle.run_laws.specs.Fits.{is_scalar, if_scalar}
+use Rattle.run_laws.specs.Fits.{if_scalar}
 use Rattle.sc_world.specs.Source.{Source}
-use Rattle.sc_world.specs.Tree.{Ty, type_of}
+use Rattle.sc_world.specs.Tree.{type_of}
 use Rattle.sc_world.specs.Eval.{Value, Place'}
-use Rattle.sc_world.specs.View.{type}
-use Rattle.sc_flow.specs.Seen.{expression, want_of}
+use Rattle.sc_flow.specs.Seen.{expression}
 use Rattle.flow_gates.specs.Graph.{nodes_of}
 use Rattle.flow_gates.proofs.Stepping.{begins_sure, temps_behind, inputs_behind, gates_behind, made_behind, few_behind, here_behind, stored}
 use Rattle.flow_whole.proofs.Objects.{laid_behind, laid_in}

@@ -1,4 +1,4 @@
-use Rattle.std.proofs.Common.{refl, sym}
+use Rattle.std.proofs.Common.{sym}
 use Rattle.flow_gates.specs.Graph.{nodes_of}
 use Rattle.flow_gates.proofs.Stepping.{few_behind, grown_same}
 use Rattle.flow_whole.proofs.Initialised.{fills_in}

@@ -1,7 +1,7 @@
-use Rattle.std.proofs.Common.{refl, sym, ◌∙◌}
+use Rattle.std.proofs.Common.{refl, sym}
 use Rattle.flow_turns.proofs.Past.{grown_both}
 use Rattle.flow_gates.specs.Graph.{nodes_of}
-use Rattle.flow_gates.proofs.Stepping.{stored, kept_by_name, begins_sure, temps_behind, inputs_behind, gates_behind, made_behind, few_behind, here_behind}
+use Rattle.flow_gates.proofs.Stepping.{stored, begins_sure, temps_behind, inputs_behind, gates_behind, made_behind, few_behind, here_behind}
 use Rattle.flow_whole.proofs.Objects.{can_find, local_there, laid_behind, low_in, laid_in, sets_in, found}
 use Rattle.flow_whole.proofs.locals.object_read.Goals as goal
 

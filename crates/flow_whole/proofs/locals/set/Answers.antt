@@ -1,8 +1,7 @@
-use Rattle.std.proofs.Common.{◌≡◌, true, false, ◌∙◌, sym, ap}
+use Rattle.std.proofs.Common.{◌∙◌, sym, ap}
 use Rattle.run_laws.specs.Fits.{is_scalar}
 use Rattle.sc_world.specs.Source.{Source}
 use Rattle.sc_world.specs.Tree.{type_of}
-use Rattle.sc_world.specs.View.{type}
 use Rattle.sc_flow.specs.Seen.{expression}
 use Rattle.flow_whole.proofs.locals.set.Goals as goal
 

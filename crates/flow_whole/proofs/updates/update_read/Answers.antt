@@ -1,7 +1,7 @@
-use Rattle.std.proofs.Common.{◌∷◌, [], length, refl, sym, ◌∙◌, ap}
+use Rattle.std.proofs.Common.{◌∷◌, [], length, refl, ◌∙◌, ap}
 use Rattle.flow_turns.proofs.Past.{grown_both}
 use Rattle.flow_gates.specs.Graph.{nodes_of}
-use Rattle.flow_gates.proofs.Stepping.{begins_sure, temps_behind, inputs_behind, gates_behind, made_behind, few_behind, here_behind, stored}
+use Rattle.flow_gates.proofs.Stepping.{begins_sure, temps_behind, gates_behind, made_behind, few_behind, here_behind, stored}
 use Rattle.flow_whole.proofs.Objects.{laid_behind, laid_in}
 use Rattle.flow_whole.proofs.Assigning.{can_update, temp_of_update, many, can_in, many_in, updates_in, made_in}
 use Rattle.flow_whole.proofs.updates.update_read.Goals as goal

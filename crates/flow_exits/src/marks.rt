@@ -1,8 +1,8 @@
 //! Marks on temps.
 
 ghost use Rattle.std.specs.Prelude.{◌≡◌, ◌<◌, ◌||◌, ℕ, false, length, replicate, IfOk};
-ghost use Rattle.flow_fits.specs.Marks as spec;
-ghost use Rattle.flow_fits.specs.Voids.{is_that};
+ghost use Rattle.flow_exits.specs.Marks as spec;
+ghost use Rattle.flow_exits.specs.Exits.{is_that};
 
 use sc_base::OutOfMemory;
 use std::alloc::Global;

@@ -1,7 +1,7 @@
 use Rattle.bit_net.specs.Runs.{Grown}
 use Rattle.flow_turns.specs.Before.{AreGates, IsBefore}
 use Rattle.flow_gates.specs.Graph.{nodes_of}
-use Rattle.flow_whole.proofs.whole.encode.Given as goal
+use Rattle.flow_whole.proofs.whole.encode_ended.Given as goal
 
 -- the gates are before the node that comes next
 abbrev pub invariant-loop-at : goal.invariant-loop-at

@@ -1,0 +1,5 @@
+pub mod Nothing
+pub mod Ending
+pub mod Staying
+pub mod Marking
+pub mod Emptying

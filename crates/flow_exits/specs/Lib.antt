@@ -1,0 +1,4 @@
+pub mod Exits
+pub mod Laws
+pub mod Ended
+pub mod Marks
