@@ -38,10 +38,10 @@ use Rattle.sc_typed.specs.declared.program.Param.{Param}
 use Rattle.sc_typed.specs.declared.program.Program.{Program}
 use Rattle.report_text.specs.Checks.{skipped_in, rows_in, reports_in}
 use Rattle.report_text.specs.Functions.{entry_params}
-use Rattle.verdict_json.specs.Arrays.{array_by}
-use Rattle.verdict_json.specs.Places.{source_value, source_at, place_value}
+use Rattle.json_places.specs.Arrays.{array_by}
+use Rattle.json_places.specs.Places.{source_value, source_at, place_value}
 use Rattle.verdict_json.specs.Reasons.{limit_value, grammar_value, kind_value, skip_value}
-use Rattle.verdict_json.specs.Paths.{rooted_value, field_value, element_value, step_value, root_value, path_value}
+use Rattle.json_places.specs.Paths.{rooted_value, field_value, element_value, step_value, root_value, path_value}
 use Rattle.verdict_json.specs.Rows.{bits_values, entry_value, named_state, state_value, row_value, rows_value, end_value, location_value, parameter_item, value_of_item, item_value, write_value}
 use Rattle.verdict_json.specs.Runs.{callee_value, what_members, event_place, event_value, run_value}
 use Rattle.verdict_json.specs.Reports.{runs_value, location_report, inner_report, leak_report, report_value}

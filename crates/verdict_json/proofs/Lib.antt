@@ -1,4 +1,3 @@
-pub mod Arrays
 pub mod Bits
 pub mod Depths
 pub mod Entry

@@ -13,7 +13,7 @@ use Rattle.sc_typed.specs.declared.program.Function.{Function}
 use Rattle.sc_typed.specs.declared.program.Param.{Param}
 use Rattle.sc_typed.specs.declared.program.Program.{Program}
 use Rattle.report_text.specs.Functions.{entry_params}
-use Rattle.verdict_json.specs.Arrays.{array_by}
+use Rattle.json_places.specs.Arrays.{array_by}
 use Rattle.verdict_json.specs.Functions.{done_members, entry_tokens, parameter_value, summary_members, summary_tokens}
 use Rattle.verdict_json.specs.Reports.{report_value}
 use Rattle.verdict_json.specs.Rows.{item_value, write_value}

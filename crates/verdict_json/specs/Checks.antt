@@ -15,8 +15,8 @@ use Rattle.sc_typed.specs.declared.program.Function.{Function}
 use Rattle.report_text.specs.Names.{file_text}
 use Rattle.report_text.specs.Rows.{machine_word, machine_state}
 use Rattle.report_text.specs.Checks.{skipped_in, rows_in, reports_in}
-use Rattle.verdict_json.specs.Arrays.{array_by}
-use Rattle.verdict_json.specs.Places.{main_source}
+use Rattle.json_places.specs.Arrays.{array_by}
+use Rattle.json_places.specs.Places.{main_source}
 use Rattle.verdict_json.specs.Reasons.{skip_value}
 use Rattle.verdict_json.specs.Functions.{function_value}
 

@@ -20,8 +20,8 @@ use Rattle.sc_world.specs.Tree.{Ty, Bool', Int, Ptr}
 use Rattle.sc_world.specs.View.{type}
 use Rattle.report_text.specs.Names.{name_text}
 use Rattle.report_text.specs.Functions.{entry_params}
-use Rattle.verdict_json.specs.Arrays.{array_by}
-use Rattle.verdict_json.specs.Places.{place_value, is_in_header}
+use Rattle.json_places.specs.Arrays.{array_by}
+use Rattle.json_places.specs.Places.{place_value, is_in_header}
 use Rattle.verdict_json.specs.Reasons.{skip_value}
 use Rattle.verdict_json.specs.Rows.{item_value, write_value}
 use Rattle.verdict_json.specs.Reports.{report_value}

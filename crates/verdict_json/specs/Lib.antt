@@ -1,7 +1,4 @@
-pub mod Arrays
-pub mod Places
 pub mod Reasons
-pub mod Paths
 pub mod Rows
 pub mod Runs
 pub mod Reports

@@ -10,9 +10,9 @@ use Rattle.sum_rows.specs.declared.report.Report.TheVariants as report
 use Rattle.sum_rows.specs.declared.report.Shown.{Shown}
 use Rattle.sc_typed.specs.declared.program.Program.{Program}
 use Rattle.sc_typed.specs.declared.program.Param.{Param}
-use Rattle.verdict_json.specs.Arrays.{array_by}
-use Rattle.verdict_json.specs.Places.{place_value}
-use Rattle.verdict_json.specs.Paths.{path_value}
+use Rattle.json_places.specs.Arrays.{array_by}
+use Rattle.json_places.specs.Places.{place_value}
+use Rattle.json_places.specs.Paths.{path_value}
 use Rattle.verdict_json.specs.Runs.{run_value}
 
 -- of a function in the file with that number

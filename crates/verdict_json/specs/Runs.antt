@@ -13,8 +13,8 @@ use Rattle.sum_rows.specs.declared.report.What.TheVariants as what
 use Rattle.sc_typed.specs.declared.program.Program.{Program}
 use Rattle.report_text.specs.Names.{name_text}
 use Rattle.report_text.specs.Shown.{choice_text}
-use Rattle.verdict_json.specs.Arrays.{array_by}
-use Rattle.verdict_json.specs.Places.{place_value}
+use Rattle.json_places.specs.Arrays.{array_by}
+use Rattle.json_places.specs.Places.{place_value}
 
 -- the kind of an event alone
 abbrev pub plain_members : (kind : List ℕ) → Members

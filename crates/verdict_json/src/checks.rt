@@ -7,14 +7,13 @@ ghost use Rattle.std.specs.Str.{IsUtf8};
 ghost use Rattle.json.specs.Json.{document};
 ghost use Rattle.json.specs.Print.{print};
 ghost use Rattle.json.specs.Tree.{json_tokens, members_tokens};
-ghost use Rattle.verdict_json.specs.Arrays.{array_by};
+ghost use Rattle.json_places.specs.Arrays.{array_by};
 ghost use Rattle.verdict_json.specs.Checks as spec;
 
-use crate::check::Check;
 use crate::functions::put_function;
-use crate::places::main_source;
 use crate::reasons::put_notes;
 use fsm_spec::MachineSpec;
+use json_places::{Check, main_source};
 use json_text::JsonText;
 use report_text::{Totals, file_text, machine_state, machine_word, totals_of};
 use sc_base::{OutOfMemory, RowList};

@@ -6,14 +6,13 @@ ghost use Rattle.json.specs.Tree.{json_tokens, members_tokens};
 ghost use Rattle.report_text.specs.Functions.{entry_params};
 ghost use Rattle.sc_typed.specs.declared.program.Param.{Param as Params};
 ghost use Rattle.sc_world.specs.View.{type};
-ghost use Rattle.verdict_json.specs.Arrays.{array_by};
+ghost use Rattle.json_places.specs.Arrays.{array_by};
 ghost use Rattle.verdict_json.specs.Functions as spec;
 
-use crate::check::Check;
-use crate::places::{is_in_header, put_place};
 use crate::reasons::put_skip;
 use crate::reports::put_reports;
 use crate::rows::{put_items, put_writes};
+use json_places::{Check, is_in_header, put_place};
 use json_text::JsonText;
 use report_text::name_text;
 use sc_base::{OutOfMemory, Skip};

@@ -2,13 +2,11 @@
 
 ghost use Rattle.std.specs.Prelude.{◌≡◌, ◌∷◌, [], ◌++◌, OnOk, codes};
 ghost use Rattle.json.specs.Tree.{json_tokens};
-ghost use Rattle.verdict_json.specs.Arrays.{array_by};
+ghost use Rattle.json_places.specs.Arrays.{array_by};
 ghost use Rattle.verdict_json.specs.Reports as spec;
 
-use crate::check::Check;
-use crate::paths::put_path;
-use crate::places::put_place;
 use crate::runs::{put_run, put_runs};
+use json_places::{Check, put_path, put_place};
 use json_text::JsonText;
 use sc_base::{OutOfMemory, Pos};
 use sc_typed::Function;

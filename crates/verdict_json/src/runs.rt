@@ -6,13 +6,12 @@ ghost use Rattle.json.specs.Token.{key, string};
 ghost use Rattle.report_text.specs.Shown.{choice_text};
 ghost use Rattle.std.specs.Fmt.{signed_decimal};
 ghost use Rattle.json.specs.Tree.{json_tokens, members_tokens};
-ghost use Rattle.verdict_json.specs.Arrays.{array_by};
+ghost use Rattle.json_places.specs.Arrays.{array_by};
 ghost use Rattle.verdict_json.specs.Runs as spec;
 ghost use Rattle.json.specs.Json as json;
 
-use crate::check::Check;
-use crate::places::put_place;
 use itoa::Buffer;
+use json_places::{Check, put_place};
 use json_text::JsonText;
 use report_text::{name_text, put_choice};
 use sc_base::{NameId, OutOfMemory, Pos};

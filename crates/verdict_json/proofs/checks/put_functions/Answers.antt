@@ -3,7 +3,7 @@ use Rattle.std.specs.Arc.{arc_value}
 use Rattle.std.specs.List.{flat_map}
 use Rattle.json.specs.Tree.{json_tokens}
 use Rattle.verdict_json.specs.Checks.{functions_value, functions_values}
-use Rattle.verdict_json.proofs.Arrays.{list_behind}
+use Rattle.json_places.proofs.Arrays.{list_behind}
 use Rattle.verdict_json.proofs.checks.put_functions.Goals as goal
 
 pub returns : goal.returns
