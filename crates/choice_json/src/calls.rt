@@ -189,7 +189,8 @@ fn put_state(
 {
     text.word_member("item", "state")?;
     text.key("path")?;
-    put_path(text, speech.check, params, path)
+    put_path(text, speech.check, params, path)?;
+    Ok(())
 }
 
 // What a parameter of the callee points to.
@@ -205,7 +206,8 @@ fn put_parameter(
 {
     text.word_member("item", word)?;
     text.count_member("parameter", u64::from(n))?;
-    text.word_member("name", param_text(speech.check.program, params, n))
+    text.word_member("name", param_text(speech.check.program, params, n))?;
+    Ok(())
 }
 
 fn put_item(

@@ -31,7 +31,8 @@ fn put_location(
     text.begin_object()?;
     text.word_member("kind", kind)?;
     put_location_member(text, speech, "location", at)?;
-    end_value(text, speech, word)
+    end_value(text, speech, word)?;
+    Ok(())
 }
 
 // What a call does itself.
@@ -39,7 +40,8 @@ fn put_call(text: &mut JsonText, speech: &Speech, call: u32, word: Word) -> Resu
     ensures { OnOk result (text.new ≡ text.old ++ json_tokens (spec.call_said (speaker_of speech.now) call word)) }
 {
     begin_call(text, speech, "call", call)?;
-    end_value(text, speech, word)
+    end_value(text, speech, word)?;
+    Ok(())
 }
 
 // What a known call does to an item of its callee's summary.
@@ -54,7 +56,8 @@ fn put_item(
 {
     begin_call(text, speech, "item", call)?;
     put_item_at(text, speech, effect_of(speech.names.places, call), item)?;
-    end_value(text, speech, word)
+    end_value(text, speech, word)?;
+    Ok(())
 }
 
 // What it does to a written cell.
@@ -69,7 +72,8 @@ fn put_write(
 {
     begin_call(text, speech, "write", call)?;
     put_write_at(text, speech, effect_of(speech.names.places, call), write)?;
-    end_value(text, speech, word)
+    end_value(text, speech, word)?;
+    Ok(())
 }
 
 fn put_said(text: &mut JsonText, speech: &Speech, said: Said) -> Result<(), OutOfMemory>
@@ -127,5 +131,6 @@ pub fn put_says(
         names,
         firsts: firsts.as_slice(),
     };
-    put_all(text, &speech, said.as_slice())
+    put_all(text, &speech, said.as_slice())?;
+    Ok(())
 }
