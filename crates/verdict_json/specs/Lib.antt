@@ -1,5 +1,6 @@
 pub mod Reasons
 pub mod Rows
+pub mod Tellings
 pub mod Runs
 pub mod Reports
 pub mod Functions

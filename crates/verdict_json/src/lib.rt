@@ -10,6 +10,7 @@ mod reasons;
 mod reports;
 mod rows;
 mod runs;
+mod tellings;
 
 pub use checks::check_json;
 pub use json_places::Check;
