@@ -6,6 +6,7 @@ use Rattle.sum_rows.specs.declared.report.Verdict.{Verdict}
 use Rattle.plan_core.specs.declared.plan.Plan.{Plan}
 use Rattle.sc_typed.specs.declared.program.Program.{Program}
 use Rattle.whole_checks.specs.Typed.{Sources, typed}
+use Rattle.program_verdicts.specs.CallGraph.{plan}
 use Rattle.program_verdicts.specs.Verdicts.{verdicts}
 use Rattle.whole_checks.specs.Said.{Said, Whole, has_report, said, said_with}
 use Rattle.whole_checks.specs.Planned.{IsPlanned}
@@ -18,10 +19,13 @@ pub in_place : (s : Sources) (marks : List (List Mark)) (depth reach : ℕ) (x :
 unfolding json_said
 in_place s marks depth reach x is = ap (with_bytes (json_of marks depth reach (typed s))) is
 
-pub json_is_said : (s : Sources) (p : Program) (plan : Plan) (marks : List (List Mark)) (depth reach : ℕ) (vs : List Verdict) → IsPlanned s p plan
-    → vs ≡ verdicts p depth reach → Whole (json_with p marks depth reach vs) (list_any has_report vs) ≡ json_said s marks depth reach
-json_is_said s p plan marks depth reach vs is made =
-    let bytes : json_with p marks depth reach vs ≡ json_of marks depth reach (typed s) =
-    ap (json_with p marks depth reach) made ∙ ap (json_of marks depth reach) (sym is.typed) in
+pub json_is_said : (s : Sources) (p : Program) (found : Plan) (marks : List (List Mark)) (depth reach : ℕ) (vs : List Verdict) → IsPlanned s p found
+    → vs ≡ verdicts p depth reach
+    → Whole (json_with p marks depth reach found.callees vs) (list_any has_report vs) ≡ json_said s marks depth reach
+json_is_said s p found marks depth reach vs is made =
+    let bytes : json_with p marks depth reach found.callees vs ≡ json_of marks depth reach (typed s) =
+    ap (λ (it : Plan). json_with p marks depth reach it.callees vs) is.plan
+    ∙ ap (json_with p marks depth reach (plan p).callees) made
+    ∙ ap (json_of marks depth reach) (sym is.typed) in
     ap (λ (b : List ℕ). Whole b (list_any has_report vs)) bytes
-    ∙ sym (in_place s marks depth reach (said_with p vs) (sym (whole_is_said s p plan depth reach vs is made)))
+    ∙ sym (in_place s marks depth reach (said_with p vs) (sym (whole_is_said s p found depth reach vs is made)))

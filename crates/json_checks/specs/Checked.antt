@@ -7,6 +7,7 @@ use Rattle.line_marks.specs.declared.marks.Mark.{Mark}
 use Rattle.sum_rows.specs.declared.report.Verdict.{Verdict}
 use Rattle.sc_typed.specs.declared.program.Program.{Program}
 use Rattle.whole_checks.specs.Typed.{Sources, Answer, Typed, typed}
+use Rattle.program_verdicts.specs.CallGraph.{plan}
 use Rattle.program_verdicts.specs.Verdicts.{verdicts}
 use Rattle.verdict_json.specs.Checks.{check_value}
 use Rattle.whole_checks.specs.Said.{Said, Whole, Twice, Beyond, said}
@@ -17,13 +18,13 @@ with_bytes bytes (Whole text reported) = Whole bytes reported
 with_bytes bytes (Twice name) = Twice name
 with_bytes bytes (Beyond kind count) = Beyond kind count
 
--- the JSON of a typed program with these verdicts, with the line markers of its files
-abbrev pub json_with : Program → List (List Mark) → (depth reach : ℕ) → List Verdict → List ℕ
-json_with p marks depth reach vs = print (json_tokens (check_value p marks depth reach vs))
+-- the JSON of a typed program with these kept callees of each function, and these verdicts, with the line markers of its files
+abbrev pub json_with : Program → List (List Mark) → (depth reach : ℕ) → (kept : List (List ℕ)) → List Verdict → List ℕ
+json_with p marks depth reach kept vs = print (json_tokens (check_value p marks depth reach kept vs))
 
 -- the JSON of a whole check; where there is no typed program there are no bytes
 abbrev pub json_of : List (List Mark) → (depth reach : ℕ) → Answer → List ℕ
-json_of marks depth reach (Typed p) = json_with p marks depth reach (verdicts p depth reach)
+json_of marks depth reach (Typed p) = json_with p marks depth reach (plan p).callees (verdicts p depth reach)
 json_of marks depth reach _ = []
 
 -- what is said as JSON of the trees of all files, with the line markers of each

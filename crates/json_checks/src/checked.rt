@@ -11,6 +11,7 @@ ghost use Rattle.whole_checks.specs.Seen as seen;
 ghost use Rattle.json_checks.specs.Checked.{json_said, json_with};
 
 use crate::sources::MarkedSources;
+use plan_core::Plan;
 use report_text::totals_of;
 use sc_base::{OutOfMemory, RowList};
 use std::alloc::Global;
@@ -30,13 +31,17 @@ fn any_report(verdicts: &[Arc<Verdict>]) -> Result<bool, OutOfMemory>
 }
 
 // What is said of a program with these verdicts.
-fn with_verdicts(check: &Check, verdicts: RowList<Verdict>) -> Result<Said, OutOfMemory>
+fn with_verdicts(
+    check: &Check,
+    plan: &Plan,
+    verdicts: RowList<Verdict>,
+) -> Result<Said, OutOfMemory>
     ensures { IfOk result (λ s. seen.said s
-        ≡ Whole (json_with check.now.program.now check.now.marks.now check.now.depth check.now.reach
+        ≡ Whole (json_with check.now.program.now check.now.marks.now check.now.depth check.now.reach plan.now.callees
         (map arc_value verdicts.list.items)) (list_any has_report (map arc_value verdicts.list.items))) }
 {
     let reported = any_report(verdicts.list.as_slice())?;
-    let bytes = check_json(check, &verdicts)?;
+    let bytes = check_json(check, plan, &verdicts)?;
     Ok(Said::Whole(bytes, reported))
 }
 
@@ -88,7 +93,7 @@ pub fn say_json(
         depth,
         reach,
     };
-    with_verdicts(&check, verdicts)
+    with_verdicts(&check, &plan, verdicts)
 }
 
 /// The same, where `jobs` workers make the verdicts; the calling thread is one of them. What is said does not depend
@@ -131,5 +136,5 @@ pub fn say_json_by<R: Threads + Wait + Sync, G: Gate + Sync>(
         depth,
         reach,
     };
-    with_verdicts(&check, verdicts)
+    with_verdicts(&check, &plan, verdicts)
 }

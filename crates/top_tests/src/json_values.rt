@@ -3,7 +3,7 @@
 use crate::rows::Row;
 use saturn_top::Status;
 
-pub static JSON: [Row; 9] = [
+pub static JSON: [Row; 10] = [
     Row {
         name: "lock taken at exit",
         words: &["saturn_check", "--format", "json", "a.c"],
@@ -63,11 +63,18 @@ void f(_Bool c,spinlock_t*l){spin_lock(l);if(c)spin_lock(l);}",
 \"column\":43,\"source\":{\"file\":\"a.c\",\"line\":2}},\"kind\":\"if\",\"holds\":true},\
 {\"place\":{\"file\":\"a.c\",\"line\":2,\"column\":48,\"source\":{\"file\":\"a.c\",\"line\":2}},\
 \"kind\":\"call\",\"callee\":\"spin_lock\"},{\"place\":{\"file\":\"a.c\",\"line\":2,\"column\":48,\
-\"source\":{\"file\":\"a.c\",\"line\":2}},\"kind\":\"error\"}]},{\"choice\":\"e\",\
+\"source\":{\"file\":\"a.c\",\"line\":2}},\"kind\":\"error\"}],\
+\"says\":[{\"kind\":\"cell\",\"location\":\"c\",\"value\":{\"number\":\"1\"}},\
+{\"kind\":\"cell\",\"location\":\"l\",\"value\":{\"object\":\"*l\"}},{\"kind\":\"state\",\
+\"location\":\"*l\",\"value\":{\"state\":\"U\"}}]},{\"choice\":\"e\",\
 \"location\":\"*l\",\"events\":[{\"place\":{\"file\":\"a.c\",\"line\":2,\"column\":30,\
 \"source\":{\"file\":\"a.c\",\"line\":2}},\"kind\":\"call\",\"callee\":\"spin_lock\"},\
 {\"place\":{\"file\":\"a.c\",\"line\":2,\"column\":30,\"source\":{\"file\":\"a.c\",\"line\":2}},\
-\"kind\":\"error\"}]}]}]}],\"totals\":{\"functions\":1,\"skipped\":0,\"rows\":5,\"reports\":1}}",
+\"kind\":\"error\"}],\
+\"says\":[{\"kind\":\"cell\",\"location\":\"c\",\"value\":{\"number\":\"1\"}},\
+{\"kind\":\"cell\",\"location\":\"l\",\"value\":{\"object\":\"*l\"}},{\"kind\":\"state\",\
+\"location\":\"*l\",\"value\":{\"state\":\"L\"}}]}]}]}],\
+\"totals\":{\"functions\":1,\"skipped\":0,\"rows\":5,\"reports\":1}}",
         err: "",
     },
     Row {
@@ -89,7 +96,95 @@ void f(_Bool c,spinlock_t*l){spin_lock(l);if(c)spin_lock(l);}",
 \"line\":1}},\"kind\":\"call\",\"callee\":\"kmalloc\"},{\"place\":{\"file\":\"a.c\",\"line\":1,\
 \"column\":37,\"source\":{\"file\":\"a.c\",\"line\":1}},\"kind\":\"if\",\"holds\":false},\
 {\"place\":{\"file\":\"a.c\",\"line\":1,\"column\":51,\"source\":{\"file\":\"a.c\",\"line\":1}},\
-\"kind\":\"end\"}]}]}]}],\"totals\":{\"functions\":1,\"skipped\":0,\"rows\":2,\"reports\":1}}",
+\"kind\":\"end\"}],\"says\":[{\"kind\":\"cell\",\"location\":\"c\",\"value\":{\"number\":\"0\"}},\
+{\"kind\":\"cell\",\"location\":\"call@1:24\",\"value\":{\"number\":\"0\"}},{\"kind\":\"call\",\
+\"place\":{\"file\":\"a.c\",\"line\":1,\"column\":24,\"source\":{\"file\":\"a.c\",\"line\":1}},\
+\"turn\":0,\"value\":{\"object\":\"call@1:24\"}}]}]}]}],\
+\"totals\":{\"functions\":1,\"skipped\":0,\"rows\":2,\"reports\":1}}",
+        err: "",
+    },
+    Row {
+        name: "a known call in two turns of a loop",
+        words: &["saturn_check", "--format", "json", "a.c"],
+        files: &[(
+            "a.c",
+            "\
+typedef struct{int v;}spinlock_t;
+void t(spinlock_t*l,int*n){*n=1;spin_lock(l);}
+void f(spinlock_t*l,int c){int n;do{t(l,&n);}while(c==-2);}",
+        )],
+        status: Status::Reports,
+        out: "\
+{\"format\":\"nalvegop verdicts\",\"version\":1,\"options\":{\"depth\":2,\"reach\":2,\
+\"model\":\"ilp32\",\"machine\":\"lock\",\"states\":[\"U\",\"L\"]},\"files\":[{\"name\":\"a.c\",\
+\"source\":\"a.c\"}],\"notes\":[],\"functions\":[{\"name\":\"t\",\"place\":{\"file\":\"a.c\",\
+\"line\":2,\"column\":6,\"source\":{\"file\":\"a.c\",\"line\":2}},\"in_header\":false,\
+\"skipped\":null,\"entry\":[{\"name\":\"l\",\"type\":\"pointer\"},{\"name\":\"n\",\
+\"type\":\"pointer\"}],\"bits\":2,\"items\":[{\"item\":\"end\",\"rows\":[{\"entry\":[true,true],\
+\"before\":null,\"result\":\"none\",\"after\":null}]},{\"item\":\"state\",\
+\"path\":{\"text\":\"*l\",\"root\":{\"kind\":\"parameter\",\"number\":0,\"name\":\"l\"},\
+\"steps\":[\"target\"]},\"rows\":[{\"entry\":[true,true],\"before\":{\"state\":\"U\"},\
+\"result\":\"none\",\"after\":{\"state\":\"L\"}},{\"entry\":[true,true],\
+\"before\":{\"state\":\"L\"},\"result\":\"none\",\"after\":\"error\"}]}],\
+\"writes\":[{\"path\":{\"text\":\"*n\",\"root\":{\"kind\":\"parameter\",\"number\":1,\
+\"name\":\"n\"},\"steps\":[\"target\"]},\"width\":32}],\"reports\":[]},{\"name\":\"f\",\
+\"place\":{\"file\":\"a.c\",\"line\":3,\"column\":6,\"source\":{\"file\":\"a.c\",\"line\":3}},\
+\"in_header\":false,\"skipped\":null,\"entry\":[{\"name\":\"l\",\"type\":\"pointer\"},\
+{\"name\":\"c\",\"type\":\"int\"}],\"bits\":2,\"items\":[{\"item\":\"end\",\
+\"rows\":[{\"entry\":[true,false],\"before\":null,\"result\":\"none\",\"after\":null},\
+{\"entry\":[true,true],\"before\":null,\"result\":\"none\",\"after\":null}]},\
+{\"item\":\"state\",\"path\":{\"text\":\"*l\",\"root\":{\"kind\":\"parameter\",\"number\":0,\
+\"name\":\"l\"},\"steps\":[\"target\"]},\"rows\":[{\"entry\":[true,false],\
+\"before\":{\"state\":\"U\"},\"result\":\"none\",\"after\":{\"state\":\"L\"}},{\"entry\":[true,\
+false],\"before\":{\"state\":\"L\"},\"result\":\"none\",\"after\":\"error\"},{\"entry\":[true,\
+true],\"before\":{\"state\":\"U\"},\"result\":\"none\",\"after\":{\"state\":\"L\"}},\
+{\"entry\":[true,true],\"before\":{\"state\":\"U\"},\"result\":\"none\",\"after\":\"error\"},\
+{\"entry\":[true,true],\"before\":{\"state\":\"L\"},\"result\":\"none\",\"after\":\"error\"}]}],\
+\"writes\":[],\"reports\":[{\"kind\":\"double\",\"path\":{\"text\":\"*l\",\
+\"root\":{\"kind\":\"parameter\",\"number\":0,\"name\":\"l\"},\"steps\":[\"target\"]},\
+\"runs\":[{\"choice\":\"ffffffff100000000800000000\",\"location\":\"*l\",\
+\"events\":[{\"place\":{\"file\":\"a.c\",\"line\":3,\"column\":37,\"source\":{\"file\":\"a.c\",\
+\"line\":3}},\"kind\":\"call\",\"callee\":\"t\"},{\"place\":{\"file\":\"a.c\",\"line\":3,\
+\"column\":34,\"source\":{\"file\":\"a.c\",\"line\":3}},\"kind\":\"loop\",\"holds\":true},\
+{\"place\":{\"file\":\"a.c\",\"line\":3,\"column\":37,\"source\":{\"file\":\"a.c\",\"line\":3}},\
+\"kind\":\"call\",\"callee\":\"t\"},{\"place\":{\"file\":\"a.c\",\"line\":3,\"column\":37,\
+\"source\":{\"file\":\"a.c\",\"line\":3}},\"kind\":\"error\"}],\"says\":[{\"kind\":\"cell\",\
+\"location\":\"l\",\"value\":{\"object\":\"*l\"}},{\"kind\":\"cell\",\"location\":\"c\",\
+\"value\":{\"number\":\"-2\"}},{\"kind\":\"state\",\"location\":\"*l\",\
+\"value\":{\"state\":\"U\"}},{\"kind\":\"item\",\"place\":{\"file\":\"a.c\",\"line\":3,\
+\"column\":37,\"source\":{\"file\":\"a.c\",\"line\":3}},\"turn\":0,\"item\":\"state\",\
+\"path\":{\"text\":\"*l\",\"root\":{\"kind\":\"parameter\",\"number\":0,\"name\":\"l\"},\
+\"steps\":[\"target\"]},\"value\":{\"state\":\"L\"}},{\"kind\":\"write\",\
+\"place\":{\"file\":\"a.c\",\"line\":3,\"column\":37,\"source\":{\"file\":\"a.c\",\"line\":3}},\
+\"turn\":0,\"path\":{\"text\":\"*n\",\"root\":{\"kind\":\"parameter\",\"number\":1,\
+\"name\":\"n\"},\"steps\":[\"target\"]},\"value\":{\"number\":\"0\"}},{\"kind\":\"item\",\
+\"place\":{\"file\":\"a.c\",\"line\":3,\"column\":37,\"source\":{\"file\":\"a.c\",\"line\":3}},\
+\"turn\":1,\"item\":\"state\",\"path\":{\"text\":\"*l\",\"root\":{\"kind\":\"parameter\",\
+\"number\":0,\"name\":\"l\"},\"steps\":[\"target\"]},\"value\":\"error\"},{\"kind\":\"write\",\
+\"place\":{\"file\":\"a.c\",\"line\":3,\"column\":37,\"source\":{\"file\":\"a.c\",\"line\":3}},\
+\"turn\":1,\"path\":{\"text\":\"*n\",\"root\":{\"kind\":\"parameter\",\"number\":1,\
+\"name\":\"n\"},\"steps\":[\"target\"]},\"value\":{\"number\":\"0\"}}]},\
+{\"choice\":\"80000000e00000000000000000\",\"location\":\"*l\",\
+\"events\":[{\"place\":{\"file\":\"a.c\",\"line\":3,\"column\":37,\"source\":{\"file\":\"a.c\",\
+\"line\":3}},\"kind\":\"call\",\"callee\":\"t\"},{\"place\":{\"file\":\"a.c\",\"line\":3,\
+\"column\":37,\"source\":{\"file\":\"a.c\",\"line\":3}},\"kind\":\"error\"}],\
+\"says\":[{\"kind\":\"cell\",\"location\":\"l\",\"value\":{\"object\":\"*l\"}},\
+{\"kind\":\"cell\",\"location\":\"c\",\"value\":{\"number\":\"1\"}},{\"kind\":\"state\",\
+\"location\":\"*l\",\"value\":{\"state\":\"L\"}},{\"kind\":\"item\",\"place\":{\"file\":\"a.c\",\
+\"line\":3,\"column\":37,\"source\":{\"file\":\"a.c\",\"line\":3}},\"turn\":0,\
+\"item\":\"state\",\"path\":{\"text\":\"*l\",\"root\":{\"kind\":\"parameter\",\"number\":0,\
+\"name\":\"l\"},\"steps\":[\"target\"]},\"value\":\"error\"},{\"kind\":\"write\",\
+\"place\":{\"file\":\"a.c\",\"line\":3,\"column\":37,\"source\":{\"file\":\"a.c\",\"line\":3}},\
+\"turn\":0,\"path\":{\"text\":\"*n\",\"root\":{\"kind\":\"parameter\",\"number\":1,\
+\"name\":\"n\"},\"steps\":[\"target\"]},\"value\":{\"number\":\"0\"}},{\"kind\":\"item\",\
+\"place\":{\"file\":\"a.c\",\"line\":3,\"column\":37,\"source\":{\"file\":\"a.c\",\"line\":3}},\
+\"turn\":1,\"item\":\"state\",\"path\":{\"text\":\"*l\",\"root\":{\"kind\":\"parameter\",\
+\"number\":0,\"name\":\"l\"},\"steps\":[\"target\"]},\"value\":{\"state\":\"U\"}},\
+{\"kind\":\"write\",\"place\":{\"file\":\"a.c\",\"line\":3,\"column\":37,\
+\"source\":{\"file\":\"a.c\",\"line\":3}},\"turn\":1,\"path\":{\"text\":\"*n\",\
+\"root\":{\"kind\":\"parameter\",\"number\":1,\"name\":\"n\"},\"steps\":[\"target\"]},\
+\"value\":{\"number\":\"0\"}}]}]}]}],\"totals\":{\"functions\":2,\"skipped\":0,\"rows\":10,\
+\"reports\":1}}",
         err: "",
     },
     Row {

@@ -1,13 +1,13 @@
 -- How deep the values nest: no deeper than texts are read.
-use Rattle.std.proofs.Common.{◌≡◌, ◌≤◌, ℕ, zero, suc, ◌+◌, ◌/◌, ◌%◌, max, nat_eq, Option, Some, None, List, [], ◌∷◌, ◌++◌, map, refl, arith}
-use Rattle.std.specs.Prelude.{length, sum_by, codes}
+use Rattle.std.proofs.Common.{◌≡◌, ◌≤◌, ℕ, zero, suc, ◌+◌, ◌/◌, ◌%◌, max, nat_eq, Bool, Option, Some, None, Result, Ok, Err, List, [], ◌∷◌, ◌++◌, map, refl, arith}
+use Rattle.std.specs.Prelude.{length, slice_get, sum_by, codes}
 use Rattle.std.specs.List.{range_with_len}
 use Rattle.fsm_spec.specs.declared.table.MachineSpec.{MachineSpec}
 use Rattle.sc_base.specs.declared.pos.NameId.{NameId}
 use Rattle.sc_base.specs.declared.pos.Pos.{Pos}
 use Rattle.sc_base.specs.declared.skip.Skip.{Skip}
 use Rattle.sc_base.specs.declared.skip.Skip.TheVariants as skip
-use Rattle.json.specs.Json.{Json, boolean}
+use Rattle.json.specs.Json.{Json, boolean, Members, no_members}
 use Rattle.json.specs.Tree.{depth, items_depth, members_depth}
 use Rattle.json_text.specs.Values.{items_of, array_of}
 use Rattle.line_marks.specs.declared.marks.Mark.{Mark}
@@ -33,15 +33,32 @@ use Rattle.sum_rows.specs.declared.report.Verdict.{Verdict}
 use Rattle.sum_rows.specs.declared.report.Verdict.TheVariants as verdict
 use Rattle.sum_rows.specs.declared.report.What.{What}
 use Rattle.sum_rows.specs.declared.report.What.TheVariants as what
+use Rattle.sc_base.specs.declared.skip.LimitKind.{LimitKind}
 use Rattle.sc_typed.specs.declared.program.Function.{Function}
 use Rattle.sc_typed.specs.declared.program.Param.{Param}
 use Rattle.sc_typed.specs.declared.program.Program.{Program}
+use Rattle.choice_json.specs.Speakers.{Speaker, speaker}
+use Rattle.choice_json.specs.Words.{under, word_value, value_member}
+use Rattle.choice_json.specs.Calls.{items_if, writes_if, call_members, params_of, summary_of, parameter_members, state_members, item_members, item_if, write_if, item_at, write_at}
+use Rattle.choice_json.specs.Says.{location_said, call_said, item_said, write_said, effect_of, value_of, said_value, says_value}
+use Rattle.choice_words.specs.Things.{things}
+use Rattle.choice_words.specs.Words.{said}
+use Rattle.choice_words.specs.declared.sayings.Word.{Word}
+use Rattle.choice_words.specs.declared.sayings.Word.TheVariants as word
+use Rattle.choice_words.specs.declared.subjects.Subject.{Subject}
+use Rattle.choice_words.specs.declared.subjects.Subject.TheVariants as subject
+use Rattle.program_verdicts.specs.Verdicts.{texts}
+use Rattle.sc_world.specs.Layout.{Layout}
+use Rattle.sc_world.specs.Paths.{Texts, site_of}
+use Rattle.sc_world.specs.Places.{places}
+use Rattle.sc_world.specs.Source.{Source}
 use Rattle.report_text.specs.Checks.{skipped_in, rows_in, reports_in}
 use Rattle.report_text.specs.Functions.{entry_params}
-use Rattle.verdict_json.specs.Arrays.{array_by}
-use Rattle.verdict_json.specs.Places.{source_value, source_at, place_value}
+use Rattle.json_places.specs.Arrays.{array_by}
+use Rattle.json_places.specs.Places.{source_value, source_at, place_value}
+use Rattle.verdict_json.specs.Tellings.{Says, says_by, says_of, source_among}
 use Rattle.verdict_json.specs.Reasons.{limit_value, grammar_value, kind_value, skip_value}
-use Rattle.verdict_json.specs.Paths.{rooted_value, field_value, element_value, step_value, root_value, path_value}
+use Rattle.json_places.specs.Paths.{rooted_value, field_value, element_value, step_value, root_value, path_value}
 use Rattle.verdict_json.specs.Rows.{bits_values, entry_value, named_state, state_value, row_value, rows_value, end_value, location_value, parameter_item, value_of_item, item_value, write_value}
 use Rattle.verdict_json.specs.Runs.{callee_value, what_members, event_place, event_value, run_value}
 use Rattle.verdict_json.specs.Reports.{runs_value, location_report, inner_report, leak_report, report_value}
@@ -149,56 +166,138 @@ event_depth : (p : Program) (marks : List (List Mark)) (file : ℕ) (e : Event) 
 unfolding event_value
 event_depth p marks file e = omega (arith, place_depth p marks (event_place p marks file e), what_depth p e.what)
 
-run_depth : (p : Program) (marks : List (List Mark)) (file : ℕ) (s : Shown) → depth (run_value p marks file s) ≤ 5
-unfolding run_value
-run_depth p marks file s = omega (arith, by_depth (event_value p marks file) 3 (event_depth p marks file) s.trace)
+-- what is said of one thing
 
-runs_depth : (p : Program) (marks : List (List Mark)) (file : ℕ) (runs : List Shown) → depth (runs_value p marks file runs) ≤ 6
-runs_depth p marks file runs = by_depth (run_value p marks file) 5 (run_depth p marks file) runs
+word_depth : (y : Speaker) (w : Word) → depth (word_value y w) ≤ 1
+unfolding under
+word_depth y (word.Number n) = omega arith
+word_depth y word.Null = omega arith
+word_depth y (word.Object at) = omega arith
+word_depth y (word.Fresh at) = omega arith
+word_depth y (word.Other at) = omega arith
+word_depth y word.Same = omega arith
+word_depth y word.Succeeds = omega arith
+word_depth y word.Fails = omega arith
+word_depth y (word.State n) = omega arith
+word_depth y word.Errs = omega arith
+word_depth y word.Held = omega arith
+word_depth y word.Escaped = omega arith
+word_depth y word.Freed = omega arith
+word_depth y word.NoRow = omega arith
 
-location_depth : (p : Program) (marks : List (List Mark)) (file : ℕ) (params : List Param) (kind : List ℕ) (x : Path) (runs : List Shown)
-    → depth (location_report p marks file params kind x runs) ≤ 7
-unfolding location_report
-location_depth p marks file params kind x runs = omega (arith, path_depth p params x, runs_depth p marks file runs)
+value_depth : (y : Speaker) (w : Word) → members_depth (value_member y w) ≤ 1
+value_depth y w = omega (arith, word_depth y w)
 
-report_depth : (p : Program) (marks : List (List Mark)) (file : ℕ) (params : List Param) (r : Report)
-    → depth (report_value p marks file params r) ≤ 7
-unfolding inner_report leak_report
-report_depth p marks file params (report.Double x runs) = location_depth p marks file params (codes "double") x runs
-report_depth p marks file params (report.Ambiguous x a b) = location_depth p marks file params (codes "ambiguous") x (a ∷ b ∷ [])
-report_depth p marks file params (report.Inner run) = omega (arith, runs_depth p marks file (run ∷ []))
-report_depth p marks file params (report.Leak at run) = omega (arith, place_depth p marks at, runs_depth p marks file (run ∷ []))
+call_depth : (y : Speaker) (kind : List ℕ) (k : ℕ) (more : Members) → members_depth (call_members y kind k more) ≤ max 2 (members_depth more)
+unfolding call_members
+call_depth y kind k more = omega (arith, place_depth y.program y.marks (site_of y.texts.layout k).pos)
+
+called_depth : (y : Speaker) (params : List Param) (x : Item) (more : Members)
+    → members_depth (item_members y params x more) ≤ max 3 (members_depth more)
+unfolding state_members parameter_members
+called_depth y params item.Exit more = omega arith
+called_depth y params (item.Lock x) more = omega (arith, path_depth y.program params x)
+called_depth y params (item.Param n) more = omega arith
+called_depth y params (item.Out n) more = omega arith
+
+item_if_depth : (y : Speaker) (params : List Param) (x : Option ItemRows) (more : Members)
+    → members_depth (item_if y params x more) ≤ max 3 (members_depth more)
+item_if_depth y params None more = omega arith
+item_if_depth y params (Some x) more = called_depth y params x.item more
+
+write_if_depth : (y : Speaker) (params : List Param) (w : Option Write) (more : Members)
+    → members_depth (write_if y params w more) ≤ max 3 (members_depth more)
+write_if_depth y params None more = omega arith
+write_if_depth y params (Some w) more = omega (arith, path_depth y.program params w.path)
+
+subject_depth : (y : Speaker) (x : Subject) (w : Word) → depth (value_of y x w) ≤ 4
+unfolding location_said call_said item_said write_said
+subject_depth y (subject.Cell at) w = omega (arith, value_depth y w)
+subject_depth y (subject.State at) w = omega (arith, value_depth y w)
+subject_depth y (subject.Call k) w = omega (arith, call_depth y (codes "call") k (value_member y w), value_depth y w)
+subject_depth y (subject.Item k i) w =
+    omega (
+      arith,
+      call_depth y (codes "item") k (item_at y (effect_of y k) i (value_member y w)),
+      item_if_depth y (params_of y (effect_of y k)) (slice_get (items_if (summary_of y (effect_of y k))) i) (value_member y w),
+      value_depth y w,
+    )
+subject_depth y (subject.Write k j) w =
+    omega (
+      arith,
+      call_depth y (codes "write") k (write_at y (effect_of y k) j (value_member y w)),
+      write_if_depth y (params_of y (effect_of y k)) (slice_get (writes_if (summary_of y (effect_of y k))) j) (value_member y w),
+      value_depth y w,
+    )
+
+says_depth : (p : Program) (marks : List (List Mark)) (s : Source) (x : Texts) (choice : List Bool) → depth (says_value p marks s x choice) ≤ 5
+unfolding says_value
+says_depth p marks s x choice =
+    by_depth (said_value (speaker p marks s x)) 4 (λ d. subject_depth (speaker p marks s x) d.of d.word)
+    (said (length s.machine.states) choice (things s x.layout))
+
+-- a member that tells a choice nests no deeper than this
+abbrev IsShallow : Says → Type 0
+IsShallow says = (choice : List Bool) → members_depth (says choice no_members) ≤ 5
+
+told_depth : (p : Program) (marks : List (List Mark)) (s : Source) (x : Layout → Texts) (l : Result Layout LimitKind)
+    → IsShallow (says_by p marks s x l)
+unfolding says_by
+told_depth p marks s x (Err e) choice = omega arith
+told_depth p marks s x (Ok l) choice = omega (arith, says_depth p marks s (x l) choice)
+
+module _ (p : Program) (marks : List (List Mark)) (says : Says) (shallow : IsShallow says) where
+  run_depth : (file : ℕ) (s : Shown) → depth (run_value p marks file says s) ≤ 6
+  unfolding run_value
+  run_depth file s = omega (arith, by_depth (event_value p marks file) 3 (event_depth p marks file) s.trace, shallow s.choice)
+
+  runs_depth : (file : ℕ) (runs : List Shown) → depth (runs_value p marks says file runs) ≤ 7
+  runs_depth file runs = by_depth (run_value p marks file says) 6 (run_depth file) runs
+
+  location_depth : (file : ℕ) (params : List Param) (kind : List ℕ) (x : Path) (runs : List Shown)
+      → depth (location_report p marks says file params kind x runs) ≤ 8
+  unfolding location_report
+  location_depth file params kind x runs = omega (arith, path_depth p params x, runs_depth file runs)
+
+  report_depth : (file : ℕ) (params : List Param) (r : Report) → depth (report_value p marks says file params r) ≤ 8
+  unfolding inner_report leak_report
+  report_depth file params (report.Double x runs) = location_depth file params (codes "double") x runs
+  report_depth file params (report.Ambiguous x a b) = location_depth file params (codes "ambiguous") x (a ∷ b ∷ [])
+  report_depth file params (report.Inner run) = omega (arith, runs_depth file (run ∷ []))
+  report_depth file params (report.Leak at run) = omega (arith, place_depth p marks at, runs_depth file (run ∷ []))
 
 parameter_depth : (p : Program) (q : Param) → depth (parameter_value p q) ≤ 1
 unfolding parameter_value
 parameter_depth p q = omega arith
 
-verdict_depth : (p : Program) (marks : List (List Mark)) (f : Function) (v : Verdict) → members_depth (verdict_members p marks f v) ≤ 8
+verdict_depth : (p : Program) (marks : List (List Mark)) (says : Says) → IsShallow says → (f : Function) (v : Verdict)
+    → members_depth (verdict_members p marks says f v) ≤ 9
 unfolding summary_members skipped_members done_members
-verdict_depth p marks f (verdict.Skipped s) = omega (arith, skip_depth p marks s)
-verdict_depth p marks f (verdict.Done s reports) =
+verdict_depth p marks says shallow f (verdict.Skipped s) = omega (arith, skip_depth p marks s)
+verdict_depth p marks says shallow f (verdict.Done s reports) =
     omega (
       arith,
       by_depth (parameter_value p) 1 (parameter_depth p) (entry_params f.params),
       by_depth (item_value p f.params s.bits) 4 (λ x. item_depth p f.params s.bits x.item x.rows) s.items,
       by_depth (write_value p f.params) 4 (write_depth p f.params) s.writes,
-      by_depth (report_value p marks f.pos.file f.params) 7 (report_depth p marks f.pos.file f.params) reports,
+      by_depth (report_value p marks says f.pos.file f.params) 8 (report_depth p marks says shallow f.pos.file f.params) reports,
     )
 
-function_depth : (p : Program) (marks : List (List Mark)) (f : Function) (v : Verdict) → depth (function_value p marks f v) ≤ 9
+function_depth : (p : Program) (marks : List (List Mark)) (says : Says) → IsShallow says → (f : Function) (v : Verdict)
+    → depth (function_value p marks says f v) ≤ 10
 unfolding function_value
-function_depth p marks f v = omega (arith, place_depth p marks f.pos, verdict_depth p marks f v)
+function_depth p marks says shallow f v = omega (arith, place_depth p marks f.pos, verdict_depth p marks says shallow f v)
 
-each_function_depth : (p : Program) (marks : List (List Mark)) (fs : List Function) (vs : List Verdict)
-    → items_depth (items_of (functions_values p marks fs vs)) ≤ 9
-each_function_depth p marks [] vs = omega arith
-each_function_depth p marks (f ∷ fs) [] = omega arith
-each_function_depth p marks (f ∷ fs) (v ∷ vs) = omega (arith, function_depth p marks f v, each_function_depth p marks fs vs)
+module _ (p : Program) (marks : List (List Mark)) (says : ℕ → Function → Says) (shallow : (n : ℕ) (f : Function) → IsShallow (says n f)) where
+  each_function_depth : (n : ℕ) (fs : List Function) (vs : List Verdict) → items_depth (items_of (functions_values p marks says n fs vs)) ≤ 10
+  each_function_depth n [] vs = omega arith
+  each_function_depth n (f ∷ fs) [] = omega arith
+  each_function_depth n (f ∷ fs) (v ∷ vs) =
+      omega (arith, function_depth p marks (says n f) (shallow n f) f v, each_function_depth (n + 1) fs vs)
 
-functions_depth : (p : Program) (marks : List (List Mark)) (fs : List Function) (vs : List Verdict)
-    → depth (functions_value p marks fs vs) ≤ 10
-unfolding functions_value
-functions_depth p marks fs vs = omega (arith, each_function_depth p marks fs vs)
+  functions_depth : (fs : List Function) (vs : List Verdict) → depth (functions_value p marks says fs vs) ≤ 11
+  unfolding functions_value
+  functions_depth fs vs = omega (arith, each_function_depth 0 fs vs)
 
 options_depth : (p : Program) (d r : ℕ) → depth (options_value p d r) ≤ 2
 unfolding options_value
@@ -213,22 +312,26 @@ totals_depth : (a b c d : ℕ) → depth (totals_value a b c d) ≤ 1
 unfolding totals_value
 totals_depth a b c d = omega arith
 
-found_depth : (p : Program) (marks : List (List Mark)) (vs : List Verdict) → members_depth (found_members p marks vs) ≤ 10
+found_depth : (p : Program) (marks : List (List Mark)) (says : ℕ → Function → Says) → ((n : ℕ) (f : Function) → IsShallow (says n f))
+    → (vs : List Verdict) → members_depth (found_members p marks says vs) ≤ 11
 unfolding found_members
-found_depth p marks vs =
+found_depth p marks says shallow vs =
     omega (
       arith,
       by_depth (skip_value p marks) 3 (skip_depth p marks) p.notes,
-      functions_depth p marks p.functions vs,
+      functions_depth p marks says shallow p.functions vs,
       totals_depth (length vs) (sum_by skipped_in vs) (sum_by rows_in vs) (sum_by reports_in vs),
     )
 
-pub check_depth : (p : Program) (marks : List (List Mark)) (d r : ℕ) (vs : List Verdict) → depth (check_value p marks d r vs) ≤ 128
-unfolding check_value
-check_depth p marks d r vs =
+pub check_depth : (p : Program) (marks : List (List Mark)) (d r : ℕ) (kept : List (List ℕ)) (vs : List Verdict)
+    → depth (check_value p marks d r kept vs) ≤ 128
+unfolding check_value says_of
+check_depth p marks d r kept vs =
     omega (
       arith,
       options_depth p d r,
       by_depth (file_value p marks) 1 (file_depth p marks) (range_with_len 0 (length p.files)),
-      found_depth p marks vs,
+      found_depth p marks (says_of p marks d r kept vs)
+          (λ n f. told_depth p marks (source_among p marks d r kept vs n) (texts p f) (places (source_among p marks d r kept vs n)))
+          vs,
     )

@@ -13,9 +13,10 @@ use Rattle.sc_typed.specs.declared.program.Function.{Function}
 use Rattle.sc_typed.specs.declared.program.Param.{Param}
 use Rattle.sc_typed.specs.declared.program.Program.{Program}
 use Rattle.report_text.specs.Functions.{entry_params}
-use Rattle.verdict_json.specs.Arrays.{array_by}
+use Rattle.json_places.specs.Arrays.{array_by}
 use Rattle.verdict_json.specs.Functions.{done_members, entry_tokens, parameter_value, summary_members, summary_tokens}
 use Rattle.verdict_json.specs.Reports.{report_value}
+use Rattle.verdict_json.specs.Tellings.{Says}
 use Rattle.verdict_json.specs.Rows.{item_value, write_value}
 
 -- the members of a summary, and those behind them
@@ -24,13 +25,13 @@ summary_then : (p : Program) (params : List Param) (s : Summary) (more : Members
 unfolding summary_members summary_tokens
 summary_then p params s more = simp (append_assoc) refl
 
-pub done_tokens : (p : Program) (marks : List (List Mark)) (f : Function) (s : Summary) (reports : List Report)
-    → members_tokens (done_members p marks f s reports)
+pub done_tokens : (p : Program) (marks : List (List Mark)) (says : Says) (f : Function) (s : Summary) (reports : List Report)
+    → members_tokens (done_members p marks says f s reports)
     ≡ key (codes "skipped")
     ∷ (token.null
     ∷ (summary_tokens p f.params s
-    ++ (key (codes "reports") ∷ (json_tokens (array_by (report_value p marks f.pos.file f.params) reports) ++ end_object ∷ []))))
+    ++ (key (codes "reports") ∷ (json_tokens (array_by (report_value p marks says f.pos.file f.params) reports) ++ end_object ∷ []))))
 unfolding done_members
-done_tokens p marks f s reports =
+done_tokens p marks says f s reports =
     ap (λ ts. key (codes "skipped") ∷ (token.null ∷ ts))
-    (summary_then p f.params s (with (codes "reports") (array_by (report_value p marks f.pos.file f.params) reports) no_members))
+    (summary_then p f.params s (with (codes "reports") (array_by (report_value p marks says f.pos.file f.params) reports) no_members))

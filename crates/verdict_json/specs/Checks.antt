@@ -1,5 +1,5 @@
 -- The JSON of a whole check.
-use Rattle.std.specs.Prelude.{ℕ, Option, Some, None, List, [], ◌∷◌, length, sum_by, codes, decimal}
+use Rattle.std.specs.Prelude.{ℕ, ◌+◌, Option, Some, None, List, [], ◌∷◌, length, sum_by, codes, decimal}
 use Rattle.std.specs.List.{range_with_len}
 use Rattle.fsm_spec.specs.declared.table.MachineSpec.{MachineSpec}
 use Rattle.json.specs.Token as token
@@ -15,9 +15,10 @@ use Rattle.sc_typed.specs.declared.program.Function.{Function}
 use Rattle.report_text.specs.Names.{file_text}
 use Rattle.report_text.specs.Rows.{machine_word, machine_state}
 use Rattle.report_text.specs.Checks.{skipped_in, rows_in, reports_in}
-use Rattle.verdict_json.specs.Arrays.{array_by}
-use Rattle.verdict_json.specs.Places.{main_source}
+use Rattle.json_places.specs.Arrays.{array_by}
+use Rattle.json_places.specs.Places.{main_source}
 use Rattle.verdict_json.specs.Reasons.{skip_value}
+use Rattle.verdict_json.specs.Tellings.{Says, says_of}
 use Rattle.verdict_json.specs.Functions.{function_value}
 
 -- the word of the command line for the widths
@@ -58,28 +59,30 @@ module _ (p : Program) (marks : List (List Mark)) where
   file_value k =
       object (with (codes "name") (string (file_text p k)) (with (codes "source") (text_value (main_source p marks k)) no_members))
 
-  -- Each function with its verdict. A function or a verdict without the other is left out, as in the text.
-  abbrev pub functions_values : List Function → List Verdict → List Json
-  functions_values [] vs = []
-  functions_values (f ∷ fs) [] = []
-  functions_values (f ∷ fs) (v ∷ vs) = function_value p marks f v ∷ functions_values fs vs
+  -- Each function with its verdict, the first of them having the number n, and what the choices of each say. A function or a
+  -- verdict without the other is left out, as in the text.
+  abbrev pub functions_values : (says : ℕ → Function → Says) → (n : ℕ) → List Function → List Verdict → List Json
+  functions_values says n [] vs = []
+  functions_values says n (f ∷ fs) [] = []
+  functions_values says n (f ∷ fs) (v ∷ vs) = function_value p marks (says n f) f v ∷ functions_values says (n + 1) fs vs
 
-  unfoldable pub functions_value : List Function → List Verdict → Json
-  functions_value fs vs = array_of (functions_values fs vs)
+  unfoldable pub functions_value : (says : ℕ → Function → Says) → List Function → List Verdict → Json
+  functions_value says fs vs = array_of (functions_values says 0 fs vs)
 
   -- what is found out
-  unfoldable pub found_members : List Verdict → Members
-  found_members vs =
+  unfoldable pub found_members : (says : ℕ → Function → Says) → List Verdict → Members
+  found_members says vs =
       with (codes "notes") (array_by (skip_value p marks) p.notes)
-      (with (codes "functions") (functions_value p.functions vs) (with (codes "totals") (totals_of vs) no_members))
+      (with (codes "functions") (functions_value says p.functions vs) (with (codes "totals") (totals_of vs) no_members))
 
-  -- The whole value. There is one verdict for each function.
-  unfoldable pub check_value : (depth reach : ℕ) → List Verdict → Json
-  check_value depth reach vs =
+  -- The whole value. There is one verdict for each function, and one row of kept callees.
+  unfoldable pub check_value : (depth reach : ℕ) → (kept : List (List ℕ)) → List Verdict → Json
+  check_value depth reach kept vs =
       object (with (codes "format") (string (codes "nalvegop verdicts"))
       (with (codes "version") (count_value 1)
       (with (codes "options") (options_value p depth reach)
-      (with (codes "files") (array_by file_value (range_with_len 0 (length p.files))) (found_members vs)))))
+      (with (codes "files") (array_by file_value (range_with_len 0 (length p.files)))
+      (found_members (says_of p marks depth reach kept vs) vs)))))
 
 -- The tokens of the form and its number, with the opening bracket.
 abbrev pub first_tokens : List Token

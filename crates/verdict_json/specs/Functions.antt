@@ -20,10 +20,11 @@ use Rattle.sc_world.specs.Tree.{Ty, Bool', Int, Ptr}
 use Rattle.sc_world.specs.View.{type}
 use Rattle.report_text.specs.Names.{name_text}
 use Rattle.report_text.specs.Functions.{entry_params}
-use Rattle.verdict_json.specs.Arrays.{array_by}
-use Rattle.verdict_json.specs.Places.{place_value, is_in_header}
+use Rattle.json_places.specs.Arrays.{array_by}
+use Rattle.json_places.specs.Places.{place_value, is_in_header}
 use Rattle.verdict_json.specs.Reasons.{skip_value}
 use Rattle.verdict_json.specs.Rows.{item_value, write_value}
+use Rattle.verdict_json.specs.Tellings.{Says}
 use Rattle.verdict_json.specs.Reports.{report_value}
 
 -- the words of C for a kind of integers (C11 6.2.5)
@@ -70,21 +71,26 @@ module _ (p : Program) (marks : List (List Mark)) where
   unfoldable pub skipped_members : Skip → Members
   skipped_members skip = with (codes "skipped") (skip_value p marks skip) no_members
 
-  unfoldable pub done_members : Function → Summary → List Report → Members
-  done_members f s reports =
+  -- the reports of a function whose choices say this
+  abbrev pub reports_value : Says → Function → List Report → Json
+  reports_value says f reports = array_by (report_value p marks says f.pos.file f.params) reports
+
+  -- of such a function
+  unfoldable pub done_members : Says → Function → Summary → List Report → Members
+  done_members says f s reports =
       with (codes "skipped") null
       (summary_members p f.params s
-      (with (codes "reports") (array_by (report_value p marks f.pos.file f.params) reports) no_members))
+      (with (codes "reports") (reports_value says f reports) no_members))
 
-  abbrev pub verdict_members : Function → Verdict → Members
-  verdict_members f (verdict.Skipped skip) = skipped_members skip
-  verdict_members f (verdict.Done s reports) = done_members f s reports
+  abbrev pub verdict_members : Says → Function → Verdict → Members
+  verdict_members says f (verdict.Skipped skip) = skipped_members skip
+  verdict_members says f (verdict.Done s reports) = done_members says f s reports
 
-  unfoldable pub function_value : Function → Verdict → Json
-  function_value f v =
+  unfoldable pub function_value : Says → Function → Verdict → Json
+  function_value says f v =
       object (with (codes "name") (string (name_text p f.name))
       (with (codes "place") (place_value p marks f.pos)
-      (with (codes "in_header") (boolean (is_in_header p marks f.pos)) (verdict_members f v))))
+      (with (codes "in_header") (boolean (is_in_header p marks f.pos)) (verdict_members says f v))))
 
 -- The tokens of the summary's members.
 

@@ -1,8 +1,6 @@
-pub mod Arrays
-pub mod Places
 pub mod Reasons
-pub mod Paths
 pub mod Rows
+pub mod Tellings
 pub mod Runs
 pub mod Reports
 pub mod Functions

@@ -8,7 +8,7 @@ use Rattle.json_text.specs.Values.{text_value, count_value, with}
 use Rattle.line_marks.specs.declared.marks.Mark.{Mark}
 use Rattle.sc_typed.specs.declared.program.Program.{Program}
 use Rattle.report_text.specs.Reasons.{unsupported_word, ill_typed_word, limit_word}
-use Rattle.verdict_json.specs.Places.{place_value}
+use Rattle.json_places.specs.Places.{place_value}
 
 unfoldable pub limit_value : (kind : List ℕ) → (count : ℕ) → Json
 limit_value kind count =

@@ -10,15 +10,16 @@ use Rattle.sum_rows.specs.declared.report.Report.TheVariants as report
 use Rattle.sum_rows.specs.declared.report.Shown.{Shown}
 use Rattle.sc_typed.specs.declared.program.Program.{Program}
 use Rattle.sc_typed.specs.declared.program.Param.{Param}
-use Rattle.verdict_json.specs.Arrays.{array_by}
-use Rattle.verdict_json.specs.Places.{place_value}
-use Rattle.verdict_json.specs.Paths.{path_value}
+use Rattle.json_places.specs.Arrays.{array_by}
+use Rattle.json_places.specs.Places.{place_value}
+use Rattle.json_places.specs.Paths.{path_value}
+use Rattle.verdict_json.specs.Tellings.{Says}
 use Rattle.verdict_json.specs.Runs.{run_value}
 
--- of a function in the file with that number
-module _ (p : Program) (marks : List (List Mark)) (file : ℕ) where
+-- of a function in the file with that number, whose choices say this
+module _ (p : Program) (marks : List (List Mark)) (says : Says) (file : ℕ) where
   abbrev pub runs_value : List Shown → Json
-  runs_value runs = array_by (run_value p marks file) runs
+  runs_value runs = array_by (run_value p marks file says) runs
 
   -- an error at a location that the caller does not know: that of the run
   unfoldable pub inner_report : Shown → Json
@@ -31,15 +32,15 @@ module _ (p : Program) (marks : List (List Mark)) (file : ℕ) where
       (with (codes "place") (place_value p marks at) (with (codes "runs") (runs_value (run ∷ [])) no_members)))
 
 -- the same, of a function with these parameters
-module _ (p : Program) (marks : List (List Mark)) (file : ℕ) (params : List Param) where
+module _ (p : Program) (marks : List (List Mark)) (says : Says) (file : ℕ) (params : List Param) where
   -- what several runs show of a location
   unfoldable pub location_report : (kind : List ℕ) → Path → List Shown → Json
   location_report kind x runs =
       object (with (codes "kind") (string kind)
-      (with (codes "path") (path_value p params x) (with (codes "runs") (runs_value p marks file runs) no_members)))
+      (with (codes "path") (path_value p params x) (with (codes "runs") (runs_value p marks says file runs) no_members)))
 
   abbrev pub report_value : Report → Json
   report_value (report.Double x runs) = location_report (codes "double") x runs
   report_value (report.Ambiguous x a b) = location_report (codes "ambiguous") x (a ∷ b ∷ [])
-  report_value (report.Inner run) = inner_report p marks file run
-  report_value (report.Leak at run) = leak_report p marks file at run
+  report_value (report.Inner run) = inner_report p marks says file run
+  report_value (report.Leak at run) = leak_report p marks says file at run

@@ -19,8 +19,8 @@ use Rattle.sc_typed.specs.declared.program.Program.{Program}
 use Rattle.sc_typed.specs.declared.program.Param.{Param}
 use Rattle.report_text.specs.Names.{param_text}
 use Rattle.report_text.specs.Rows.{machine_state}
-use Rattle.verdict_json.specs.Arrays.{array_by}
-use Rattle.verdict_json.specs.Paths.{path_value}
+use Rattle.json_places.specs.Arrays.{array_by}
+use Rattle.json_places.specs.Paths.{path_value}
 
 -- the entry bits, the first parameter's first
 unfoldable pub bits_values : (digits : ℕ) → (given : ℕ) → List Json

@@ -13,8 +13,9 @@ use Rattle.sum_rows.specs.declared.report.What.TheVariants as what
 use Rattle.sc_typed.specs.declared.program.Program.{Program}
 use Rattle.report_text.specs.Names.{name_text}
 use Rattle.report_text.specs.Shown.{choice_text}
-use Rattle.verdict_json.specs.Arrays.{array_by}
-use Rattle.verdict_json.specs.Places.{place_value}
+use Rattle.json_places.specs.Arrays.{array_by}
+use Rattle.json_places.specs.Places.{place_value}
+use Rattle.verdict_json.specs.Tellings.{Says}
 
 -- the kind of an event alone
 abbrev pub plain_members : (kind : List ℕ) → Members
@@ -48,7 +49,9 @@ module _ (p : Program) (marks : List (List Mark)) (file : ℕ) where
   unfoldable pub event_value : Event → Json
   event_value e = object (with (codes "place") (place_value p marks (event_place e)) (what_members p e.what))
 
-  unfoldable pub run_value : Shown → Json
-  run_value s =
+  -- with what its choice says
+  unfoldable pub run_value : Says → Shown → Json
+  run_value says s =
       object (with (codes "choice") (text_value (choice_text s.choice))
-      (with (codes "location") (text_value s.text) (with (codes "events") (array_by event_value s.trace) no_members)))
+      (with (codes "location") (text_value s.text)
+      (with (codes "events") (array_by event_value s.trace) (says s.choice no_members))))

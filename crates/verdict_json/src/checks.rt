@@ -1,21 +1,23 @@
 // The JSON of a whole check.
 
-ghost use Rattle.std.specs.Prelude.{◌≡◌, ◌≤◌, ◌++◌, OnOk, IfOk, Some, length, map, sum_by};
+ghost use Rattle.std.specs.Prelude.{◌≡◌, ◌≤◌, ◌+◌, ◌++◌, OnOk, IfOk, Some, length, map, sum_by};
 ghost use Rattle.std.specs.Arc.{arc_value};
 ghost use Rattle.std.specs.List.{flat_map, range_with_len};
 ghost use Rattle.std.specs.Str.{IsUtf8};
 ghost use Rattle.json.specs.Json.{document};
 ghost use Rattle.json.specs.Print.{print};
 ghost use Rattle.json.specs.Tree.{json_tokens, members_tokens};
-ghost use Rattle.verdict_json.specs.Arrays.{array_by};
+ghost use Rattle.json_places.specs.Arrays.{array_by};
 ghost use Rattle.verdict_json.specs.Checks as spec;
+ghost use Rattle.verdict_json.specs.Tellings.{says_among};
 
-use crate::check::Check;
 use crate::functions::put_function;
-use crate::places::main_source;
 use crate::reasons::put_notes;
+use crate::tellings::All;
 use fsm_spec::MachineSpec;
+use json_places::{Check, main_source};
 use json_text::JsonText;
+use plan_core::Plan;
 use report_text::{Totals, file_text, machine_state, machine_word, totals_of};
 use sc_base::{OutOfMemory, RowList};
 use sc_tree::ctype::Widths;
@@ -50,6 +52,13 @@ fn number(n: usize) -> Result<u32, OutOfMemory>
         Ok(k) => Ok(k),
         Err(_) => Err(OutOfMemory),
     }
+}
+
+// The next number.
+fn next(n: u32) -> Result<u32, OutOfMemory>
+    ensures { IfOk result (λ m. m ≡ n + 1) }
+{
+    n.checked_add(1).ok_or(OutOfMemory)
 }
 
 // The name of the state with that number.
@@ -129,37 +138,34 @@ fn put_files(text: &mut JsonText, check: &Check) -> Result<(), OutOfMemory>
 // The functions, each with its verdict.
 fn put_each_function(
     text: &mut JsonText,
-    check: &Check,
+    all: &All,
     functions: &[Function],
-    verdicts: &[Arc<Verdict>],
 ) -> Result<(), OutOfMemory>
     ensures { OnOk result (text.new ≡ text.old
-        ++ flat_map json_tokens (spec.functions_values check.now.program.now check.now.marks.now functions.now
-        (map arc_value verdicts.now))) }
+        ++ flat_map json_tokens (spec.functions_values all.now.check.now.program.now all.now.check.now.marks.now (says_among all.now)
+        0 functions.now (map arc_value all.now.verdicts.now))) }
 {
-    let mut rest = verdicts;
+    let mut rest = all.verdicts;
+    let mut count = 0;
     for function in functions {
         let Some((verdict, more)) = rest.split_first() else {
             return Ok(());
         };
-        put_function(text, check, function, verdict)?;
+        put_function(text, all, count, function, verdict)?;
+        count = next(count)?;
         rest = more;
     }
     Ok(())
 }
 
 // The same in brackets.
-fn put_functions(
-    text: &mut JsonText,
-    check: &Check,
-    functions: &[Function],
-    verdicts: &[Arc<Verdict>],
-) -> Result<(), OutOfMemory>
+fn put_functions(text: &mut JsonText, all: &All, functions: &[Function]) -> Result<(), OutOfMemory>
     ensures { OnOk result (text.new ≡ text.old
-        ++ json_tokens (spec.functions_value check.now.program.now check.now.marks.now functions.now (map arc_value verdicts.now))) }
+        ++ json_tokens (spec.functions_value all.now.check.now.program.now all.now.check.now.marks.now (says_among all.now)
+        functions.now (map arc_value all.now.verdicts.now))) }
 {
     text.begin_array()?;
-    put_each_function(text, check, functions, verdicts)?;
+    put_each_function(text, all, functions)?;
     text.end_array()?;
     Ok(())
 }
@@ -177,23 +183,28 @@ fn put_totals(text: &mut JsonText, functions: usize, totals: &Totals) -> Result<
     Ok(())
 }
 
-// What is found out, and the closing bracket.
-fn end_found(
-    text: &mut JsonText,
-    check: &Check,
-    verdicts: &[Arc<Verdict>],
-) -> Result<(), OutOfMemory>
-    ensures { OnOk result (text.new ≡ text.old
-        ++ members_tokens (spec.found_members check.now.program.now check.now.marks.now (map arc_value verdicts.now))) }
+// The totals of these verdicts.
+fn put_totals_of(text: &mut JsonText, verdicts: &[Arc<Verdict>]) -> Result<(), OutOfMemory>
+    ensures { OnOk result (text.new ≡ text.old ++ json_tokens (spec.totals_of (map arc_value verdicts.now))) }
 {
     let totals = totals_of(verdicts)?;
-    let program = check.program;
-    text.key("notes")?;
-    put_notes(text, check, program.notes.as_slice())?;
-    text.key("functions")?;
-    put_functions(text, check, program.functions.as_slice(), verdicts)?;
-    text.key("totals")?;
     put_totals(text, verdicts.len(), &totals)?;
+    Ok(())
+}
+
+// What is found out, and the closing bracket.
+fn end_found(text: &mut JsonText, all: &All) -> Result<(), OutOfMemory>
+    ensures { OnOk result (text.new ≡ text.old
+        ++ members_tokens (spec.found_members all.now.check.now.program.now all.now.check.now.marks.now (says_among all.now)
+        (map arc_value all.now.verdicts.now))) }
+{
+    let program = all.check.program;
+    text.key("notes")?;
+    put_notes(text, all.check, program.notes.as_slice())?;
+    text.key("functions")?;
+    put_functions(text, all, program.functions.as_slice())?;
+    text.key("totals")?;
+    put_totals_of(text, all.verdicts)?;
     text.end_object()?;
     Ok(())
 }
@@ -208,38 +219,44 @@ fn begin(text: &mut JsonText) -> Result<(), OutOfMemory>
     Ok(())
 }
 
-fn put_check(
-    text: &mut JsonText,
-    check: &Check,
-    verdicts: &[Arc<Verdict>],
-) -> Result<(), OutOfMemory>
+fn put_check(text: &mut JsonText, all: &All) -> Result<(), OutOfMemory>
     ensures { OnOk result (text.new ≡ text.old
-        ++ json_tokens (spec.check_value check.now.program.now check.now.marks.now check.now.depth check.now.reach
-        (map arc_value verdicts.now))) }
+        ++ json_tokens (spec.check_value all.now.check.now.program.now all.now.check.now.marks.now all.now.check.now.depth
+        all.now.check.now.reach all.now.plan.now.callees (map arc_value all.now.verdicts.now))) }
 {
+    let check = all.check;
     begin(text)?;
     text.key("options")?;
     put_options(text, check)?;
     text.key("files")?;
     put_files(text, check)?;
-    end_found(text, check, verdicts)?;
+    end_found(text, all)?;
     Ok(())
 }
 
 /// The JSON of a whole check: a text (RFC 8259) that is read as the value which is defined. A verdict belongs to the function
-/// at its place in the program.
+/// at its place in the program, and the plan has the kept callees of each function.
 ///
 /// # Errors
 ///
-/// `OutOfMemory` where memory is refused, or a count of rows or reports does not fit 64 bits.
-pub fn check_json(check: &Check, verdicts: &RowList<Verdict>) -> Result<Vec<u8>, OutOfMemory>
+/// `OutOfMemory` where memory is refused, or a count does not fit its type.
+pub fn check_json(
+    check: &Check,
+    plan: &Plan,
+    verdicts: &RowList<Verdict>,
+) -> Result<Vec<u8>, OutOfMemory>
     ensures bytes { IfOk result (λ bytes. bytes.items ≡ print (json_tokens (spec.check_value check.now.program.now
-        check.now.marks.now check.now.depth check.now.reach (map arc_value verdicts.now.list.items)))) }
+        check.now.marks.now check.now.depth check.now.reach plan.now.callees (map arc_value verdicts.now.list.items)))) }
     ensures utf8 { IfOk result (λ bytes. IsUtf8 bytes.items) }
     ensures value { IfOk result (λ bytes. document bytes.items ≡ Some (spec.check_value check.now.program.now
-        check.now.marks.now check.now.depth check.now.reach (map arc_value verdicts.now.list.items))) }
+        check.now.marks.now check.now.depth check.now.reach plan.now.callees (map arc_value verdicts.now.list.items))) }
 {
     let mut text = JsonText::new(check.alloc);
-    put_check(&mut text, check, verdicts.list.as_slice())?;
+    let all = All {
+        check,
+        plan,
+        verdicts: verdicts.list.as_slice(),
+    };
+    put_check(&mut text, &all)?;
     Ok(text.into_bytes())
 }

@@ -1,18 +1,16 @@
 //! The verdicts of a whole check as JSON, for programs that show findings.
 //!
-//! `check` has what is read beside the verdicts. `places`, `reasons`, `paths`, `rows`, `runs`, `reports` and `functions` put
-//! the values of these things, each behind the tokens that are there already, and `checks` puts the whole.
+//! `reasons`, `rows`, `runs`, `reports` and `functions` put the values of these things, each behind the tokens that are there
+//! already, and `checks` puts the whole. Places and paths, and what is read beside the verdicts, are those of `json_places`.
 #![tactic(auto)]
 
-mod check;
 mod checks;
 mod functions;
-mod paths;
-mod places;
 mod reasons;
 mod reports;
 mod rows;
 mod runs;
+mod tellings;
 
-pub use check::Check;
 pub use checks::check_json;
+pub use json_places::Check;

@@ -2,11 +2,10 @@
 
 ghost use Rattle.std.specs.Prelude.{◌≡◌, ◌++◌, OnOk};
 ghost use Rattle.json.specs.Tree.{json_tokens};
-ghost use Rattle.verdict_json.specs.Arrays.{array_by};
+ghost use Rattle.json_places.specs.Arrays.{array_by};
 ghost use Rattle.verdict_json.specs.Reasons as spec;
 
-use crate::check::Check;
-use crate::places::put_place;
+use json_places::{Check, put_place};
 use json_text::JsonText;
 use report_text::{ill_typed_word, limit_word, unsupported_word};
 use sc_base::{OutOfMemory, Pos, Skip};

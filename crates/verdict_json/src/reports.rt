@@ -2,25 +2,31 @@
 
 ghost use Rattle.std.specs.Prelude.{◌≡◌, ◌∷◌, [], ◌++◌, OnOk, codes};
 ghost use Rattle.json.specs.Tree.{json_tokens};
-ghost use Rattle.verdict_json.specs.Arrays.{array_by};
+ghost use Rattle.json_places.specs.Arrays.{array_by};
 ghost use Rattle.verdict_json.specs.Reports as spec;
+ghost use Rattle.verdict_json.specs.Tellings.{says_told};
 
-use crate::check::Check;
-use crate::paths::put_path;
-use crate::places::put_place;
 use crate::runs::{put_run, put_runs};
+use crate::tellings::Telling;
+use json_places::{Check, put_path, put_place};
 use json_text::JsonText;
 use sc_base::{OutOfMemory, Pos};
 use sc_typed::Function;
 use sum_rows::{Path, Report, Shown};
 
 // One run in brackets.
-fn put_one(text: &mut JsonText, check: &Check, file: u32, run: &Shown) -> Result<(), OutOfMemory>
+fn put_one(
+    text: &mut JsonText,
+    check: &Check,
+    telling: Option<Telling>,
+    file: u32,
+    run: &Shown,
+) -> Result<(), OutOfMemory>
     ensures { OnOk result (text.new ≡ text.old
-        ++ json_tokens (spec.runs_value check.now.program.now check.now.marks.now file (run.now ∷ []))) }
+        ++ json_tokens (spec.runs_value check.now.program.now check.now.marks.now (says_told check.now telling.entry) file (run.now ∷ []))) }
 {
     text.begin_array()?;
-    put_run(text, check, file, run)?;
+    put_run(text, check, telling, file, run)?;
     text.end_array()?;
     Ok(())
 }
@@ -29,16 +35,17 @@ fn put_one(text: &mut JsonText, check: &Check, file: u32, run: &Shown) -> Result
 fn put_two(
     text: &mut JsonText,
     check: &Check,
+    telling: Option<Telling>,
     file: u32,
     one: &Shown,
     other: &Shown,
 ) -> Result<(), OutOfMemory>
     ensures { OnOk result (text.new ≡ text.old
-        ++ json_tokens (spec.runs_value check.now.program.now check.now.marks.now file (one.now ∷ other.now ∷ []))) }
+        ++ json_tokens (spec.runs_value check.now.program.now check.now.marks.now (says_told check.now telling.entry) file (one.now ∷ other.now ∷ []))) }
 {
     text.begin_array()?;
-    put_run(text, check, file, one)?;
-    put_run(text, check, file, other)?;
+    put_run(text, check, telling, file, one)?;
+    put_run(text, check, telling, file, other)?;
     text.end_array()?;
     Ok(())
 }
@@ -47,12 +54,13 @@ fn put_two(
 fn put_double(
     text: &mut JsonText,
     check: &Check,
+    telling: Option<Telling>,
     function: &Function,
     path: &Path,
     runs: &[Shown],
 ) -> Result<(), OutOfMemory>
     ensures { OnOk result (text.new ≡ text.old
-        ++ json_tokens (spec.location_report check.now.program.now check.now.marks.now function.now.pos.file function.now.params
+        ++ json_tokens (spec.location_report check.now.program.now check.now.marks.now (says_told check.now telling.entry) function.now.pos.file function.now.params
         (codes "double") path.now runs.now)) }
 {
     text.begin_object()?;
@@ -60,7 +68,7 @@ fn put_double(
     text.key("path")?;
     put_path(text, check, function.params.as_slice(), path)?;
     text.key("runs")?;
-    put_runs(text, check, function.pos.file, runs)?;
+    put_runs(text, check, telling, function.pos.file, runs)?;
     text.end_object()?;
     Ok(())
 }
@@ -69,13 +77,14 @@ fn put_double(
 fn put_ambiguous(
     text: &mut JsonText,
     check: &Check,
+    telling: Option<Telling>,
     function: &Function,
     path: &Path,
     one: &Shown,
     other: &Shown,
 ) -> Result<(), OutOfMemory>
     ensures { OnOk result (text.new ≡ text.old
-        ++ json_tokens (spec.location_report check.now.program.now check.now.marks.now function.now.pos.file function.now.params
+        ++ json_tokens (spec.location_report check.now.program.now check.now.marks.now (says_told check.now telling.entry) function.now.pos.file function.now.params
         (codes "ambiguous") path.now (one.now ∷ other.now ∷ []))) }
 {
     text.begin_object()?;
@@ -83,20 +92,26 @@ fn put_ambiguous(
     text.key("path")?;
     put_path(text, check, function.params.as_slice(), path)?;
     text.key("runs")?;
-    put_two(text, check, function.pos.file, one, other)?;
+    put_two(text, check, telling, function.pos.file, one, other)?;
     text.end_object()?;
     Ok(())
 }
 
 // An error at a location that the caller does not know.
-fn put_inner(text: &mut JsonText, check: &Check, file: u32, run: &Shown) -> Result<(), OutOfMemory>
+fn put_inner(
+    text: &mut JsonText,
+    check: &Check,
+    telling: Option<Telling>,
+    file: u32,
+    run: &Shown,
+) -> Result<(), OutOfMemory>
     ensures { OnOk result (text.new ≡ text.old
-        ++ json_tokens (spec.inner_report check.now.program.now check.now.marks.now file run.now)) }
+        ++ json_tokens (spec.inner_report check.now.program.now check.now.marks.now (says_told check.now telling.entry) file run.now)) }
 {
     text.begin_object()?;
     text.word_member("kind", "inner")?;
     text.key("runs")?;
-    put_one(text, check, file, run)?;
+    put_one(text, check, telling, file, run)?;
     text.end_object()?;
     Ok(())
 }
@@ -105,19 +120,20 @@ fn put_inner(text: &mut JsonText, check: &Check, file: u32, run: &Shown) -> Resu
 fn put_leak(
     text: &mut JsonText,
     check: &Check,
+    telling: Option<Telling>,
     file: u32,
     at: Pos,
     run: &Shown,
 ) -> Result<(), OutOfMemory>
     ensures { OnOk result (text.new ≡ text.old
-        ++ json_tokens (spec.leak_report check.now.program.now check.now.marks.now file at run.now)) }
+        ++ json_tokens (spec.leak_report check.now.program.now check.now.marks.now (says_told check.now telling.entry) file at run.now)) }
 {
     text.begin_object()?;
     text.word_member("kind", "leak")?;
     text.key("place")?;
     put_place(text, check, at)?;
     text.key("runs")?;
-    put_one(text, check, file, run)?;
+    put_one(text, check, telling, file, run)?;
     text.end_object()?;
     Ok(())
 }
@@ -125,21 +141,29 @@ fn put_leak(
 fn put_report(
     text: &mut JsonText,
     check: &Check,
+    telling: Option<Telling>,
     function: &Function,
     report: &Report,
 ) -> Result<(), OutOfMemory>
     ensures { OnOk result (text.new ≡ text.old
-        ++ json_tokens (spec.report_value check.now.program.now check.now.marks.now function.now.pos.file function.now.params
+        ++ json_tokens (spec.report_value check.now.program.now check.now.marks.now (says_told check.now telling.entry) function.now.pos.file function.now.params
         report.now)) }
 {
     let file = function.pos.file;
     match report {
-        Report::Double(path, runs) => put_double(text, check, function, path, runs.as_slice()),
+        Report::Double(path, runs) => put_double(
+            text,
+            check,
+            telling,
+            function,
+            path,
+            runs.as_slice(),
+        ),
         Report::Ambiguous(path, one, other) => {
-            put_ambiguous(text, check, function, path, one, other)
+            put_ambiguous(text, check, telling, function, path, one, other)
         }
-        Report::Inner(run) => put_inner(text, check, file, run),
-        Report::Leak(at, run) => put_leak(text, check, file, *at, run),
+        Report::Inner(run) => put_inner(text, check, telling, file, run),
+        Report::Leak(at, run) => put_leak(text, check, telling, file, *at, run),
     }
 }
 
@@ -147,16 +171,17 @@ fn put_report(
 pub(crate) fn put_reports(
     text: &mut JsonText,
     check: &Check,
+    telling: Option<Telling>,
     function: &Function,
     reports: &[Report],
 ) -> Result<(), OutOfMemory>
     ensures { OnOk result (text.new ≡ text.old
-        ++ json_tokens (array_by (spec.report_value check.now.program.now check.now.marks.now function.now.pos.file
+        ++ json_tokens (array_by (spec.report_value check.now.program.now check.now.marks.now (says_told check.now telling.entry) function.now.pos.file
         function.now.params) reports.now)) }
 {
     text.begin_array()?;
     for report in reports {
-        put_report(text, check, function, report)?;
+        put_report(text, check, telling, function, report)?;
     }
     text.end_array()?;
     Ok(())

@@ -4,12 +4,11 @@ ghost use Rattle.std.specs.Prelude.{◌≡◌, ◌∷◌, ◌++◌, OnOk};
 ghost use Rattle.std.specs.List.{flat_map};
 ghost use Rattle.json.specs.Token.{key};
 ghost use Rattle.json.specs.Tree.{json_tokens};
-ghost use Rattle.verdict_json.specs.Arrays.{array_by};
+ghost use Rattle.json_places.specs.Arrays.{array_by};
 ghost use Rattle.verdict_json.specs.Rows as spec;
 
-use crate::check::Check;
-use crate::paths::put_path;
 use fsm_spec::MachineSpec;
+use json_places::{Check, put_path};
 use json_text::JsonText;
 use report_text::{machine_state, param_text};
 use sc_base::OutOfMemory;

@@ -6,13 +6,14 @@ ghost use Rattle.json.specs.Token.{key, string};
 ghost use Rattle.report_text.specs.Shown.{choice_text};
 ghost use Rattle.std.specs.Fmt.{signed_decimal};
 ghost use Rattle.json.specs.Tree.{json_tokens, members_tokens};
-ghost use Rattle.verdict_json.specs.Arrays.{array_by};
+ghost use Rattle.json_places.specs.Arrays.{array_by};
 ghost use Rattle.verdict_json.specs.Runs as spec;
+ghost use Rattle.verdict_json.specs.Tellings.{says_told};
 ghost use Rattle.json.specs.Json as json;
 
-use crate::check::Check;
-use crate::places::put_place;
+use crate::tellings::{Telling, end_told};
 use itoa::Buffer;
+use json_places::{Check, put_place};
 use json_text::JsonText;
 use report_text::{name_text, put_choice};
 use sc_base::{NameId, OutOfMemory, Pos};
@@ -145,22 +146,24 @@ fn put_choice_member(text: &mut JsonText, alloc: Global, choice: &[bool]) -> Res
     text.bytes_member("choice", digits.as_slice())
 }
 
-/// Puts a run of a function in the file with that number.
+/// Puts a run of a function in the file with that number, with what its choice says.
 pub(crate) fn put_run(
     text: &mut JsonText,
     check: &Check,
+    telling: Option<Telling>,
     file: u32,
     run: &Shown,
 ) -> Result<(), OutOfMemory>
     ensures { OnOk result (text.new ≡ text.old
-        ++ json_tokens (spec.run_value check.now.program.now check.now.marks.now file run.now)) }
+        ++ json_tokens (spec.run_value check.now.program.now check.now.marks.now file (says_told check.now telling.entry) run.now)) }
 {
+    let choice = run.choice.as_slice();
     text.begin_object()?;
-    put_choice_member(text, check.alloc, run.choice.as_slice())?;
+    put_choice_member(text, check.alloc, choice)?;
     text.bytes_member("location", run.text.as_slice())?;
     text.key("events")?;
     put_events(text, check, file, run.trace.as_slice())?;
-    text.end_object()?;
+    end_told(text, check, telling, choice)?;
     Ok(())
 }
 
@@ -168,15 +171,17 @@ pub(crate) fn put_run(
 pub(crate) fn put_runs(
     text: &mut JsonText,
     check: &Check,
+    telling: Option<Telling>,
     file: u32,
     runs: &[Shown],
 ) -> Result<(), OutOfMemory>
     ensures { OnOk result (text.new ≡ text.old
-        ++ json_tokens (array_by (spec.run_value check.now.program.now check.now.marks.now file) runs.now)) }
+        ++ json_tokens (array_by (spec.run_value check.now.program.now check.now.marks.now file
+        (says_told check.now telling.entry)) runs.now)) }
 {
     text.begin_array()?;
     for run in runs {
-        put_run(text, check, file, run)?;
+        put_run(text, check, telling, file, run)?;
     }
     text.end_array()?;
     Ok(())

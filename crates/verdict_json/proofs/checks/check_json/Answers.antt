@@ -14,21 +14,21 @@ returns-clause-bytes c =
     (c.in_ok-put_check.ensures
     ∙ ap
     (λ ts. ts
-    ++ json_tokens (check_value check.program.now check.marks.now check.depth check.reach (map arc_value c.as_slice.result.now)))
+    ++ json_tokens (check_value check.program.now check.marks.now check.depth check.reach c.args.plan.now.callees (map arc_value c.as_slice.result.now)))
     c.new-text.ensures
-    ∙ ap (λ vs. json_tokens (check_value check.program.now check.marks.now check.depth check.reach (map arc_value vs)))
+    ∙ ap (λ vs. json_tokens (check_value check.program.now check.marks.now check.depth check.reach c.args.plan.now.callees (map arc_value vs)))
     c.as_slice.ensures.value)
 
 pub returns-clause-value : goal.returns-clause-value
 returns-clause-value c =
     let check = c.args.check.now in
     let verdicts = map arc_value c.args.verdicts.now.list.items in
-    c.into_bytes.ensures.value (check_value check.program.now check.marks.now check.depth check.reach verdicts)
+    c.into_bytes.ensures.value (check_value check.program.now check.marks.now check.depth check.reach c.args.plan.now.callees verdicts)
     (c.in_ok-put_check.ensures
     ∙ ap
     (λ ts. ts
-    ++ json_tokens (check_value check.program.now check.marks.now check.depth check.reach (map arc_value c.as_slice.result.now)))
+    ++ json_tokens (check_value check.program.now check.marks.now check.depth check.reach c.args.plan.now.callees (map arc_value c.as_slice.result.now)))
     c.new-text.ensures
-    ∙ ap (λ vs. json_tokens (check_value check.program.now check.marks.now check.depth check.reach (map arc_value vs)))
+    ∙ ap (λ vs. json_tokens (check_value check.program.now check.marks.now check.depth check.reach c.args.plan.now.callees (map arc_value vs)))
     c.as_slice.ensures.value)
-    (check_depth check.program.now check.marks.now check.depth check.reach verdicts)
+    (check_depth check.program.now check.marks.now check.depth check.reach c.args.plan.now.callees verdicts)

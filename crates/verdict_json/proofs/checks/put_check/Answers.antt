@@ -1,9 +1,10 @@
 use Rattle.std.proofs.Common.{refl, append_assoc}
 use Rattle.verdict_json.specs.Checks.{check_value}
+use Rattle.verdict_json.specs.Tellings.{says_among}
 use Rattle.verdict_json.proofs.checks.put_check.Goals as goal
 
 pub returns : goal.returns
-unfolding check_value
+unfolding check_value says_among
 returns c =
     simp (
       append_assoc,

@@ -2,7 +2,7 @@ use Rattle.std.proofs.Common.{[], ◌∷◌, ◌++◌, arith}
 use Rattle.std.specs.Prelude.{length}
 use Rattle.json.specs.Token.{begin_array}
 use Rattle.verdict_json.specs.Checks.{file_value}
-use Rattle.verdict_json.proofs.Arrays.{range_behind, range_step}
+use Rattle.json_places.proofs.Arrays.{range_behind, range_step}
 use Rattle.verdict_json.proofs.checks.put_files.Goals as goal
 
 pub loop-file-preserved : goal.loop-file-preserved

@@ -1,7 +1,7 @@
 use Rattle.std.proofs.Common.{[], ◌∷◌, ◌++◌, arith}
 use Rattle.json.specs.Token.{begin_array}
 use Rattle.verdict_json.specs.Checks.{state_name, count_of_states}
-use Rattle.verdict_json.proofs.Arrays.{range_behind, range_step}
+use Rattle.json_places.proofs.Arrays.{range_behind, range_step}
 use Rattle.verdict_json.proofs.checks.put_states.Goals as goal
 
 pub loop-n-preserved : goal.loop-n-preserved

@@ -2,9 +2,9 @@ use Rattle.std.proofs.Common.{ap, subst, ◌≡◌, ◌∙◌, ◌++◌}
 use Rattle.std.specs.List.{flat_map}
 use Rattle.json.specs.Tree.{json_tokens}
 use Rattle.json_text.specs.Values.{array_of}
-use Rattle.verdict_json.specs.Arrays.{array_by}
+use Rattle.json_places.specs.Arrays.{array_by}
 use Rattle.verdict_json.specs.Functions.{entry_values}
-use Rattle.verdict_json.proofs.Arrays.{list_behind}
+use Rattle.json_places.proofs.Arrays.{list_behind}
 use Rattle.verdict_json.proofs.Entry.{entry_same}
 use Rattle.verdict_json.proofs.functions.put_entry_params.Goals as goal
 

@@ -1,5 +1,5 @@
 use Rattle.std.proofs.Common.{refl, append_assoc}
-use Rattle.verdict_json.specs.Arrays.{array_by}
+use Rattle.json_places.specs.Arrays.{array_by}
 use Rattle.verdict_json.proofs.reports.put_one.Goals as goal
 
 pub returns : goal.returns

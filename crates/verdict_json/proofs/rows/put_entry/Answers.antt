@@ -2,7 +2,7 @@ use Rattle.std.proofs.Common.{ap, ◌∙◌, ◌++◌}
 use Rattle.std.specs.List.{flat_map}
 use Rattle.json.specs.Tree.{json_tokens}
 use Rattle.verdict_json.specs.Rows.{bits_values, entry_value}
-use Rattle.verdict_json.proofs.Arrays.{list_behind}
+use Rattle.json_places.proofs.Arrays.{list_behind}
 use Rattle.verdict_json.proofs.rows.put_entry.Goals as goal
 
 pub returns : goal.returns

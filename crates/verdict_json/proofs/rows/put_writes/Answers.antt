@@ -1,5 +1,5 @@
 use Rattle.verdict_json.specs.Rows.{write_value}
-use Rattle.verdict_json.proofs.Arrays.{array_behind}
+use Rattle.json_places.proofs.Arrays.{array_behind}
 use Rattle.verdict_json.proofs.rows.put_writes.Goals as goal
 
 pub returns : goal.returns

@@ -1,5 +1,5 @@
 use Rattle.verdict_json.specs.Runs.{event_value}
-use Rattle.verdict_json.proofs.Arrays.{array_behind}
+use Rattle.json_places.proofs.Arrays.{array_behind}
 use Rattle.verdict_json.proofs.runs.put_events.Goals as goal
 
 pub returns : goal.returns

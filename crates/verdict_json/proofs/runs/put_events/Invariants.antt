@@ -1,7 +1,7 @@
 -- The events so far.
 use Rattle.std.proofs.Common.{◌≡◌, [], ◌∷◌, ◌++◌, take}
 use Rattle.json.specs.Token.{begin_array}
-use Rattle.verdict_json.specs.Arrays.{tokens_by}
+use Rattle.json_places.specs.Arrays.{tokens_by}
 use Rattle.verdict_json.specs.Runs.{event_value}
 use Rattle.verdict_json.proofs.runs.put_events.Given as goal
 

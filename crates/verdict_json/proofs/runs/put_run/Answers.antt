@@ -7,7 +7,7 @@ unfolding run_value
 returns c =
     simp (
       append_assoc,
-      c.in_ok-end_object.ensures,
+      c.in_ok-end_told.ensures,
       c.in_ok-put_events.ensures,
       c.in_ok-key.ensures,
       c.in_ok-bytes_member.ensures,
@@ -15,5 +15,5 @@ returns c =
       c.in_ok-begin_object.ensures,
       c.as_slice.ensures,
       c.as_slice-2.ensures,
-      c.as_slice-3.ensures,
+      c.as_slice-choice.ensures,
     ) refl

@@ -1,0 +1,5 @@
+pub mod Speakers
+pub mod Words
+pub mod Calls
+pub mod Says
+pub mod Seen
