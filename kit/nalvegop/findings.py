@@ -64,7 +64,7 @@ class Finding:
     @property
     def text(self) -> str:
         """Returns the message, and why it may be false."""
-        return self.message + (f" (this may be false: {' and '.join(self.marks)})" if self.marks else "")
+        return self.message + (f" (this may be false: {'; '.join(self.marks)})" if self.marks else "")
 
 
 # A condition with this is of what a variable leads to, or of what a call gives.
@@ -151,7 +151,7 @@ class Teller:
             return ""
         bits, all_bits = rows[0].entry, self._bits(function, report)
         said = [
-            f"'{name}' is {'not 0' if bits[i] == '1' else '0'}"
+            f"'{name}' {function.is_or_not(name, bits[i])}"
             for i, name in enumerate(function.entry)
             if not (root and root[0] == name) and bits[:i] + ("0" if bits[i] == "1" else "1") + bits[i + 1 :] not in all_bits
         ]
