@@ -17,6 +17,7 @@ from .block_types import BlockType, BlockTypes
 from .casts import Cast, Casts
 from .counted import OFFSET, CountedPointers
 from .differences import Difference, Differences
+from .lists import Listed, Lists
 from .old_parameters import OldParameters
 from .pointers import FilePointers
 from .segments import KEYWORDS, Segment, Unit
@@ -53,6 +54,8 @@ STEPPED = "Nv"
 # As short: the one for how far pointers lie apart, and the one for whether one lies before another.
 DISTANCE, ORDER = "Nd", "Nb"
 _HEADS = {STEPPED: f"void *{STEPPED}(const void *);", DISTANCE: f"long {DISTANCE}(void);", ORDER: f"_Bool {ORDER}(void);"}
+# A variable that holds a compound literal until it is assigned.
+_LITERAL = "Nl"
 # All that the filter puts somewhere.
 PUT = frozenset({PART, NUMBER, ADDRESS, POINTER, *_HEADS})
 
@@ -221,6 +224,7 @@ class Filter:
         self._asm_statements(segment.body[0], segment.end)
         self._once_loops(segment.body[0], segment.end)
         self._void_returns(segment)
+        self._lists(segment, gone)
         self._statement_expressions(segment.body[0], segment.end)
         for first, end in dropped:
             self._blank(first, end)
@@ -874,6 +878,40 @@ class Filter:
             else:
                 continue
             self._count("void returns")
+
+    def _lists(self, segment: Segment, gone: set[int]) -> None:
+        """`T x = { .a = 1 };` becomes `T x = { };` with `x.a = 1;` behind the end of the line, and `*p = (T) { .a = 1 };` a block
+        there, where no path tells a place of what moves."""
+        for at in Lists(self.tokens, self.partner).empty_texts(segment):
+            self._put(self.tokens[at], "{}")
+        for it in Lists(self.tokens, self.partner).of(segment):
+            line, rest = self._line(it.end - 1), [at for at in range(it.end, segment.end) if self._line(at) == self._line(it.end - 1)]
+            values = [at for _, begin, end in it.parts for at in range(begin, end)]
+            moved = {*rest, *values, *(() if it.is_declaration else range(*it.target))}
+            if line in self._tails or moved & (gone | self._other_at) or not all(self._may_move(segment, at) for at in moved):
+                continue
+            if not it.is_declaration and _LITERAL in self._taken:
+                continue
+            self._put_list(it, line, rest)
+            self._count("lists")
+
+    def _put_list(self, it: Listed, line: int, rest: list[int]) -> None:
+        target = " ".join(token.text for token in self.tokens[it.target[0] : it.target[1]])
+        name = target if it.is_declaration else _LITERAL
+        made = [f"{name}{path} = {self._moved_text(begin, end)};" for path, begin, end in it.parts]
+        if it.cast and not it.is_declaration:
+            made = [f"{{ {self._moved_text(it.cast[0] + 1, it.cast[1] - 1)} {name} = {{ }};", *made, f"{target} = {name}; }}"]
+            self._blank(it.first, it.end)
+        else:
+            if it.cast:
+                self._blank(*it.cast)
+            self._blank(it.opening + 1, self.partner[it.opening])
+        if made:
+            self._blank(it.end, it.end + len(rest))
+            self._tails.setdefault(line, []).append(" ".join([*made, *[self.tokens[at].text for at in rest]]))
+
+    def _moved_text(self, first: int, end: int) -> str:
+        return " ".join(token.text for token in self.tokens[first:end])
 
     def _is_left_early(self, opening: int, closing: int) -> bool:
         """Returns whether a break or continue between these braces belongs to the loop whose body they are."""
