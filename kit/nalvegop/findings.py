@@ -139,7 +139,10 @@ class Teller:
             return f"memory that {_quoted(how) if how else 'the call'} gives here is lost when '{function.name}' ends"
         given = self._given(function, report)
         if report.kind == "ambiguous":
-            return f"callers of '{function.name}' cannot know the state in which it leaves {about}: {self._two_states(function, report)}{given}"
+            rows = self._ambiguous_rows(function, report)
+            # (mostly it is not locked at entry, which goes without saying)
+            held = ", if it is locked at entry" if rows and rows[0].before == "L" and not self.machine else ""
+            return f"callers of '{function.name}' cannot know the state in which it leaves {about}: {self._two_states(function, report)}{held}{given}"
         return f"{about} {self._error(report.runs[0])}{given}"
 
     def _given(self, function: Function, report: Report) -> str:
