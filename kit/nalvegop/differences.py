@@ -19,6 +19,7 @@ _ORDERS = {*"< > <= >=".split()}
 _ENDS = {*"< > <= >= == != ^ | && || ? : = , ; ( [ { ) ] } += -= *= /= %= &= |= ^= <<= >>=".split()}
 _HEADS = {"if", "while", "for", "switch"}
 _PREFIXES = {*"* & - + ~ !".split()}
+_QUALIFIERS = {*"const volatile restrict __restrict __restrict__".split()}
 _OF_STATEMENTS = {"return", "else", "case", "goto", "sizeof", "do"}
 
 
@@ -66,8 +67,15 @@ class Differences:
 
     def pointers_to_pointers(self, first: int, end: int) -> frozenset[str]:
         """Returns, with a star before each, the names that two stars are put before between two tokens, as in `char **p`."""
-        found = [at for at in range(first, end - 2) if [it.text for it in self.tokens[at : at + 2]] == ["*", "*"] and self.tokens[at - 1].is_word]
-        return frozenset(f"*{self.tokens[at + 2].text}" for at in found if self.tokens[at - 1].text not in _OF_STATEMENTS)
+        found = set[str]()
+        for at in range(first, end - 2):
+            is_declared = self.tokens[at - 1].is_word and self.tokens[at - 1].text not in _OF_STATEMENTS
+            if is_declared and self.tokens[at].text == "*":
+                behind, stars = at, 0
+                while self.tokens[behind].text in {"*"} | _QUALIFIERS:
+                    stars, behind = stars + (self.tokens[behind].text == "*"), behind + 1
+                found |= {f"*{self.tokens[behind].text}"} if stars == 2 else set()
+        return frozenset(found)
 
     # ---- operands
 

@@ -402,8 +402,9 @@ class Filter:
     def _may_move(self, segment: Segment, at: int) -> bool:
         """Returns whether no path tells the place of a token."""
         token, behind = self.tokens[at], self.tokens[at + 1].text if at + 1 < segment.end else ""
-        is_call = behind == "(" and (token.is_word or token.text in (")", "]"))
-        return at < segment.end - 1 and not is_call and token.text not in ("?", "&&", "||") and (not token.is_word or token.text not in KEYWORDS)
+        is_word = token.is_word and token.text not in _TYPE_WORDS | {"sizeof"}
+        is_call = behind == "(" and (is_word or token.text in (")", "]") and not self._steps.is_cast(at))
+        return at < segment.end - 1 and not is_call and token.text not in ("?", "&&", "||") and not (is_word and token.text in KEYWORDS)
 
     def _put_before(self, segment: Segment, it: Statement, steps: list[Stepped], gone: set[int]) -> None:
         """`if (*p++ == c)` becomes `if (Nd() == c)`, with the step behind the line before it, and `*--p = c;` becomes `*p = c;` so.

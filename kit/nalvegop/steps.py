@@ -214,11 +214,11 @@ class Steps:
         """Returns whether a statement calls anything."""
         for at in range(it.first, it.end):
             token, behind = self.tokens[at], self.tokens[at + 1].text
-            if behind == "(" and (token.is_word and token.text not in KEYWORDS or token.text in (")", "]") and not self._is_cast(at)):
+            if behind == "(" and (token.is_word and token.text not in KEYWORDS or token.text in (")", "]") and not self.is_cast(at)):
                 return True
         return False
 
-    def _is_cast(self, closing: int) -> bool:
+    def is_cast(self, closing: int) -> bool:
         """Returns whether a bracket ends the type of a cast, by its words: a star at its end, or words of types alone."""
         inside = [it.text for it in self.tokens[self.partner[closing] + 1 : closing]] if self.partner[closing] >= 0 else []
         return bool(inside) and (inside[-1] == "*" or all(it in KEYWORDS or it.endswith("_t") for it in inside))

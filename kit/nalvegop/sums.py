@@ -54,6 +54,12 @@ class Sums:
 
     def _sum(self, at: int, brace: int) -> Sum | None:
         first, end = self._left(at, brace), self._end(at)
+        closing = self.partner[first - 1] if self.tokens[first - 1].text == "(" else -1
+        before = self.tokens[first - 3]
+        is_product = before.kind == "number" or before.text == "]" or before.is_word and before.text not in KEYWORDS
+        if closing > at and (self.tokens[first - 2].text == "*" and not is_product or self.tokens[closing + 1].text == "->"):
+            # (what is followed is a pointer, so no other one is taken from it)
+            end = closing
         is_sum = first < at < end - 1 and not self.values.changes(first, at) and not self.values.changes(at, end, (self.values.harmless,))
         return Sum(first, at, end) if is_sum else None
 

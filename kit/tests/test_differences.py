@@ -45,6 +45,7 @@ class Differences(unittest.TestCase):
             "n = p @- (const char *)s;": "n = Nd() ;",
             "n = p @- top;": "n = Nd() ;",
             "char **r; n = p @- *r;": "char **r; n = Nd() ;",
+            "char *const *r; n = p @- *r;": "char *const *r; n = Nd() ;",
             "n = 4 * (p@-q) - n;": "n = 4 * Nd() - n;",
             "n = n - (int)(p @- q);": "n = n - (int)(Nd() );",
             "n = n > (long)((p @- q) + 1);": "n = n > (long)((Nd() ) + 1);",

@@ -30,6 +30,7 @@ class Lists(unittest.TestCase):
             "struct in x[2] = { { 0 }, { 0 } };": "struct in x[2] = { };",
             "struct s x = (struct s) { .a = 1 };": "struct s x = { }; x.a = 1;",
             'char x[4] = "";': "char x[4] = {};",
+            "struct s x = { .a = (int)(n + 1), .q = ((void *)0) };": "struct s x = { }; x.a = ( int ) ( n + 1 ); x.q = ( ( void * ) 0 );",
         }.items():
             self.check(before, after)
 

@@ -40,6 +40,7 @@ class Sums(unittest.TestCase):
             "*(s->m @+ n) = 1;": "s->m [ n] = 1;",
             "n = *(p @- n);": "n = p[- n] ;",
             "n = *(p@-n);": "n = p[-n] ;",
+            "n = *(p @- s->n - 1);": "n = p[- s->n - 1] ;",
             "n = *(p @+ n - 1) + 2;": "n = p[n - 1] + 2;",
             "n = (s @- 1)->n;": "n = s[- 1]. n;",
         }.items():
@@ -96,6 +97,7 @@ class Sums(unittest.TestCase):
             "n = ((p @+ n))[1];",
             "n = p @-  g(q);",
             "p = n ? p @+ n : p;",
+            "n = n * (p @- s->next[1]->n);",
             "g(p @+ g(0));",
             "g(p @+ n++);",
             "g(p@+n); g(n);",
