@@ -33,11 +33,12 @@ _ON_LOCKS = {
 _CONTAINER = "container_of gives another object each time"
 _COUNTED = "arithmetic on a pointer gives another object each time"
 _SUM = "what a pointer and a number add up to is not known"
+_DIFFERENCE = "how far pointers lie apart, and in which order, is not known"
 _OFFSET = "the number that offsetof gives is not known"
 _POINTER = "a pointer made of a number leads to another object each time"
 _ADDRESS = "the number of a pointer is not known"
 # How often a text is checked once more, with something in place of casts that the checker did not take.
-_MOST_CASTS = 4
+_MOST_CASTS = 6
 _UNSURE = {OBJECT: _CONTAINER, "nalvegop_entry": "which entries a list has is not known"}
 
 
@@ -186,6 +187,7 @@ class FileCheck:
             self.filter.with_pointers |= self._one_by_one.with_pointers
             self.filter.with_addresses |= self._one_by_one.with_addresses
             self.filter.with_sums |= self._one_by_one.with_sums
+            self.filter.with_differences |= self._one_by_one.with_differences
             if not found or not self._one_by_one.refuse(_refused(found)):
                 break
         return found
@@ -291,6 +293,8 @@ class FileCheck:
             found.add(_POINTER)
         if finding.function in self.filter.with_sums:
             found.add(_SUM)
+        if finding.function in self.filter.with_differences:
+            found.add(_DIFFERENCE)
         if finding.function in self.filter.with_offsets:
             found.add(_OFFSET)
         if finding.function in self.filter.with_addresses:
@@ -359,9 +363,10 @@ class FileCheck:
 
 
 def _refused(verdicts: Verdicts) -> list[At]:
-    """Returns the places of casts between pointers and numbers, and of sums of these, for which functions were passed over."""
+    """Returns the places of casts between pointers and numbers, of sums of these, and of pointers that are compared by their
+    order, for which functions were passed over."""
     skips = [it.skip for it in verdicts.functions if it.skip]
-    return [it.at for it in skips if it.reason == "unsupported" and it.kind in ("cast", "arith") and it.at]
+    return [it.at for it in skips if it.reason == "unsupported" and it.kind in ("cast", "arith", "order") and it.at]
 
 
 def callees_first(functions: list[Segment]) -> list[str]:

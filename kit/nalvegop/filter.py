@@ -16,10 +16,14 @@ from functools import cached_property
 from .block_types import BlockType, BlockTypes
 from .casts import Cast, Casts
 from .counted import OFFSET, CountedPointers
+from .differences import Difference, Differences
+from .lists import Listed, Lists
 from .old_parameters import OldParameters
+from .pointers import FilePointers
 from .segments import KEYWORDS, Segment, Unit
 from .shadows import Shadow, Shadows, other_name
 from .statics import Static, Statics
+from .steps import Statement, Stepped, Steps
 from .sums import Sum, Sums
 from .tokens import LineIndex, Sheet, Token, tokens_of
 from .verdicts import At
@@ -27,6 +31,8 @@ from .verdicts import At
 _ASM = {"asm", "__asm", "__asm__"}
 _TYPEOF = {"typeof", "__typeof", "__typeof__"}
 _TYPE_WORDS = {*"void char short int long signed unsigned _Bool float double const volatile __const __const__ __signed__ __signed".split()}
+# Types of the library of at most four bytes.
+_SHORT_TYPES = {*"int8_t uint8_t int16_t uint16_t int32_t uint32_t u8 u16 u32 s8 s16 s32 __u8 __u16 __u32 __s8 __s16 __s32".split()}
 _LOOPS = {"for", "while", "do"}
 # What these do is fixed, whatever a body says: the body of a header's goes.
 BUILT_IN = {
@@ -45,9 +51,13 @@ NUMBER, ADDRESS, POINTER = "nalvegop_ulong", "nv_to", "nv_"
 # The one for what a sum of a pointer and a number leads to: it has two letters, so that it fits in place of `p + n`. The
 # filter declares it where the text has no such name.
 STEPPED = "Nv"
-_STEPPED_HEAD = f"void *{STEPPED}(const void *);"
+# As short: the one for how far pointers lie apart, and the one for whether one lies before another.
+DISTANCE, ORDER = "Nd", "Nb"
+_HEADS = {STEPPED: f"void *{STEPPED}(const void *);", DISTANCE: f"long {DISTANCE}(void);", ORDER: f"_Bool {ORDER}(void);"}
+# A variable that holds a compound literal until it is assigned.
+_LITERAL = "Nl"
 # All that the filter puts somewhere.
-PUT = frozenset({PART, NUMBER, ADDRESS, POINTER, STEPPED})
+PUT = frozenset({PART, NUMBER, ADDRESS, POINTER, *_HEADS})
 
 
 @dataclass
@@ -94,10 +104,11 @@ class Filter:
         self.passed_over: dict[str, tuple[str, At]] = {}
         # The functions in which an object, or a number, that is not known was put in place of something.
         self.with_parts, self.with_offsets = set[str](), set[str]()
-        self.with_pointers, self.with_addresses, self.with_sums = set[str](), set[str](), set[str]()
+        self.with_pointers, self.with_addresses, self.with_sums, self.with_differences = set[str](), set[str](), set[str](), set[str]()
         self._values, self._casts = CountedPointers(self.tokens, self.partner, MODEL_HEAD), Casts(self.tokens, self.partner)
         self._sums = Sums(self.tokens, self.partner, self._values)
-        # The places of casts and sums that the checker does not take; the tokens that got another name.
+        self._differences, self._steps = Differences(self.tokens, self.partner, self._values), Steps(self.tokens, self.partner, self._values)
+        # The places of casts, sums, differences and comparisons that the checker does not take; the tokens that got another name.
         self._refused, self._other_at = set[At](), set[int]()
 
     # ---- what is left
@@ -114,8 +125,8 @@ class Filter:
         return self._lines.line(self.tokens[at].start)
 
     def refuse(self, places: Iterable[At]) -> bool:
-        """Notes casts between pointers and numbers, and sums of these, that the checker does not take. Returns whether that is
-        new, and there may be something to put in their places."""
+        """Notes casts between pointers and numbers, sums of these, differences of pointers and their comparisons by order that
+        the checker does not take. Returns whether that is new, and there may be something to put in their places."""
         new = {*places} - self._refused
         self._refused |= new
         return self._has_pointer and bool(new)
@@ -184,6 +195,7 @@ class Filter:
             self._words(segment.first, segment.end)
             self._rename_shadows(segment)
             self._empty_members(segment.first, segment.end)
+            self._transparent_union(segment)
             return
         self._old_parameters(segment)
         why = self._cleanup(segment)
@@ -204,12 +216,15 @@ class Filter:
             self._offsets(segment, gone)
         if self._has_pointer:
             self._refused_casts(segment, gone)
-            swallowed = self._refused_sums(segment, gone)
+            swallowed = self._refused_differences(segment, gone)
+            swallowed |= self._refused_sums(segment, gone | swallowed)
+            self._refused_steps(segment, gone | swallowed)
             dropped = [it for it in dropped if it[0] not in swallowed]
         self._asserts(segment.body[0], segment.end)
         self._asm_statements(segment.body[0], segment.end)
         self._once_loops(segment.body[0], segment.end)
         self._void_returns(segment)
+        self._lists(segment, gone)
         self._statement_expressions(segment.body[0], segment.end)
         for first, end in dropped:
             self._blank(first, end)
@@ -291,17 +306,179 @@ class Filter:
                 self._count("sums")
         return swallowed
 
+    def _refused_differences(self, segment: Segment, gone: set[int]) -> set[int]:
+        """Differences of two pointers, `p - q`, become a number that is not known, and their comparisons by order, `p < q`, a
+        truth: those that the checker does not take, and in a function with something that it does not take all that surely
+        are such. Returns the tokens of which nothing is left."""
+        if not any(self.at(token) in self._refused for token in range(*segment.body) if self._refused):
+            return set()
+        arrays, swallowed = self._file_arrays, set[int]()
+        variables = self._file_pointers.surely_seen_by(segment) | self._differences.arrays(*segment.body) | arrays
+        variables |= self._differences.pointers_to_pointers(segment.parameters[0], segment.end)
+        members = self._file_pointers.members | arrays
+        sure = frozenset(it for it in members if not self._file_pointers.is_also_plain(it))
+        for it in self._differences.of(segment):
+            inside = {*range(it.first, it.end)}
+            # (a sum in an operand is refused first)
+            is_refused = any(self.at(token) in self._refused for token in inside)
+            is_meant = it.is_order and self.at(it.operator) in self._refused or self._differences.is_between(it, variables, members if is_refused else sure)
+            if is_meant and not gone & inside and self._put_for_difference(segment, it):
+                swallowed |= inside
+                self._count("differences")
+        return swallowed
+
+    def _put_for_difference(self, segment: Segment, it: Difference) -> bool:
+        """Puts a number, or a truth, that is not known in place of a difference or a comparison, if there is room."""
+        first, end, name = it.first, it.end, ORDER if it.is_order else DISTANCE
+        value, before = f"{name}()", self.tokens[first - 2]
+        if self.tokens[end - 1].end - self.tokens[first].start < len(value) and self.partner[first - 1] == end and not before.is_word:
+            # (round brackets round it change nothing)
+            first, end = first - 1, end + 1
+        start, stop = self.tokens[first].start, self.tokens[end - 1].end
+        room = self._text[start:stop].partition("\n")[0]
+        if len(room) < len(value) or not self._is_declared(segment, name):
+            return False
+        self._blank(first, end)
+        self.sheet.put(start, value)
+        self.with_differences.add(segment.function or "")
+        return True
+
+    def _refused_steps(self, segment: Segment, gone: set[int]) -> None:
+        """Steps of pointers whose value is used, of which the checker does not take one, and others like it: in `*p++ = c;` the
+        step goes, and behind the statement `p` becomes an object that is not known."""
+        found = [*self._steps.of(segment)] if self._refused else []
+        words, names = {self._steps.words(it) for it in found if self.at(it.operator) in self._refused}, self._sums.pointers(segment)
+        if not words:
+            return
+        of_statement, waiting = dict[Statement, list[Stepped]](), dict[int, list[Stepped]]()
+        for it in found:
+            one = self._steps.words(it)
+            inside = {*range(min(it.first, it.operator), max(it.end, it.operator + 1))}
+            if (one in words or len(one) == 1 and one[0] in names) and not (gone | self._other_at) & inside:
+                of_statement.setdefault(it.statement, []).append(it)
+        for statement, steps in of_statement.items():
+            if all(self._steps.is_last(segment, it) for it in steps):
+                for it in steps:
+                    self._blank(it.operator, it.operator + 1)
+                    self._count("steps")
+            elif not any(it.is_before for it in steps) and not statement.is_test and all(self._steps.may_move(segment, it) for it in steps):
+                waiting[statement.end - 1] = steps
+        while waiting:
+            first = min(waiting)
+            self._put_behind(segment, {end: waiting.pop(end) for end in [*waiting] if self._line(end) == self._line(first)}, gone)
+        for statement, steps in of_statement.items():
+            if statement.is_test or any(it.is_before for it in steps):
+                self._put_before(segment, statement, steps, gone)
+
+    def _put_behind(self, segment: Segment, of_line: dict[int, list[Stepped]], gone: set[int]) -> None:
+        """Takes the steps of statements that end in one line behind these, at the end of the line: with what else stands behind
+        the first of them, if no place of it is told."""
+        first = min(of_line)
+        line, rest = self._line(first), [at for at in range(first + 1, segment.end) if self._line(at) == self._line(first)]
+        braces = {steps[0].statement.first for steps in of_line.values() if steps[0].statement.is_inner}
+        opening = self.tokens[of_line[first][0].statement.first].start - 1
+        is_room = of_line[first][0].statement.first not in braces or self._text[opening] in " \t"
+        # (one that begins behind the first of them moves as a whole, or not at all)
+        is_movable = not {*rest} & (gone | self._other_at) and all(self._may_move(segment, at) for at in rest)
+        if line in self._tails or not is_room or not is_movable or not self._is_declared(segment, STEPPED):
+            return
+        if of_line[first][0].statement.first in braces:
+            self.sheet.put(opening, "{")
+        steps = {it.operator for waiting in of_line.values() for it in waiting}
+        for at in steps - {*rest}:
+            self._blank(at, at + 1)
+        self._blank(first + 1, first + 1 + len(rest))
+        moved = list[str]()
+        for at in [first, *rest]:
+            moved += ["{"] if at in braces and at != first else []
+            moved += [self.tokens[at].text] if at != first and at not in steps else []
+            pointers = [self._text[self.tokens[it.first].start : self.tokens[it.end - 1].end] for it in of_line.get(at, [])]
+            moved += [f"{it} = {STEPPED}({it});" for it in pointers]
+            moved += ["}"] if at in of_line and of_line[at][0].statement.is_inner else []
+        self._tails.setdefault(line, []).append(" ".join(moved))
+        self.with_sums.add(segment.function or "")
+        self._count("steps")
+
+    def _may_move(self, segment: Segment, at: int) -> bool:
+        """Returns whether no path tells the place of a token."""
+        token, behind = self.tokens[at], self.tokens[at + 1].text if at + 1 < segment.end else ""
+        is_word = token.is_word and token.text not in _TYPE_WORDS | {"sizeof"}
+        is_call = behind == "(" and (is_word or token.text in (")", "]") and not self._steps.is_cast(at))
+        return at < segment.end - 1 and not is_call and token.text not in ("?", "&&", "||") and not (is_word and token.text in KEYWORDS)
+
+    def _put_before(self, segment: Segment, it: Statement, steps: list[Stepped], gone: set[int]) -> None:
+        """`if (*p++ == c)` becomes `if (Nd() == c)`, with the step behind the line before it, and `*--p = c;` becomes `*p = c;` so.
+        In the test of a loop, or behind `else`, the step stands before the value, and all of it at the end of the line."""
+        is_read = all(step.is_before or self.tokens[step.first - 1].text == "*" for step in steps)
+        if not is_read or not all(self._steps.may_move(segment, step) for step in steps):
+            return
+        values, head = dict[int, str](), self._steps.head(it)
+        for step in steps:
+            values[step.operator] = ""
+            if not step.is_before:
+                values |= {at: "" for at in range(step.first - 1, step.end)} | {step.first - 1: f"{DISTANCE}()"}
+        pointers = [self._text[self.tokens[step.first].start : self.tokens[step.end - 1].end] for step in steps]
+        moves = [f"{pointer} = {STEPPED}({pointer})" for pointer in pointers]
+        is_before = head is not None and self._line(head - 1) < self._line(head)
+        rest = [at for at in range(it.end, segment.end) if self._line(at) == self._line(it.first)]
+        if not is_before and not self._may_move_test(it, rest, gone):
+            return
+        if not self._is_declared(segment, STEPPED) or any(values.values()) and not self._is_declared(segment, DISTANCE):
+            return
+        if head is not None and is_before:
+            self._tails.setdefault(self._line(head - 1), []).append("; ".join(moves) + ";")
+            for at in values:
+                self._blank(at, at + 1)
+            for at, value in values.items():
+                self.sheet.put(self.tokens[at].start, value)
+        else:
+            test = " ".join(values.get(at, self.tokens[at].text) for at in range(it.first, it.end))
+            self._blank(it.first, it.end + len(rest))
+            self._tails[self._line(it.first)] = [", ".join([*moves, test]) + "".join(self.tokens[at].text for at in rest)]
+        self.with_sums.add(segment.function or "")
+        self._count("steps")
+
+    def _may_move_test(self, it: Statement, rest: list[int], gone: set[int]) -> bool:
+        """Returns whether a test, with what stands behind it in its line, may move behind the end of the line: no path tells a
+        place of it."""
+        line, inside = self._line(it.first), {*range(it.first, it.end)}
+        is_one_line = self._line(it.end) == line and line not in self._tails and {self.tokens[at].text for at in rest} <= {")", ";", ",", "{"}
+        return it.is_test and is_one_line and self._steps.is_plain_test(it) and not (gone | self._other_at) & inside
+
+    @cached_property
+    def _file_pointers(self) -> FilePointers:
+        return FilePointers(self.unit)
+
+    @cached_property
+    def _file_arrays(self) -> frozenset[str]:
+        """The names that are declared as arrays outside of functions, as variables or members."""
+        return frozenset[str]().union(*(self._differences.arrays(it.first, it.end, True) for it in self.unit.segments if not it.is_function))
+
     def _put_element(self, it: Sum) -> bool:
-        """`*(p + n)` becomes `p[n]`, and `(p + n)->m` becomes `p[n].m`."""
+        """`*(p + n)` becomes `p[n]`, and `(p + n)->m` becomes `p[n].m`; `*(p - n)` becomes `p[-n]`."""
         kind = self._sums.element(it)
         if not kind:
             return False
         opening = it.first - 1
+        if not self._sums.is_in_place(it):
+            return self._put_far_element(it, kind)
         self._blank(opening - (kind == "*"), opening + 1)
         self._put(self.tokens[it.operator], "[")
         self._put(self.tokens[it.end], "]")
         if kind == "->":
             self._put(self.tokens[it.end + 1], ".")
+        return True
+
+    def _put_far_element(self, it: Sum, kind: str) -> bool:
+        """The same where pointer and number have to move: no path may tell a place in them."""
+        first, end = (it.first - 2, it.end + 1) if kind == "*" else (it.first - 1, it.end + 2)
+        start, stop = self.tokens[first].start, self.tokens[end - 1].end
+        inside = range(it.first, it.end)
+        if "\n" in self._text[start:stop] or self._other_at & {*inside} or {self.tokens[at].text for at in inside} & {"?", "&&", "||"}:
+            return False
+        pointer, number = ("".join(self._text[self.tokens[a].start : self.tokens[b - 1].end]) for a, b in ((it.first, it.operator), (it.operator, it.end)))
+        made = f"{pointer}[{number.removeprefix('+').strip()}]{'.' if kind == '->' else ''}"
+        self.sheet.put(start, made.ljust(stop - start))
         return True
 
     def _put_for_sum(self, segment: Segment, it: Sum) -> bool:
@@ -316,7 +493,7 @@ class Filter:
             return False
         is_within = len(value) <= end - start and "\n" not in self._text[start:end]
         rest = [] if is_within else self._rest_of_line(it)
-        if rest is None or not self._is_stepped_declared(segment):
+        if rest is None or not self._is_declared(segment, STEPPED):
             return False
         if is_within:
             self.sheet.put(start, value.ljust(end - start))
@@ -339,17 +516,18 @@ class Filter:
         rest = [token.text for token in self.tokens[it.end : behind]]
         return rest if {*rest} <= {")", ";", ",", "{"} else None
 
-    def _is_stepped_declared(self, segment: Segment) -> bool:
-        """Declares the function for sums before a function, where the text does not have the name."""
-        if STEPPED in self._taken:
+    def _is_declared(self, segment: Segment, name: str) -> bool:
+        """Declares a function for what is not known before a function, where the text does not have its name."""
+        head = _HEADS[name]
+        if name in self._taken:
             # (this text has been filtered already)
-            heads = [it for it in self.unit.segments if STEPPED in it.declares]
-            return bool(heads) and all(self._text[self.tokens[it.first].start : self.tokens[it.end - 1].end] == _STEPPED_HEAD for it in heads)
+            heads = [it for it in self.unit.segments if name in it.declares]
+            return bool(heads) and all(self._text[self.tokens[it.first].start : self.tokens[it.end - 1].end] == head for it in heads)
         if not self._has_room_before(segment):
             return False
         tails = self._tails.setdefault(self._line(segment.first - 1), [])
-        if _STEPPED_HEAD not in tails:
-            tails.append(_STEPPED_HEAD)
+        if head not in tails:
+            tails.append(head)
         return True
 
     def _counted_pointers(self, segment: Segment, but: set[int]) -> set[int]:
@@ -537,7 +715,8 @@ class Filter:
     def _is_scalar(self, first: int, end: int) -> bool:
         """Returns whether these tokens are a type whose alignment is its size in both models: at most four bytes, or a pointer."""
         texts = [it.text for it in self.tokens[first:end]]
-        return bool(texts) and (texts[-1] == "*" or all(it in _TYPE_WORDS and it not in ("long", "double", "void") for it in texts))
+        is_short = all(it in _TYPE_WORDS and it not in ("long", "double", "void") for it in texts)
+        return bool(texts) and (texts[-1] == "*" or is_short or len(texts) == 1 and texts[0] in _SHORT_TYPES)
 
     def _asm_label(self, first: int, end: int) -> None:
         """Blanks the name that the assembler is to use (`int f(void) __asm__("g");`), and asm at file scope."""
@@ -578,6 +757,25 @@ class Filter:
                 self._count("members")
                 continue
             before = text
+
+    def _transparent_union(self, segment: Segment) -> None:
+        """`typedef union { T *a; U *b; } N __attribute__((__transparent_union__));` becomes `typedef void * N;`: a parameter of such
+        a type takes any of these pointers as it is (GNU C)."""
+        opening = segment.first + 2
+        if [it.text for it in self.tokens[segment.first : opening + 1]] != ["typedef", "union", "{"]:
+            return
+        closing, members = self.partner[opening], [it.text for it in self.tokens[opening + 1 : self.partner[opening]]]
+        words = {it.text for it in self.tokens[closing + 1 : segment.end]}
+        if "(" in members or members.count("*") != members.count(";") or not words & {"transparent_union", "__transparent_union__"}:
+            return
+        start, room = self.tokens[segment.first + 1].start, self._text[self.tokens[segment.first + 1].start : self.tokens[closing].end].partition("\n")[0]
+        made = "const void *" if "const" in members else "void *"
+        if len(room) < len(made):
+            return
+        self._blank(segment.first + 1, closing + 1)
+        self.sheet.put(start, made)
+        self._blank(closing + 2, segment.end - 1)
+        self._count("unions")
 
     def _initialisers(self, segment: Segment) -> None:
         """Blanks initialisers at file scope: a run begins with any value there. One that gives an array its length stays."""
@@ -681,6 +879,40 @@ class Filter:
             else:
                 continue
             self._count("void returns")
+
+    def _lists(self, segment: Segment, gone: set[int]) -> None:
+        """`T x = { .a = 1 };` becomes `T x = { };` with `x.a = 1;` behind the end of the line, and `*p = (T) { .a = 1 };` a block
+        there, where no path tells a place of what moves."""
+        for at in Lists(self.tokens, self.partner).empty_texts(segment):
+            self._put(self.tokens[at], "{}")
+        for it in Lists(self.tokens, self.partner).of(segment):
+            line, rest = self._line(it.end - 1), [at for at in range(it.end, segment.end) if self._line(at) == self._line(it.end - 1)]
+            values = [at for _, begin, end in it.parts for at in range(begin, end)]
+            moved = {*rest, *values, *(() if it.is_declaration else range(*it.target))}
+            if line in self._tails or moved & (gone | self._other_at) or not all(self._may_move(segment, at) for at in moved):
+                continue
+            if not it.is_declaration and _LITERAL in self._taken:
+                continue
+            self._put_list(it, line, rest)
+            self._count("lists")
+
+    def _put_list(self, it: Listed, line: int, rest: list[int]) -> None:
+        target = " ".join(token.text for token in self.tokens[it.target[0] : it.target[1]])
+        name = target if it.is_declaration else _LITERAL
+        made = [f"{name}{path} = {self._moved_text(begin, end)};" for path, begin, end in it.parts]
+        if it.cast and not it.is_declaration:
+            made = [f"{{ {self._moved_text(it.cast[0] + 1, it.cast[1] - 1)} {name} = {{ }};", *made, f"{target} = {name}; }}"]
+            self._blank(it.first, it.end)
+        else:
+            if it.cast:
+                self._blank(*it.cast)
+            self._blank(it.opening + 1, self.partner[it.opening])
+        if made:
+            self._blank(it.end, it.end + len(rest))
+            self._tails.setdefault(line, []).append(" ".join([*made, *[self.tokens[at].text for at in rest]]))
+
+    def _moved_text(self, first: int, end: int) -> str:
+        return " ".join(token.text for token in self.tokens[first:end])
 
     def _is_left_early(self, opening: int, closing: int) -> bool:
         """Returns whether a break or continue between these braces belongs to the loop whose body they are."""

@@ -64,7 +64,7 @@ class Finding:
     @property
     def text(self) -> str:
         """Returns the message, and why it may be false."""
-        return self.message + (f" (this may be false: {' and '.join(self.marks)})" if self.marks else "")
+        return self.message + (f" (this may be false: {'; '.join(self.marks)})" if self.marks else "")
 
 
 # A condition with this is of what a variable leads to, or of what a call gives.
@@ -139,7 +139,10 @@ class Teller:
             return f"memory that {_quoted(how) if how else 'the call'} gives here is lost when '{function.name}' ends"
         given = self._given(function, report)
         if report.kind == "ambiguous":
-            return f"callers of '{function.name}' cannot know the state in which it leaves {about}: {self._two_states(function, report)}{given}"
+            rows = self._ambiguous_rows(function, report)
+            # (mostly it is not locked at entry, which goes without saying)
+            held = ", if it is locked at entry" if rows and rows[0].before == "L" and not self.machine else ""
+            return f"callers of '{function.name}' cannot know the state in which it leaves {about}: {self._two_states(function, report)}{held}{given}"
         return f"{about} {self._error(report.runs[0])}{given}"
 
     def _given(self, function: Function, report: Report) -> str:
@@ -151,7 +154,7 @@ class Teller:
             return ""
         bits, all_bits = rows[0].entry, self._bits(function, report)
         said = [
-            f"'{name}' is {'not 0' if bits[i] == '1' else '0'}"
+            f"'{name}' {function.is_or_not(name, bits[i])}"
             for i, name in enumerate(function.entry)
             if not (root and root[0] == name) and bits[:i] + ("0" if bits[i] == "1" else "1") + bits[i + 1 :] not in all_bits
         ]

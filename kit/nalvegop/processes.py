@@ -97,6 +97,12 @@ def _limit(number: int, seconds: int) -> int:
     return most
 
 
+def is_by_limit(used: float, most: float) -> bool:
+    """Returns whether a program that was killed had used up its time: on a busy machine the system counts up to some
+    percent less than it limits by."""
+    return used > 0.8 * most - 0.1
+
+
 def ran(words: Sequence[str], folder: str, seconds: float) -> subprocess.CompletedProcess[bytes]:
     """Runs a program in a folder. subprocess.TimeoutExpired where it has not ended after so many seconds of a processor,
     counted in whole ones, or `CLOCK` times as many by the clock."""
@@ -113,6 +119,6 @@ def ran(words: Sequence[str], folder: str, seconds: float) -> subprocess.Complet
                     os.killpg(it.pid, signal.SIGKILL)
                 it.wait()
                 raise
-    if it.returncode == -signal.SIGKILL and _used() - before > most - 0.1:
+    if it.returncode == -signal.SIGKILL and is_by_limit(_used() - before, most):
         raise subprocess.TimeoutExpired(words, seconds, out, err)
     return subprocess.CompletedProcess(words, it.returncode, out, err)

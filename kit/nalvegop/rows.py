@@ -48,7 +48,7 @@ def rows_text(function: Function, result: FileResult) -> Iterator[str]:
             continue
         has_before = any(it.before for it in item.rows)
         heads = [*function.entry[: len(item.rows[0].entry)], *["before"] * has_before, "gives", *["after"] * any(it.after for it in item.rows)]
-        table = [heads] + [_cells(row, has_before) for row in item.rows]
+        table = [heads] + [_cells(function, row, has_before) for row in item.rows]
         widths = [max(len(line[i]) for line in table) for i in range(len(heads))]
         for line in table:
             yield "    " + "  ".join(cell.ljust(width) for cell, width in zip(line, widths)).rstrip()
@@ -56,8 +56,8 @@ def rows_text(function: Function, result: FileResult) -> Iterator[str]:
         yield f"  it may write {', '.join(pretty(it) for it in function.writes)}"
 
 
-def _cells(row: Row, has_before: bool) -> list[str]:
-    bits = ["not 0" if bit == "1" else "0" for bit in row.entry]
+def _cells(function: Function, row: Row, has_before: bool) -> list[str]:
+    bits = [function.is_or_not(name, bit).removeprefix("is ") for name, bit in zip(function.entry, row.entry)]
     return [*bits, *[_word(row.before)] * has_before, _result(row), *[_word(row.after)] * (row.after is not None)]
 
 
@@ -84,7 +84,7 @@ def story(it: Finding, result: FileResult) -> Iterator[str]:
 
 
 def _in_words(function: Function, item: Item, row: Row) -> str:
-    given = [f"{name} {'is not 0' if bit == '1' else 'is 0'}" for name, bit in zip(function.entry, row.entry)]
+    given = [f"{name} {function.is_or_not(name, bit)}" for name, bit in zip(function.entry, row.entry)]
     if row.before is not None:
         given.append(f"{pretty(item.name)} is {_word(row.before)}")
     when = f"where {' and '.join(given)}, " if given else ""

@@ -17,6 +17,7 @@ from .tokens import Token
 
 # What may stand round a pointer to anything: nothing that looks behind it, and no `?:`, which would give it no type.
 _TYPE_WORDS = {*"void char short int long signed unsigned _Bool float double const volatile struct union enum static register".split()}
+_QUALIFIERS = {*"const volatile restrict __const __restrict __restrict__ __volatile__".split()}
 _OPERATORS = {*"+ - += -= ++ --".split()}
 _BEFORE, _BEHIND = {*"= return , ( == !=".split()}, {*"; , ) == !=".split()}
 
@@ -53,12 +54,22 @@ class Sums:
 
     def _sum(self, at: int, brace: int) -> Sum | None:
         first, end = self._left(at, brace), self._end(at)
+        closing = self.partner[first - 1] if self.tokens[first - 1].text == "(" else -1
+        before = self.tokens[first - 3]
+        is_product = before.kind == "number" or before.text == "]" or before.is_word and before.text not in KEYWORDS
+        if closing > at and (self.tokens[first - 2].text == "*" and not is_product or self.tokens[closing + 1].text == "->"):
+            # (what is followed is a pointer, so no other one is taken from it)
+            end = closing
         is_sum = first < at < end - 1 and not self.values.changes(first, at) and not self.values.changes(at, end, (self.values.harmless,))
         return Sum(first, at, end) if is_sum else None
 
     def _step(self, at: int, brace: int) -> Sum | None:
         """Returns `p += n`, `p++` or `++p` where it is all of an expression whose value nobody uses."""
         first, end = self._left(at, brace), at + 1
+        if first == at and self._is_target(self.partner[at - 1], at):
+            first = self.partner[at - 1]
+        elif first == at - 1 and self.tokens[at].text in ("+=", "-=") and self.tokens[first - 1].text == "*":
+            first -= 1
         variable = first, at
         if self.tokens[at].text in ("+=", "-="):
             end = self._behind_expression(at + 1)
@@ -69,9 +80,15 @@ class Sums:
         is_alone = is_loop and self.tokens[first - 1].text in (";", ",") or self.tokens[end].text == ";" and self._begins_statement(first, brace)
         if not is_alone or variable[0] >= variable[1] or self.values.changes(*variable):
             return None
-        if variable[0] > at and self._left(end, brace) != variable[0] or self.values.changes(max(at, variable[1]) + 1, end, (self.values.harmless,)):
+        is_plain = self._left(end, brace) == variable[0] + (self.tokens[variable[0]].text == "*")
+        if variable[0] > at and not is_plain or self.values.changes(max(at, variable[1]) + 1, end, (self.values.harmless,)):
             return None
         return Sum(first, at, end, variable)
+
+    def _is_target(self, opening: int, end: int) -> bool:
+        """Returns whether the brackets that end there are those of `(*p)`."""
+        is_one = opening >= 0 and end == opening + 4 and self.tokens[end - 1].text == ")" and self.tokens[opening + 1].text == "*"
+        return is_one and self.tokens[opening + 2].is_word and not self.tokens[opening - 1].is_word
 
     def _begins_statement(self, at: int, brace: int) -> bool:
         """Returns whether a statement begins there: behind another one, or behind the head of a loop or of a condition."""
@@ -92,12 +109,20 @@ class Sums:
 
     def pointers(self, segment: Segment) -> set[str]:
         """Returns the names that a function declares as pointers: parameters and variables."""
-        stars = [at for at in range(segment.parameters[0], segment.end - 2) if self.tokens[at].text == "*" and self.tokens[at + 1].is_word]
-        return {self.tokens[at + 1].text for at in stars if self._is_declarator(segment, at)} - KEYWORDS
+        stars = [at for at in range(segment.parameters[0], segment.end - 2) if self.tokens[at].text == "*"]
+        named = [(star, self._behind_qualifiers(star)) for star in stars]
+        return {self.tokens[name].text for star, name in named if self.tokens[name].is_word and self._is_declarator(segment, star, name)} - KEYWORDS
 
-    def _is_declarator(self, segment: Segment, star: int) -> bool:
-        """Returns whether a `*` stands in a declaration, as far as words tell, and is no product."""
-        behind = self.tokens[star + 2].text
+    def _behind_qualifiers(self, at: int) -> int:
+        """Returns the first token behind one that is no qualifier."""
+        at += 1
+        while self.tokens[at].text in _QUALIFIERS:
+            at += 1
+        return at
+
+    def _is_declarator(self, segment: Segment, star: int, name: int) -> bool:
+        """Returns whether a `*` before a name stands in a declaration, as far as words tell, and is no product."""
+        behind = self.tokens[name + 1].text
         if star < segment.parameters[1]:
             return behind in (",", ")")
         at = star
@@ -125,14 +150,17 @@ class Sums:
         opening, closing = it.first - 1, it.end
         if it.variable:
             return None
-        is_bracketed = self.tokens[opening].text == "(" and self.partner[opening] == closing
-        if not is_bracketed or self.tokens[it.operator].text != "+" or self.values.term_end(it.operator + 1) != closing:
+        if self.tokens[opening].text != "(" or self.partner[opening] != closing:
             return None
         before, behind = self.tokens[opening - 1], self.tokens[closing + 1].text
         if before.text == "*" and behind not in (".", "->", "[", "(", "++", "--"):
             return "*"
         is_operand = before.is_word and before.text not in KEYWORDS or before.text in (")", "]")
         return "->" if behind == "->" and not is_operand else None
+
+    def is_in_place(self, it: Sum) -> bool:
+        """Returns whether one number is added to the pointer, so that an index may stand in its place."""
+        return self.tokens[it.operator].text == "+" and self.values.term_end(it.operator + 1) == it.end
 
     def _is_cast(self, closing: int) -> bool:
         """Returns whether a cast to a pointer ends there."""

@@ -88,9 +88,15 @@ class Function:
     at: At
     skip: Skip | None = None
     entry: list[str] = field(default_factory=list)
+    # (those of them that are pointers)
+    pointers: frozenset[str] = frozenset()
     items: list[Item] = field(default_factory=list)
     writes: list[str] = field(default_factory=list)
     reports: list[Report] = field(default_factory=list)
+
+    def is_or_not(self, name: str, bit: str) -> str:
+        """Returns what an entry bit says of a parameter: that it is 0, or null, or not."""
+        return f"is {'not ' if bit == '1' else ''}{'null' if name in self.pointers else '0'}"
 
 
 @dataclass
@@ -147,6 +153,7 @@ def _function(it: dict[str, Any]) -> Function:
         made.skip = _skip(it["skipped"])
         return made
     made.entry = [parameter["name"] for parameter in it["entry"]]
+    made.pointers = frozenset(parameter["name"] for parameter in it["entry"] if parameter["type"] == "pointer")
     kinds = {"end": "end", "state": "state", "object": "param", "pointer": "out"}
     for item in it["items"]:
         name = item["path"]["text"] if "path" in item else item.get("name", "")

@@ -5,6 +5,7 @@ from __future__ import annotations
 import importlib
 import json
 import os
+import re
 import subprocess
 import sys
 import tempfile
@@ -12,6 +13,9 @@ import unittest
 from collections.abc import Iterator
 from contextlib import contextmanager
 from functools import lru_cache
+
+from nalvegop.filter import Filter
+from nalvegop.verdicts import At
 
 KIT = os.path.dirname(os.path.dirname(os.path.abspath(__file__)))
 TOP = os.path.dirname(KIT)
@@ -43,6 +47,15 @@ def folder(**files: str) -> Iterator[str]:
             with open(os.path.join(room, name.replace("__", ".")), "w", encoding="utf-8") as it:
                 it.write(text)
         yield room
+
+
+def refused_at(text: str) -> Filter:
+    """Returns the filter of a text in which the checker does not take something where an `@` stands; without these."""
+    lines = text.split("\n")
+    places = [At(number, it.start() + 1 - i) for number, line in enumerate(lines, 1) for i, it in enumerate(re.finditer("@", line))]
+    made = Filter(text.replace("@", ""), lambda line: True)
+    assert made.refuse(places)
+    return made
 
 
 # What a check of nothing says.

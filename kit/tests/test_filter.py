@@ -26,7 +26,7 @@ def squeezed(text: str) -> str:
 
 
 # What the filter writes in place of something else.
-_WRITTEN = {",", ")", "(", ";", "0", "sizeof", '""', "abort", "nv_at", "nv_to", "nv_", "nalvegop_ulong"}
+_WRITTEN = {",", ")", "(", ";", "0", "sizeof", '""', "abort", "void", "*", "const", "nv_at", "nv_to", "nv_", "nalvegop_ulong"}
 
 
 def moved(made: str, before: str) -> list[str]:
@@ -106,6 +106,17 @@ class Steps(unittest.TestCase):
         self.becomes("int f(int a) { return ({ g(a); a; }); }", "int f(int a) { return ( g(a), a ); }")
         for text in ("int f(int a) { return ({ int b = a; b; }); }", "int f(int a) { return (int)({ int b = a; b; }); }"):
             self.becomes(text, text)
+
+    def test_transparent_unions(self) -> None:
+        text = "struct a; struct b; typedef union { struct a *x; struct b *y; } arg __attribute__ ((__transparent_union__)); int g(arg p); int f(struct a *x) { return g(x); }"
+        self.becomes(text, "struct a; struct b; typedef void * arg ; int g(arg p); int f(struct a *x) { return g(x); }")
+        const = "struct a; typedef union { const struct a *x; } arg __attribute__ ((transparent_union)); int f(arg x) { return 1; }"
+        self.becomes(const, "struct a; typedef const void * arg ; int f(arg x) { return 1; }")
+        for same in (
+            "typedef union { char *x; } arg; int f(arg x) { return 1; }",
+            "typedef union { int x; } arg __attribute__ ((__transparent_union__)); int f(arg x) { return 1; }",
+        ):
+            self.becomes(same, same)
 
     def test_asm(self) -> None:
         self.becomes('int f(void) __asm__("g"); int h(void) { return f(); }', "int f(void) ; int h(void) { return f(); }")

@@ -10,7 +10,7 @@ import unittest
 from typing import Any
 from unittest import mock
 
-from nalvegop.processes import Allowance, Ending, ran
+from nalvegop.processes import Allowance, Ending, is_by_limit, ran
 
 _SIGNALS = (signal.SIGINT, signal.SIGTERM)
 
@@ -83,6 +83,11 @@ class Programs(unittest.TestCase):
 
     def test_a_program_that_is_killed_has_had_time(self) -> None:
         self.assertEqual(ran(["sh", "-c", "kill -KILL $$"], ".", 1).returncode, -signal.SIGKILL)
+
+    def test_what_killed_a_program(self) -> None:
+        # (2.91 of 3 seconds were counted on a busy machine)
+        for used, most, is_limit in ((2.91, 3, True), (38.5, 40, True), (1.0, 1, True), (0.2, 3, False), (20, 40, False)):
+            self.assertIs(is_by_limit(used, most), is_limit)
 
     def test_what_is_left_counts_a_processor(self) -> None:
         given = Allowance(100)

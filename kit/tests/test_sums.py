@@ -2,16 +2,16 @@
 
 from __future__ import annotations
 
-import re
 import unittest
 
 from nalvegop.filter import Filter
 from nalvegop.verdicts import At
+from tests.support import refused_at
 
 _HEAD = """\
 unsigned long nv_to(const void *); void *nv_(void); unsigned long nalvegop_ulong(void); int g(const void *, ...);
 struct s { char *m; struct s *next[4]; int n; };
-void h(struct s *s, char *p, const char *q, int n)
+void h(struct s *s, char *p, const char *q, int n, char **r)
 {
 """
 _DECLARED = "void *Nv(const void *);"
@@ -19,11 +19,7 @@ _DECLARED = "void *Nv(const void *);"
 
 def of(body: str, more: str = "") -> Filter:
     """Returns the filter of a function with this body, in which a sum is refused where an `@` stands."""
-    lines = (_HEAD + body).split("\n")
-    places = [At(number, it.start() + 1 - i) for number, line in enumerate(lines, 1) for i, it in enumerate(re.finditer("@", line))]
-    made = Filter(f"{_HEAD}{body}\n}}\n{more}".replace("@", ""), lambda line: True)
-    assert made.refuse(places)
-    return made
+    return refused_at(f"{_HEAD}{body}\n}}\n{more}")
 
 
 class Sums(unittest.TestCase):
@@ -42,6 +38,11 @@ class Sums(unittest.TestCase):
             "n = (s @+ 1)->n;": "n = s [ 1]. n;",
             "n = -(s @+ n)->next[1]->n;": "n = - s [ n]. next[1]->n;",
             "*(s->m @+ n) = 1;": "s->m [ n] = 1;",
+            "n = *(p @- n);": "n = p[- n] ;",
+            "n = *(p@-n);": "n = p[-n] ;",
+            "n = *(p @- s->n - 1);": "n = p[- s->n - 1] ;",
+            "n = *(p @+ n - 1) + 2;": "n = p[n - 1] + 2;",
+            "n = (s @- 1)->n;": "n = s[- 1]. n;",
         }.items():
             self.check(before, after, False)
             self.assertEqual(len(of(before).run().text.split("\n")[4]), len(before) - 1)
@@ -69,6 +70,10 @@ class Sums(unittest.TestCase):
             "s->m @-= 3;": "s->m = Nv(s->m);",
             "p@++;": "p = Nv(p);",
             "@--p;": "p = Nv(p);",
+            "@++*r;": "*r = Nv(*r);",
+            "(*r)@++;": "(*r) = Nv((*r));",
+            "*r @+= n;": "*r = Nv(*r);",
+            "for (; n; n--, (*r)@++)\n  g(p);": "for (; n; n--, (*r) = Nv((*r)))\n g(p);",
             "if (n)\n  p@++;\nelse\n  p@--;": "if (n)\n p = Nv(p);\nelse\n p = Nv(p);",
             "for (n = 0; n < 3; n++, p@++) {\n}": "for (n = 0; n < 3; n++, p = Nv(p)){\n}",
             "for (; n < 3; p @+= 2)\n  g(p);": "for (; n < 3; p = Nv(p))\n g(p);",
@@ -90,15 +95,12 @@ class Sums(unittest.TestCase):
             "n = (int)(s @+ n)->n;",
             "if (p @+ n == q) n = 1;",
             "n = ((p @+ n))[1];",
-            "n = p @- q;",
-            "n = p @- s->m;",
+            "n = p @-  g(q);",
             "p = n ? p @+ n : p;",
+            "n = n * (p @- s->next[1]->n);",
             "g(p @+ g(0));",
             "g(p @+ n++);",
-            "g(*p@++);",
             "g(p@+n); g(n);",
-            "p@++; n++;",
-            "n = (p@++, 1);",
             "if (p@++)\n  n = 1;",
             "g(f(s) @+ n);",
             "g(*(s->next[n++] @+ n));",

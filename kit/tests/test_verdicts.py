@@ -101,6 +101,7 @@ _READ = Verdicts(
             "enter",
             At(6, 13),
             entry=["lock"],
+            pointers=frozenset(["lock"]),
             items=[Item("end", "", [Row("1", None, "-", None)]), Item("state", "*lock", [Row("1", "U", "-", "L"), Row("1", "L", "-", "!")])],
         ),
         Function("odd", At(9, 6), Skip("unsupported", "float", At(9, 20))),
