@@ -168,8 +168,11 @@ def is_in(name: str, said: str) -> bool:
 
 def is_of(function: Function, path: str, at: str, line: int) -> bool:
     """Whether a place is in a function's code or in its proof."""
-    folder = f"+{function.cycle}" if function.cycle else function.name.replace("::", "/")
-    in_proof = at.startswith(f"proofs/{folder}/") or "/" in folder and at.startswith("proofs/") and f"/{folder}/" in at
+    own = function.name.replace("::", "/")
+    module, slash, last = own.rpartition("/")
+    # (a function that calls itself has a folder as a cycle has)
+    folders = [f"+{function.cycle}"] if function.cycle else [own, f"{module}{slash}+{last}"]
+    in_proof = at.startswith("proofs/") and any(at.startswith(f"proofs/{it}/") or f"/{it}/" in at and ("/" in it or "+" in it) for it in folders)
     return in_proof or at == path and function.first <= line <= function.last
 
 

@@ -20,7 +20,7 @@ pub record HaveGates (s : Source) (p : Layout) : Type 0 where
 pub data LackGates (s : Source) (p : Layout) : Type 0 where
   -- too many locations for numbers of 32 bits
   Many : 2 ^ 32 ≤ length p.locations → LackGates s p
-  -- it does not fit its layout, gives an object, or reads a value of type `void`
+  -- it does not fit its layout, gives an object, or reads a value of type `void` that is neither dropped nor what a call or a cast gives at its end
   Cannot : can_encode s p ≡ false → LackGates s p
   -- a node of its graph has no gates
   Lacks : (graph : Flow) → seen_as s.structs graph ≡ graph_of s → all_have s p graph.nodes ≡ false → LackGates s p

@@ -126,8 +126,8 @@ fn of_few<'p, 'm, 'f>(
 const TOO_MANY: usize = 0x1_0000_0000;
 
 /// The gates of all runs of the function at hand, which has this layout. `None` exactly where something of it has no gates: it does not fit
-/// its layout, a value of type `void` is read and not dropped, what it gives is an object, a node of its graph is none of those that have
-/// gates, or it has 2^32 locations or more.
+/// its layout, a value of type `void` is read that is neither dropped nor what a call or a cast gives at its end, what it gives is an object,
+/// a node of its graph is none of those that have gates, or it has 2^32 locations or more.
 #[tactic(auto, unfolding(run_world::specs::Seen::env))]
 pub fn in_gates<'p, 'm, 'f>(
     alloc: Global,
