@@ -29,7 +29,7 @@ fn put_under(text: &mut JsonText, name: &str, word: &str) -> Result<(), OutOfMem
     text.end_object()
 }
 
-// Puts a member that is a location by its text.
+/// Puts a member that is a location by its text.
 pub(crate) fn put_location_member(
     text: &mut JsonText,
     speech: &Speech,

@@ -1,5 +1,5 @@
 -- What the choices of a function say: by its layout, with its kept callees and the verdict of each.
-use Rattle.std.specs.Prelude.{ℕ, Bool, Option, Some, None, List, [], map, slice_index_or, codes, Result, Ok, Err}
+use Rattle.std.specs.Prelude.{ℕ, Bool, Option, Some, None, List, map, slice_index_or, codes, Result, Ok, Err}
 use Rattle.std.specs.Arc.{arc_value}
 use Rattle.choice_json.specs.Says.{says_value}
 use Rattle.json.specs.Json.{Members}
