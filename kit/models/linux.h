@@ -586,6 +586,15 @@ static inline void nalvegop_take_and_give(spinlock_t *lock)
 #define atomic_dec_and_test(v) (--(v)->counter == 0)
 #define atomic_inc_and_test(v) (++(v)->counter == 0)
 #define atomic_sub_and_test(i, v) (((v)->counter -= (i)) == 0)
+/* Whether it succeeds is not known, and what is stored is not followed. */
+#undef try_cmpxchg
+#undef try_cmpxchg_acquire
+#undef try_cmpxchg_release
+#undef try_cmpxchg_relaxed
+#define try_cmpxchg(p, o, n) ((void)(p), (void)(o), (void)(n), nalvegop_more())
+#define try_cmpxchg_acquire(p, o, n) ((void)(p), (void)(o), (void)(n), nalvegop_more())
+#define try_cmpxchg_release(p, o, n) ((void)(p), (void)(o), (void)(n), nalvegop_more())
+#define try_cmpxchg_relaxed(p, o, n) ((void)(p), (void)(o), (void)(n), nalvegop_more())
 
 /* Numbers: right from LONG_MIN to LONG_MAX. */
 #undef min

@@ -57,11 +57,18 @@ class Casts:
             return False
         return before.text in _BEFORE and behind in _BEHIND
 
+    def _is_cast(self, opening: int) -> bool:
+        """Returns whether round brackets hold the type of a pointer or of a number, by its words."""
+        words = [it.text for it in self.tokens[opening + 1 : self.partner[opening]]] if self.partner[opening] > opening else []
+        return bool(words) and (words[-1] == "*" or {*words} <= _NUMBERS)
+
     def _operand_end(self, at: int) -> int | None:
         """Returns the end of the operand of a cast: of `p->q[2]`, `&p->q`, `(a + b)`; None of what is no operand."""
         while self.tokens[at].text in _PREFIXES:
             at += 1
         token = self.tokens[at]
+        if token.text == "(" and self._is_cast(at):
+            return self._operand_end(self.partner[at] + 1)
         if token.text == "(" and self.partner[at] > at:
             at = self.partner[at] + 1
         elif token.is_word and token.text not in KEYWORDS or token.kind == "number":

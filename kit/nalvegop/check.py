@@ -9,7 +9,7 @@ from functools import cached_property
 
 from .checker import Checker, NotChecked, OutOfMemory, OutOfTime
 from .compilations import Compilation
-from .filter import MODEL_HEAD, PUT, Filter, Filtered
+from .filter import ADDRESS, DISTANCE, MODEL_HEAD, NUMBER, ORDER, PART, POINTER, PUT, STEPPED, Filter, Filtered
 from .findings import OBJECT, Finding, Step, Teller, one_of_each_array
 from .leaks import Leaks
 from .lines import LineMap, Place, SourceFiles
@@ -29,7 +29,7 @@ _ON_LOCKS = {
     *"spin_lock spin_unlock spin_trylock mutex_lock mutex_unlock mutex_trylock".split(),
     *"pthread_mutex_lock pthread_mutex_unlock pthread_mutex_trylock".split(),
 }
-# Functions of the models that give an object without saying which: where one is called a finding may be false.
+# Functions of the models that give an object without saying which: where one is called on a path a finding may be false.
 _CONTAINER = "container_of gives another object each time"
 _COUNTED = "arithmetic on a pointer gives another object each time"
 _SUM = "what a pointer and a number add up to is not known"
@@ -258,7 +258,7 @@ class FileCheck:
             self.result.missing += missing
             told = [self._finding(teller, function, report, lost, doubts, missing) for report, doubts in leaks.told(function, {*lost})]
             for finding in one_of_each_array(told):
-                finding.marks += self._unsure(finding, names)
+                finding.marks += self._unsure(finding)
                 if comments.hides(finding, place.line):
                     self.result.hidden += 1
                     continue
@@ -284,21 +284,19 @@ class FileCheck:
             if it.function and it.function not in known:
                 self.result.passed_over[it.function] = Reason("grammar", self._place(self.filter.at(it.name_at)))
 
-    def _unsure(self, finding: Finding, names: frozenset[str]) -> list[str]:
-        """Returns what a function with these names has of which only a part is known, and by which the finding may be false."""
-        found = {why for name, why in _UNSURE.items() if name in names}
-        if finding.kind == "inner" and finding.function in self.filter.with_parts and not found:
-            found.add(_COUNTED)
-        if finding.kind == "inner" and finding.function in self.filter.with_pointers:
-            found.add(_POINTER)
-        if finding.function in self.filter.with_sums:
-            found.add(_SUM)
-        if finding.function in self.filter.with_differences:
-            found.add(_DIFFERENCE)
-        if finding.function in self.filter.with_offsets:
-            found.add(_OFFSET)
-        if finding.function in self.filter.with_addresses:
-            found.add(_ADDRESS)
+    def _unsure(self, finding: Finding) -> list[str]:
+        """Returns what its paths have of which only a part is known, and by which the finding may be false."""
+        found, left = {why for name, why in _UNSURE.items() if name in finding.calls}, self.filter
+        for functions, put, why in (
+            (left.with_sums, {STEPPED}, _SUM),
+            (left.with_differences, {DISTANCE, ORDER}, _DIFFERENCE),
+            (left.with_offsets, {NUMBER}, _OFFSET),
+            (left.with_addresses, {ADDRESS}, _ADDRESS),
+            (left.with_pointers if finding.kind == "inner" else (), {POINTER}, _POINTER),
+            (left.with_parts if finding.kind == "inner" and not found else (), {PART}, _COUNTED),
+        ):
+            if finding.function in functions and put & finding.calls:
+                found.add(why)
         return sorted(found)
 
     def _is_model(self, name: str) -> bool:
@@ -313,8 +311,7 @@ class FileCheck:
         made = teller.finding(function, report, self._values(function, report), {it.callee: it.note for it in missing})
         if doubts:
             made.marks.append(f"{' or '.join(map(repr, doubts))} may have freed it or given it away")
-        calls = {it.word for run in report.runs for it in run.events if it.kind == "call"}
-        on_path = sorted(name for name in calls & lost.keys() if lost[name] & (self.operations or _ON_LOCKS))
+        on_path = sorted(name for name in made.calls & lost.keys() if lost[name] & (self.operations or _ON_LOCKS))
         if on_path and report.kind != "leak":
             made.marks.append(f"what {' and '.join(map(repr, on_path))} {'does' if len(on_path) == 1 else 'do'} is not followed")
         return made

@@ -41,6 +41,8 @@ BUILT_IN = {
 }
 # What behind a bracket makes an operand of it: a part of a value, or a call.
 _MORE = {*". -> [ ( ++ --".split()}
+# Calls of gcc's functions that give an address and do nothing.
+_HARMLESS = ("__builtin_return_address", "__builtin_frame_address")
 # A call of it stands for pthread_cleanup_push: models/libc/pthread.h makes it of that macro.
 CLEANUP_CALL = "nalvegop_cleanup_push"
 # The function of the models that stands for what a pointer leads to that is counted from another one; and how the names
@@ -269,7 +271,7 @@ class Filter:
         """Puts something in place of a cast, if there is room."""
         start, operand = self.tokens[it.first].start, self.tokens[it.operand].start
         end = self.tokens[it.end - 1].end
-        if self._values.changes(it.operand, it.end) or "\n" in self._text[start:end]:
+        if self._values.changes(it.operand, it.end, _HARMLESS) or "\n" in self._text[start:end]:
             return False
         value, at = f"{POINTER}()", start
         if not it.is_pointer:

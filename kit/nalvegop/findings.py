@@ -60,6 +60,8 @@ class Finding:
     marks: list[str] = field(default_factory=list)
     # The location's text as the checker has it.
     about: str = ""
+    # What its paths call.
+    calls: frozenset[str] = frozenset()
 
     @property
     def text(self) -> str:
@@ -107,6 +109,7 @@ class Teller:
         place = self._main_place(function, report)
         made = Finding(report.kind, function.name, place, self._message(function, report), paths)
         made.known_by, made.about = self._known_by(function, report), report.about
+        made.calls = frozenset(it.word for run in report.runs for it in run.events if it.kind == "call")
         if _ELEMENT.search(report.about):
             made.marks.append("which element of an array an index means is not told apart")
         made.marks += [f"it depends on the value of '{name}', which callers know" for name in self._deciding(function, report)]

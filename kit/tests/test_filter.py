@@ -249,6 +249,8 @@ class Steps(unittest.TestCase):
             "void *t = (void *)n;": "void *t = nv_() ;",
             "struct s *t = 0; t = n ? (struct s *)((n + 1)) : 0;": "struct s *t = 0; t = n ? (struct s *)nv_() : 0;",
             "unsigned long k = (unsigned long)&s->m & 3;": "unsigned long k = nv_to(&s->m) & 3;",
+            "g((void *)(unsigned long)n, 1);": "g((void *)nv_() , 1);",
+            "g((void *)(long)__builtin_return_address(0), 1);": "g((void *)nv_() , 1);",
             "return (long)s->p[2].q;": "return (long)s->p[2].q;",
             "return (unsigned)s->p[2].q;": "return nv_to(s->p[2].q) ;",
         }.items():
