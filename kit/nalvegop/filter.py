@@ -228,8 +228,7 @@ class Filter:
         self._once_loops(segment.body[0], segment.end)
         self._void_returns(segment)
         self._lists(segment, gone)
-        self._block_values(segment, gone)
-        self._statement_expressions(segment.body[0], segment.end)
+        self._statement_expressions(segment.body[0], segment.end, self._block_values(segment, gone))
         for first, end in dropped:
             self._blank(first, end)
             self._put(self.tokens[first], "0")
@@ -918,10 +917,11 @@ class Filter:
     def _moved_text(self, first: int, end: int) -> str:
         return " ".join(token.text for token in self.tokens[first:end])
 
-    def _block_values(self, segment: Segment, gone: set[int]) -> None:
+    def _block_values(self, segment: Segment, gone: set[int]) -> set[int]:
         """`x = ({ S; e; });` becomes `{ S; x = e; }`, and `T x = ({ S; e; });` the same behind `T x;`. What is assigned stands behind
-        the end of the line, where no path tells a place of what moves. `typeof(a)` becomes the type of the variable, if it fits."""
-        values = BlockValues(self.tokens, self.partner)
+        the end of the line, where no path tells a place of what moves. `typeof(a)` becomes the type of the variable, if it fits.
+        Returns the braces of the blocks."""
+        values, taken = BlockValues(self.tokens, self.partner), set[int]()
         for first, end, words in values.types(segment):
             room = self.tokens[end - 1].end - self.tokens[first].start
             if words and len(words) <= room and self._line(first) == self._line(end - 1):
@@ -941,7 +941,9 @@ class Filter:
                 self._blank(it.first, it.brace)
             self._blank(it.value[0], it.end + len(rest))
             self._tails.setdefault(line, []).append(" ".join([made, *[self.tokens[at].text for at in rest]]))
+            taken.add(it.brace)
             self._count("block values")
+        return taken
 
     def _is_left_early(self, opening: int, closing: int) -> bool:
         """Returns whether a break or continue between these braces belongs to the loop whose body they are."""
@@ -963,10 +965,11 @@ class Filter:
             before = self.partner[before] - 1
         return self.tokens[before].text
 
-    def _statement_expressions(self, first: int, end: int) -> None:
-        """`({ S });` as a whole statement becomes `{ S }`; `({ E1; E2; })` of expressions alone becomes `( E1, E2 )`."""
+    def _statement_expressions(self, first: int, end: int, but: set[int]) -> None:
+        """`({ S });` as a whole statement becomes `{ S }`; `({ E1; E2; })` of expressions alone becomes `( E1, E2 )`. Blocks in
+        some braces are taken already."""
         for at in range(first, end - 2):
-            if self.tokens[at].text != "(" or self.tokens[at + 1].text != "{" or self.partner[at] != self.partner[at + 1] + 1:
+            if self.tokens[at].text != "(" or self.tokens[at + 1].text != "{" or self.partner[at] != self.partner[at + 1] + 1 or at + 1 in but:
                 continue
             closing = self.partner[at + 1]
             behind = closing + 2

@@ -26,6 +26,8 @@ class BlockValues(unittest.TestCase):
             "int c = ({ int b = g(1); b; });": "int c ; { int b = g(1); c = b; }",
             "s->a = ({ int b; do { b = g(1); } while (b == n); b; }); n++;": "{ int b; do { b = g(1); } while (b == n); s -> a = b; } n ++ ;",
             "if (n)\n k = ({ int b = 1; b > 2 ? b : 2; });\nelse\n k = 0;": "if (n)\n { int b = 1; k = b > 2 ? b : 2; }\nelse\n k = 0;",
+            "n = ({ g(1); k; });": "{ g(1); n = k; }",
+            "n = ({ int b = ({ g(1); k; }); b; });": "{ int b = ( g(1), k ); n = b; }",
             "n = ({\n  int b = 1;\n  b;\n});": "{\n int b = 1;\n\nn = b; }",
         }.items():
             self.check(before, after)
