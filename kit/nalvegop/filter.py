@@ -14,6 +14,7 @@ from dataclasses import dataclass, field
 from functools import cached_property
 
 from .block_types import BlockType, BlockTypes
+from .block_values import BlockValues
 from .casts import Cast, Casts
 from .counted import OFFSET, CountedPointers
 from .differences import Difference, Differences
@@ -227,7 +228,7 @@ class Filter:
         self._once_loops(segment.body[0], segment.end)
         self._void_returns(segment)
         self._lists(segment, gone)
-        self._statement_expressions(segment.body[0], segment.end)
+        self._statement_expressions(segment.body[0], segment.end, self._block_values(segment, gone))
         for first, end in dropped:
             self._blank(first, end)
             self._put(self.tokens[first], "0")
@@ -406,7 +407,7 @@ class Filter:
         token, behind = self.tokens[at], self.tokens[at + 1].text if at + 1 < segment.end else ""
         is_word = token.is_word and token.text not in _TYPE_WORDS | {"sizeof"}
         is_call = behind == "(" and (is_word or token.text in (")", "]") and not self._steps.is_cast(at))
-        return at < segment.end - 1 and not is_call and token.text not in ("?", "&&", "||") and not (is_word and token.text in KEYWORDS)
+        return at < segment.end - 1 and not is_call and not (is_word and token.text in KEYWORDS)
 
     def _put_before(self, segment: Segment, it: Statement, steps: list[Stepped], gone: set[int]) -> None:
         """`if (*p++ == c)` becomes `if (Nd() == c)`, with the step behind the line before it, and `*--p = c;` becomes `*p = c;` so.
@@ -916,6 +917,34 @@ class Filter:
     def _moved_text(self, first: int, end: int) -> str:
         return " ".join(token.text for token in self.tokens[first:end])
 
+    def _block_values(self, segment: Segment, gone: set[int]) -> set[int]:
+        """`x = ({ S; e; });` becomes `{ S; x = e; }`, and `T x = ({ S; e; });` the same behind `T x;`. What is assigned stands behind
+        the end of the line, where no path tells a place of what moves. `typeof(a)` becomes the type of the variable, if it fits.
+        Returns the braces of the blocks."""
+        values, taken = BlockValues(self.tokens, self.partner), set[int]()
+        for first, end, words in values.types(segment):
+            room = self.tokens[end - 1].end - self.tokens[first].start
+            if words and len(words) <= room and self._line(first) == self._line(end - 1):
+                self.sheet.put(self.tokens[first].start, words.ljust(room))
+                self._count("typeof")
+        for it in values.of(segment):
+            line, rest = self._line(it.end - 1), [at for at in range(it.end, segment.end) if self._line(at) == self._line(it.end - 1)]
+            name = range(it.equals - 1, it.equals) if it.is_declaration else range(it.first, it.equals)
+            moved = {*rest, *name, *range(*it.value)}
+            if line in self._tails or moved & (gone | self._other_at) or not all(self._may_move(segment, at) for at in moved):
+                continue
+            made = f"{self._moved_text(name[0], it.equals)} = {self._moved_text(*it.value)};" + " }"
+            if it.is_declaration:
+                self._put(self.tokens[it.equals], ";")
+                self._blank(it.equals + 1, it.brace)
+            else:
+                self._blank(it.first, it.brace)
+            self._blank(it.value[0], it.end + len(rest))
+            self._tails.setdefault(line, []).append(" ".join([made, *[self.tokens[at].text for at in rest]]))
+            taken.add(it.brace)
+            self._count("block values")
+        return taken
+
     def _is_left_early(self, opening: int, closing: int) -> bool:
         """Returns whether a break or continue between these braces belongs to the loop whose body they are."""
         loop_end = switch_end = opening
@@ -936,10 +965,11 @@ class Filter:
             before = self.partner[before] - 1
         return self.tokens[before].text
 
-    def _statement_expressions(self, first: int, end: int) -> None:
-        """`({ S });` as a whole statement becomes `{ S }`; `({ E1; E2; })` of expressions alone becomes `( E1, E2 )`."""
+    def _statement_expressions(self, first: int, end: int, but: set[int]) -> None:
+        """`({ S });` as a whole statement becomes `{ S }`; `({ E1; E2; })` of expressions alone becomes `( E1, E2 )`. Blocks in
+        some braces are taken already."""
         for at in range(first, end - 2):
-            if self.tokens[at].text != "(" or self.tokens[at + 1].text != "{" or self.partner[at] != self.partner[at + 1] + 1:
+            if self.tokens[at].text != "(" or self.tokens[at + 1].text != "{" or self.partner[at] != self.partner[at + 1] + 1 or at + 1 in but:
                 continue
             closing = self.partner[at + 1]
             behind = closing + 2

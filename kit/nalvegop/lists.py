@@ -122,4 +122,6 @@ class Lists:
         here = path + "".join(it.text for it in self.tokens[begin:at])
         if self.tokens[at + 1].text == "{":
             return self._parts(at + 1, here)
-        return [(here, at + 1, end)]
+        # (a null pointer that is cast to a number is 0 too)
+        is_zero = all(it.text in _ZEROS | {"uintptr_t", "intptr_t"} for it in self.tokens[at + 1 : end])
+        return [] if is_zero else [(here, at + 1, end)]

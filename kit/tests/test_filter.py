@@ -139,7 +139,7 @@ class Steps(unittest.TestCase):
 
     def test_words_of_gcc(self) -> None:
         self.becomes("typeof(int) a; int f(void) { return a; }", "int a; int f(void) { return a; }")
-        self.becomes("int f(int a) { typeof(a) b = a; return b; }", "int f(int a) { typeof(a) b = a; return b; }")
+        self.becomes("int f(int a) { typeof(+a) b = a; return b; }", "int f(int a) { typeof(+a) b = a; return b; }")
         self.becomes("unsigned long f(void) { return __alignof__(int); }", "unsigned long f(void) { return sizeof (int); }")
         self.becomes("void f(void) { g(__func__); }", 'void f(void) { g("" ); }')
         self.becomes("_Atomic int a; int f(void) { return a; }", "int a; int f(void) { return a; }")

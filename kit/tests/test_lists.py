@@ -23,14 +23,15 @@ class Lists(unittest.TestCase):
     def test_declarations(self) -> None:
         for before, after in {
             "struct s x = { .a = 1 };": "struct s x = { }; x.a = 1;",
-            "struct s x = { .a = n + 1, .in = { .c = 2, .d = 0 }, };": "struct s x = { }; x.a = n + 1; x.in.c = 2; x.in.d = 0;",
+            "struct s x = { .a = n + 1, .in = { .c = 2, .d = 0 }, };": "struct s x = { }; x.a = n + 1; x.in.c = 2;",
             "const struct s x = {\n .in.c = 1,\n .e[2] = n\n}; n++;": "const struct s x = {\n\n\n}; x.in.c = 1; x.e[2] = n; n ++ ;",
             "int x[3] = { [1] = n };": "int x[3] = { }; x[1] = n;",
+            "struct s x = { .a = n ? 1 : 2 };": "struct s x = { }; x.a = n ? 1 : 2;",
             "struct s x = { 0, { 0 } };": "struct s x = { };",
             "struct in x[2] = { { 0 }, { 0 } };": "struct in x[2] = { };",
             "struct s x = (struct s) { .a = 1 };": "struct s x = { }; x.a = 1;",
             'char x[4] = "";': "char x[4] = {};",
-            "struct s x = { .a = (int)(n + 1), .q = ((void *)0) };": "struct s x = { }; x.a = ( int ) ( n + 1 ); x.q = ( ( void * ) 0 );",
+            "struct s x = { .a = (int)(n + 1), .q = ((void *)0), .e[0] = (uintptr_t)(((void *)0)) };": "struct s x = { }; x.a = ( int ) ( n + 1 );",
         }.items():
             self.check(before, after)
 
@@ -48,7 +49,6 @@ class Lists(unittest.TestCase):
             "int x[3] = { 1, 2 };",
             "struct s x = { 1, { 2 } };",
             "struct s x = { .a = g(1) };",
-            "struct s x = { .a = n ? 1 : 2 };",
             "int x[] = { [1] = 2 };",
             "struct s x = { .a = 1 }, y;",
             "struct s x = { .a = 1 }; g(1);",

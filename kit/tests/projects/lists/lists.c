@@ -1,5 +1,9 @@
+#include <errno.h>
 #include <pthread.h>
 #include <stdlib.h>
+#include <unistd.h>
+
+#define RETRY(call) ({ __typeof__(file) got; do got = (call); while (got == -1 && errno == EINTR); got; })
 
 struct pair {
 	char *one, *two;
@@ -48,4 +52,16 @@ void table_reset(struct table *table)
 	table->pair = empty;
 	if (!empty.size.right)
 		pthread_mutex_unlock(&table->mutex);
+}
+
+/* wrong: where nothing is read the mutex stays locked */
+void table_read(struct table *table, long file)
+{
+	long size;
+
+	pthread_mutex_lock(&table->mutex);
+	size = RETRY(read(file, table->pair.one, 4));
+	if (size < 0)
+		return;
+	pthread_mutex_unlock(&table->mutex);
 }
