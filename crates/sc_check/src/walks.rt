@@ -13,7 +13,7 @@ ghost use Rattle.sc_check.specs.Typed as spec;
 use crate::files::file;
 use crate::passing::pass_file;
 use file_tables::FileTables;
-use sc_base::{List, Numbers, OutOfMemory, Skip};
+use sc_base::{List, OutOfMemory, Skip};
 use sc_declare::GlobalNumbers;
 use sc_program::Bodied;
 use sc_rules::{Builtin, Record, Walk};
@@ -61,26 +61,15 @@ fn linked_tables<'a>(
     }
 }
 
-// The structs that were met so far, with the places of their specifiers.
-#[derive(Drop)]
-struct Met {
-    structs: Structs,
-    specifiers: Numbers<(u32, (u32, u32))>,
-}
-
-// A walk at its beginning, with the structs that an earlier one met.
-fn new_walk(alloc: Global, met: Met) -> Walk
-    ensures { result ≡ record spec.no_walk { structs = met.structs; specifiers = met.specifiers } }
+// A walk at its beginning, with these structs.
+fn new_walk(alloc: Global, structs: Structs) -> Walk
+    ensures { result ≡ record spec.no_walk { structs = structs } }
 {
-    let Met {
-        structs,
-        specifiers,
-    } = met;
     Walk {
         names: Scopes::new(alloc),
         tags: Scopes::new(alloc),
         structs,
-        specifiers,
+        met: 0,
         completed: List::new(alloc),
         globals: List::new(alloc),
         records: List::new(alloc),
@@ -117,11 +106,7 @@ fn passed(
 ) -> Result<Walk, OutOfMemory>
     ensures { IfOk result (λ walk. walk ≡ files_left (alone_here w builtins.now) units.now spec.no_walk) }
 {
-    let met = Met {
-        structs: Structs::new(alloc),
-        specifiers: Numbers::new(alloc),
-    };
-    let mut walk = new_walk(alloc, met);
+    let mut walk = new_walk(alloc, Structs::new(alloc));
     let mut numbers = GlobalNumbers::new(alloc);
     for x in units {
         first_file(alloc, &mut walk, &mut numbers, w, builtins, x)?;
@@ -176,21 +161,21 @@ fn second_file(
     Ok(linked)
 }
 
-// The second walk, which begins with what the first one met: the functions, the notes and the walk that it leaves.
+// The second walk, which begins with these structs: the functions, the notes and the walk that it leaves.
 fn linked_walk(
     alloc: Global,
     w: Widths,
     builtins: &[Option<Builtin>],
     linked: FileTables,
-    met: Met,
+    structs: Structs,
     units: &[Unit],
 ) -> Result<(List<Function>, (List<Skip>, Walk)), OutOfMemory>
     requires { AreTables linked }
     ensures { IfOk result (λ r. found r
         ≡ spec.walk_files (linked_here w builtins.now linked) spec.nothing_made units.now
-        (record spec.no_walk { structs = met.structs; specifiers = met.specifiers })) }
+        (record spec.no_walk { structs = structs })) }
 {
-    let mut walk = new_walk(alloc, met);
+    let mut walk = new_walk(alloc, structs);
     let mut numbers = GlobalNumbers::new(alloc);
     let mut functions = List::new(alloc);
     let mut notes = List::new(alloc);
@@ -211,41 +196,35 @@ fn linked_walk(
     Ok((functions, (notes, walk)))
 }
 
-// The second walk, behind a first one that met these structs and left these declarations of variables.
+// The second walk, behind a first one that left these structs and declarations of variables.
 fn walk_behind(
     alloc: Global,
     w: Widths,
     builtins: &[Option<Builtin>],
-    met: Met,
+    structs: Structs,
     records: List<Record>,
     bodies: &[Bodied],
     units: &[Unit],
 ) -> Result<(List<Function>, (List<Skip>, Walk)), OutOfMemory>
     ensures { IfOk result (λ r. found r
-        ≡ spec.walk_files (known_here w builtins.now met.structs records bodies.now) spec.nothing_made
-        units.now (record spec.no_walk { structs = met.structs; specifiers = met.specifiers })) }
+        ≡ spec.walk_files (known_here w builtins.now structs records bodies.now) spec.nothing_made
+        units.now (record spec.no_walk { structs = structs })) }
 {
-    let linked = FileTables::of(alloc, w, met.structs.as_slice(), bodies, records)?;
-    linked_walk(alloc, w, builtins, linked, met, units)
+    let linked = FileTables::of(alloc, w, structs.as_slice(), bodies, records)?;
+    linked_walk(alloc, w, builtins, linked, structs, units)
 }
 
 // What the second walk wants of the first. The rest is dropped, before the second begins.
-fn left_of(first: Walk) -> (Met, List<Record>)
-    ensures structs { result.0.structs ≡ first.structs }
-    ensures specifiers { result.0.specifiers ≡ first.specifiers }
+fn left_of(first: Walk) -> (Structs, List<Record>)
+    ensures structs { result.0 ≡ first.structs }
     ensures records { result.1 ≡ first.records }
 {
     let Walk {
         structs,
-        specifiers,
         records,
         ..
     } = first;
-    let met = Met {
-        structs,
-        specifiers,
-    };
-    (met, records)
+    (structs, records)
 }
 
 /// The second walk, behind a first one that left the other walk: the functions, the notes and the walk that it leaves.
@@ -259,8 +238,8 @@ pub fn second_walk(
 ) -> Result<(List<Function>, (List<Skip>, Walk)), OutOfMemory>
     ensures { IfOk result (λ r. found r
         ≡ spec.walk_files (known_here w builtins.now first.structs first.records bodies.now) spec.nothing_made
-        units.now (record spec.no_walk { structs = first.structs; specifiers = first.specifiers })) }
+        units.now (record spec.no_walk { structs = first.structs })) }
 {
-    let (met, records) = left_of(first);
-    walk_behind(alloc, w, builtins, met, records, bodies, units)
+    let (structs, records) = left_of(first);
+    walk_behind(alloc, w, builtins, structs, records, bodies, units)
 }

@@ -1,10 +1,7 @@
--- Structs and unions (C11 6.7.2.1). A struct is met where its tag is new or where it has none. Its number is that of the
--- specifier's place, so it means the same struct in every walk over the files. It is complete behind its body, if nothing in
--- the body is refused. And which types an object has (C11 6.7, 7).
-use Rattle.std.specs.Prelude.{ℕ, nat_eq, Bool, not, ◌&&◌, ◌||◌, Option, Some, None, is_some, List, [], ◌∷◌, ◌++◌}
-use Rattle.std.specs.List.{position_or_len}
+-- Structs and unions (C11 6.7.2.1). A struct is met where its tag is new or where it has none. It is complete
+-- behind its body, if nothing in the body is refused. And which types an object has (C11 6.7, 7).
+use Rattle.std.specs.Prelude.{ℕ, ◌+◌, Bool, not, ◌&&◌, ◌||◌, Option, Some, None, is_some, List, [], ◌∷◌, ◌++◌}
 use Rattle.sc_base.specs.declared.pos.Pos.{Pos}
-use Rattle.sc_base.specs.Numbers.{insert_key}
 use Rattle.sc_base.specs.declared.skip.IllTyped.TheVariants as i
 use Rattle.sc_tree.specs.declared.ctype.CType.{CType}
 use Rattle.sc_tree.specs.declared.ctype.Widths.{Widths}
@@ -16,29 +13,9 @@ use Rattle.struct_table.specs.Structs.{put_at, replaced}
 use Rattle.sc_rules.specs.Faults.{ill_typed_at}
 use Rattle.sc_rules.specs.Walks.{Check, ◌>>=◌, done, holds_or}
 
--- a place as the table of specifiers has it: the file, the line and the column
-abbrev pub Specifier : Type 0
-Specifier = ℕ × (ℕ × ℕ)
-
-abbrev pub specifier_at : Pos → Specifier
-specifier_at at = (at.file, (at.line, at.col))
-
-abbrev pub same_specifier : Specifier → Specifier → Bool
-same_specifier (f, (l, c)) (g, (m, d)) = nat_eq f g && (nat_eq l m && nat_eq c d)
-
--- the number of a place; behind all others where no struct was met there
-abbrev pub struct_number : Pos → List Specifier → ℕ
-struct_number at ss = position_or_len (same_specifier (specifier_at at)) ss
-
--- a struct or union that is met at a place, incomplete so far
-abbrev pub new_struct : Pos → (union : Bool) → Check ℕ
-new_struct at union w = (
-  struct_number at w.specifiers,
-  record w {
-    structs = put_at w.structs (struct_number at w.specifiers) (record no_struct { union = union });
-    specifiers = insert_key same_specifier w.specifiers (specifier_at at);
-  },
-)
+abbrev pub new_struct : (union : Bool) → Check ℕ
+new_struct union w =
+    (w.met, record w { structs = put_at w.structs w.met (record no_struct { union = union }); met = w.met + 1 })
 
 -- a struct with these members
 abbrev pub completed_struct : Widths → List StructDef → (union : Bool) → List FieldDef → StructDef

@@ -1,7 +1,7 @@
 // Structs and unions (C11 6.7.2.1): one is met where its tag is new or where it has none, and complete behind
 // its body; and which types an object has (C11 6.7, 7).
 
-ghost use Rattle.std.specs.Prelude.{◌≡◌, OnErr};
+ghost use Rattle.std.specs.Prelude.{◌≡◌, OnOk, OnErr};
 ghost use Rattle.sc_typed.specs.Extents.{struct_at};
 ghost use Rattle.sc_rules.specs.Gives.{Gives};
 ghost use Rattle.sc_names.specs.Structs as spec;
@@ -14,19 +14,19 @@ use sc_types::{extent, is_function, is_void, struct_extent};
 use std::alloc::Global;
 use struct_table::Members;
 
-/// Meets a struct or union at the place of its specifier, and gives its number. It is incomplete so far. A number of
-/// 2^32 and more is refused as too much for memory.
-pub fn new_struct(alloc: Global, walk: &mut Walk, at: Pos, union: bool) -> Result<u32, OutOfMemory>
-    ensures { Gives (spec.new_struct at union walk.old) result walk.new }
+/// Meets a struct or union, which is incomplete so far, and gives its number. Where memory is refused nothing
+/// changes; the number 2^32 - 1 is refused in the same way.
+pub fn new_struct(alloc: Global, walk: &mut Walk, union: bool) -> Result<u32, OutOfMemory>
+    ensures ok { Gives (spec.new_struct union walk.old) result walk.new }
+    ensures err { OnErr result (walk.new ≡ walk.old) }
 {
-    let specifier = (at.file, (at.line, at.col));
-    let number = walk.specifiers.number(&specifier);
-    if number > u32::MAX as usize {
+    let number = walk.met;
+    if number == u32::MAX {
         return Err(OutOfMemory);
     }
-    walk.structs.put(alloc, number, union)?;
-    walk.specifiers.insert(specifier)?;
-    Ok(number as u32)
+    walk.structs.put(alloc, number as usize, union)?;
+    walk.met = number + 1;
+    Ok(number)
 }
 
 // Whether the struct with that number is a union.

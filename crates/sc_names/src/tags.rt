@@ -65,22 +65,22 @@ fn of_kind(kind: TagKind, tag: Option<Tag>) -> Option<Tag>
     }
 }
 
-// The number of a new struct or union, whose specifier stands there; 0 for an `enum`.
-fn new_number(alloc: Global, walk: &mut Walk, at: Pos, kind: TagKind) -> Result<u32, OutOfMemory>
-    ensures { Gives (spec.new_number at kind walk.old) result walk.new }
+// The number of a new struct or union; 0 for an `enum`.
+fn new_number(alloc: Global, walk: &mut Walk, kind: TagKind) -> Result<u32, OutOfMemory>
+    ensures { Gives (spec.new_number kind walk.old) result walk.new }
 {
     match kind {
-        TagKind::Struct => new_struct(alloc, walk, at, false),
-        TagKind::Union => new_struct(alloc, walk, at, true),
+        TagKind::Struct => new_struct(alloc, walk, false),
+        TagKind::Union => new_struct(alloc, walk, true),
         TagKind::Enum => Ok(0),
     }
 }
 
 // A new tag, whose body is not seen yet.
-fn new_tag(alloc: Global, walk: &mut Walk, at: Pos, kind: TagKind) -> Result<Tag, OutOfMemory>
-    ensures { Gives (spec.new_tag at kind walk.old) result walk.new }
+fn new_tag(alloc: Global, walk: &mut Walk, kind: TagKind) -> Result<Tag, OutOfMemory>
+    ensures { Gives (spec.new_tag kind walk.old) result walk.new }
 {
-    let number = new_number(alloc, walk, at, kind)?;
+    let number = new_number(alloc, walk, kind)?;
     Ok(Tag {
         kind,
         number,
@@ -92,13 +92,12 @@ fn new_tag(alloc: Global, walk: &mut Walk, at: Pos, kind: TagKind) -> Result<Tag
 fn declared_tag(
     alloc: Global,
     walk: &mut Walk,
-    at: Pos,
     name: NameId,
     kind: TagKind,
 ) -> Result<Tag, OutOfMemory>
-    ensures { Gives (spec.declared_tag at name kind walk.old) result walk.new }
+    ensures { Gives (spec.declared_tag name kind walk.old) result walk.new }
 {
-    let t = new_tag(alloc, walk, at, kind)?;
+    let t = new_tag(alloc, walk, kind)?;
     declare_tag(walk, name, t)?;
     Ok(t)
 }
@@ -107,15 +106,14 @@ fn declared_tag(
 fn found_tag(
     alloc: Global,
     walk: &mut Walk,
-    at: Pos,
     name: NameId,
     kind: TagKind,
     found: Option<Tag>,
 ) -> Result<Tag, OutOfMemory>
-    ensures { Gives (spec.found_tag at name kind found walk.old) result walk.new }
+    ensures { Gives (spec.found_tag name kind found walk.old) result walk.new }
 {
     match found {
-        None => declared_tag(alloc, walk, at, name, kind),
+        None => declared_tag(alloc, walk, name, kind),
         Some(t) => Ok(t),
     }
 }
@@ -135,15 +133,14 @@ fn tag_in(walk: &Walk, name: NameId, inner: bool) -> Option<Tag>
 fn tag_for(
     alloc: Global,
     walk: &mut Walk,
-    at: Pos,
     name: NameId,
     kind: TagKind,
     inner: bool,
 ) -> Result<Tag, OutOfMemory>
-    ensures { Gives (spec.tag_for at name kind inner walk.old) result walk.new }
+    ensures { Gives (spec.tag_for name kind inner walk.old) result walk.new }
 {
     let found = of_kind(kind, tag_in(walk, name, inner));
-    found_tag(alloc, walk, at, name, kind, found)
+    found_tag(alloc, walk, name, kind, found)
 }
 
 // The tag of a specifier, where it is known whether it clashes.
@@ -160,9 +157,9 @@ fn tag_unless(
 {
     if clash {
         holds_or(walk, false, ill_typed_at(IllTyped::Again, at));
-        new_tag(alloc, walk, at, kind)
+        new_tag(alloc, walk, kind)
     } else {
-        tag_for(alloc, walk, at, name, kind, inner)
+        tag_for(alloc, walk, name, kind, inner)
     }
 }
 
@@ -180,7 +177,7 @@ pub fn tag_of(
     ensures { Gives (spec.tag_of at name kind body alone walk.old) result walk.new }
 {
     match name {
-        None => new_tag(alloc, walk, at, kind),
+        None => new_tag(alloc, walk, kind),
         Some(name) => {
             let clash = clashes(kind, body, tag_in(walk, name, true));
             tag_unless(alloc, walk, clash, at, name, kind, body || alone)

@@ -1,7 +1,7 @@
 // What changes on the way through a file: the names in scope, the structs and globals so far, the locals of
 // the function at hand, and the first fault in it.
 
-use sc_base::{List, NameId, Numbers, Pos, Skip};
+use sc_base::{List, NameId, Pos, Skip};
 use sc_tree::ctype::CType;
 use sc_typed::{Global, Param};
 use scopes::Scopes;
@@ -96,11 +96,10 @@ pub enum Builtin {
 pub struct Walk {
     pub names: Scopes<Entity>,
     pub tags: Scopes<Tag>,
-    /// Structs and unions by their numbers.
+    /// Structs and unions, in the order of their first mention.
     pub structs: Structs,
-    /// The places of the specifiers that made them, in this walk or in an earlier one over the same files: the file, the
-    /// line and the column of each. The number of a struct is that of its place.
-    pub specifiers: Numbers<(u32, (u32, u32))>,
+    /// How many of them were met so far. Those behind are as an earlier walk over all files left them.
+    pub met: u32,
     /// Those that the declaration at hand has completed.
     pub completed: List<u32>,
     /// Globals, in the order of their first declaration.
