@@ -55,10 +55,12 @@ def run_stored(name: str) -> str:
 
 
 def run_kit() -> str:
-    """Runs the tests of kit/, and mypy where it is there, and returns what they said where one fails."""
+    """Runs the tests of kit/, and mypy and black where they are there, and returns what they said where one fails."""
     commands = [[sys.executable, "-B", "-m", "unittest", "discover", "-s", "tests", "-t", "."]]
     if shutil.which("mypy"):
         commands.append(["mypy"])
+    if shutil.which("black"):
+        commands.append(["black", "--check", "--quiet", "."])
     bad = ""
     for words in commands:
         ran = subprocess.run(words, cwd=f"{programs.TOP}/kit", stdin=subprocess.DEVNULL, capture_output=True, text=True, errors="replace", check=False)

@@ -3,13 +3,14 @@
 from __future__ import annotations
 
 import os
+import re
 from collections.abc import Mapping
 from dataclasses import dataclass, field
 from functools import cached_property
 
 from .checker import Checker, NotChecked, OutOfMemory, OutOfTime
 from .compilations import Compilation
-from .filter import ADDRESS, DISTANCE, MODEL_HEAD, NUMBER, ORDER, PART, POINTER, PUT, STEPPED, Filter, Filtered
+from .filter import ADDRESS, DISTANCE, KINDS, MODEL_HEAD, NUMBER, ORDER, PART, POINTER, PUT, STEPPED, Filter, Filtered
 from .findings import OBJECT, Finding, Step, Teller, one_of_each_array
 from .leaks import Leaks
 from .lines import LineMap, Place, SourceFiles
@@ -22,7 +23,7 @@ from .processes import Allowance
 from .reasons import Reason, words_of
 from .segments import Segment
 from .unread import unread
-from .verdicts import At, Function, NotVerdicts, Report, Skip, Verdicts
+from .verdicts import At, Function, NotVerdicts, Report, Skip, Told, Verdicts
 
 # Calls that change a lock: a report on a path with a function of which nothing is known, and that has one, may be false.
 _ON_LOCKS = {
@@ -37,8 +38,14 @@ _DIFFERENCE = "how far pointers lie apart, and in which order, is not known"
 _OFFSET = "the number that offsetof gives is not known"
 _POINTER = "a pointer made of a number leads to another object each time"
 _ADDRESS = "the number of a pointer is not known"
+_MEMBERS = {
+    "union": "the members of a union are taken for those of a struct",
+    "anon": "the members of a union are taken for those of a struct",
+    "bitfield": "the width of a bit field is not followed",
+    "float": "floating numbers are taken for integers",
+}
 # How often a text is checked once more, with something in place of casts that the checker did not take.
-_MOST_CASTS = 6
+_MOST_CASTS = 10
 _UNSURE = {OBJECT: _CONTAINER, "nalvegop_entry": "which entries a list has is not known"}
 
 
@@ -88,6 +95,8 @@ class FileCheck:
         # Of functions that were checked for themselves: what was unknown then.
         self._unknown_to: dict[str, set[str]] = {}
         self._observed: dict[str, tuple[Observers, Function] | None] = {}
+        # Where something is told that stands at a place of the text that is left.
+        self._told_of_text: Told = lambda at: at
 
     def run(self) -> FileResult:
         try:
@@ -113,7 +122,7 @@ class FileCheck:
         self.filter = Filter(text, line_map.is_own, self.operations)
         filtered = self.filter.run()
         self.renamed, self.model = filtered.renamed, model
-        self.result.text = filtered.text
+        self.result.text, self._told_of_text = filtered.text, filtered.moved.told
         self.result.passed_over = {name: Reason(why, self._place(at)) for name, (why, at) in filtered.passed_over.items()}
         verdicts = self._verdicts(filtered)
         self._tell(verdicts, Teller(text, line_map, self.files, self.options.checker.machine, verdicts.functions), line_map)
@@ -146,16 +155,26 @@ class FileCheck:
         return found
 
     def _whole(self, filtered: Filtered) -> Verdicts:
-        """Checks the whole file, and once more where something can be put in place of casts that the checker did not take."""
+        """Checks the whole file, and once more where something can be put in place of what the checker did not take. That is put
+        into the text that is left, as the raw one is many times as long."""
+        told, again = filtered.moved.told, None
         for _ in range(_MOST_CASTS):
-            verdicts = self.options.checker.check(filtered.text, self.model, max(self._left() / 3, 1), self.renamed)
-            if not self.filter.refuse(_refused(verdicts)):
+            verdicts = self.options.checker.check(filtered.text, self.model, max(self._left() / 3, 1), self.renamed, self._told_of_text)
+            if not again and (_refused(verdicts) or _of_kinds(verdicts)):
+                again = Filter(self.result.text, self.line_map.is_own, self.operations)
+            if not again or not self._is_refused(again, verdicts):
                 break
-            before, filtered = filtered, self.filter.run()
+            before, filtered = filtered, again.run()
             if filtered.text == before.text:
                 break
-            self.result.text = filtered.text
+            self.result.text, self._told_of_text = filtered.text, _one_after_another(told, filtered.moved.told)
+            self._note(again)
         return verdicts
+
+    def _note(self, it: Filter) -> None:
+        """Notes in which functions another filter of the file put something."""
+        self.filter.unknowns.add(it.unknowns)
+        self.filter.members.add(it.members)
 
     def _of_one(self, name: str, unknown: set[str], waiting: int) -> Verdicts | None:
         """Returns the verdicts of a text with one function and all that it calls; where there is no answer in time, of
@@ -183,18 +202,26 @@ class FileCheck:
         for _ in range(_MOST_CASTS):
             if self.time.is_over:
                 break
-            found = self._checked(self._one_by_one.run(only=[name], without=unknown).text, waiting)
-            self.filter.with_pointers |= self._one_by_one.with_pointers
-            self.filter.with_addresses |= self._one_by_one.with_addresses
-            self.filter.with_sums |= self._one_by_one.with_sums
-            self.filter.with_differences |= self._one_by_one.with_differences
-            if not found or not self._one_by_one.refuse(_refused(found)):
+            filtered = self._one_by_one.run(only=[name], without=unknown)
+            found = self._checked(filtered.text, waiting, self._told(filtered))
+            self._note(self._one_by_one)
+            if not found or not self._is_refused(self._one_by_one, found):
                 break
         return found
 
-    def _checked(self, text: str, waiting: int) -> Verdicts | None:
+    def _is_refused(self, it: Filter, verdicts: Verdicts) -> bool:
+        """Hands to a filter what the checker did not take of the text that it made last. Returns whether something can be put in
+        place of that."""
+        is_known = not it.refuse_members(_of_kinds(verdicts))
+        return it.refuse(_refused(verdicts)) or not is_known
+
+    def _told(self, filtered: Filtered) -> Told:
+        """Returns where something is told that stands at a place of what was made of the text that is left."""
+        return _one_after_another(self._told_of_text, filtered.moved.told)
+
+    def _checked(self, text: str, waiting: int, told: Told) -> Verdicts | None:
         try:
-            return self.options.checker.check(text, self.model, self._share(waiting), self.renamed)
+            return self.options.checker.check(text, self.model, self._share(waiting), self.renamed, told)
         except (OutOfTime, OutOfMemory):
             return None
 
@@ -213,9 +240,10 @@ class FileCheck:
         for with_numbers in (True, False):
             if self.time.is_over:
                 return None
-            observers = Observers(self._one_by_one.run(only=[name], without=self._unknown_to.get(name, ())).text, name, with_numbers)
+            filtered = self._one_by_one.run(only=[name], without=self._unknown_to.get(name, ()))
+            observers = Observers(filtered.text, name, with_numbers, self._told(filtered))
             try:
-                verdicts = self._checked(observers.text, 1)
+                verdicts = self._checked(observers.text, 1, self._told(filtered))
             except (NotChecked, NotVerdicts):
                 return None
             found = next((it for it in verdicts.functions if it.name == name and not it.skip), None) if verdicts else None
@@ -241,7 +269,7 @@ class FileCheck:
         comments = Comments(self.files)
         leaks = Leaks(self.filter, self._is_model, self._with_unknown)
         self._name_lost(verdicts)
-        unknown = self._unknown(verdicts)
+        unknown, by_name = self._unknown(verdicts), {it.name: it for it in verdicts.functions}
         for function in verdicts.functions:
             if function.name in self.result.passed_over:
                 continue
@@ -257,6 +285,8 @@ class FileCheck:
             missing = [] if function.skip else [*unknown.called_by(function.name, self.result.without_calls.get(function.name, []))]
             self.result.missing += missing
             told = [self._finding(teller, function, report, lost, doubts, missing) for report, doubts in leaks.told(function, {*lost})]
+            for finding, report in zip(told, function.reports):
+                finding.marks += [] if self.operations else _left_as_they_were(report, by_name)
             for finding in one_of_each_array(told):
                 finding.marks += self._unsure(finding)
                 if comments.hides(finding, place.line):
@@ -270,7 +300,7 @@ class FileCheck:
         it = self._left_segments.get(name) if skip.reason == "grammar" else None
         found = unread(self._one_by_one.tokens, self._one_by_one.partner, it.body[0], it.end) if it else None
         if found:
-            return Reason(words_of(skip), self._place(self._one_by_one.at(found[1])), found[0])
+            return Reason(words_of(skip), self._place(self._told_of_text(self._one_by_one.at(found[1]))), found[0])
         return Reason(words_of(skip), self._place(skip.at) if skip.at else None)
 
     @cached_property
@@ -286,7 +316,8 @@ class FileCheck:
 
     def _unsure(self, finding: Finding) -> list[str]:
         """Returns what its paths have of which only a part is known, and by which the finding may be false."""
-        found, left = {why for name, why in _UNSURE.items() if name in finding.calls}, self.filter
+        found, left = {why for name, why in _UNSURE.items() if name in finding.calls}, self.filter.unknowns
+        found |= {_MEMBERS[kind] for kind, functions in self.filter.members.functions.items() if finding.function in functions}
         for functions, put, why in (
             (left.with_sums, {STEPPED}, _SUM),
             (left.with_differences, {DISTANCE, ORDER}, _DIFFERENCE),
@@ -359,11 +390,36 @@ class FileCheck:
         return finding
 
 
+def _one_after_another(last: Told, first: Told) -> Told:
+    return lambda at: last(first(at))
+
+
+def _of_kinds(verdicts: Verdicts) -> list[tuple[str, str]]:
+    """Returns the kinds of types for which functions were passed over, with these."""
+    skips = [(it.skip, it.name) for it in verdicts.functions if it.skip]
+    return [(skip.kind, name) for skip, name in skips if skip.reason == "unsupported" and skip.kind in KINDS]
+
+
+def _left_as_they_were(report: Report, functions: Mapping[str, Function]) -> list[str]:
+    """Says of a lock that callers do not know that an earlier call may leave it as it was: by a row that begins with it locked
+    the path ends in an error, and whether it is locked then is not known."""
+    if report.kind != "inner":
+        return []
+    member, found = re.split(r"[.>]", report.about)[-1], set[str]()
+    for run in report.runs:
+        calls = [it.word for it in run.events if it.kind == "call"]
+        if not _ON_LOCKS & {*calls[:-1]}:
+            items = [(name, item) for name in calls[:-1] if name in functions for item in functions[name].items if item.what == "state"]
+            same = [(name, item) for name, item in items if re.split(r"[.>]", item.name)[-1] == member]
+            found |= {name for name, item in same if any((row.before, row.after) == ("L", "L") for row in item.rows)}
+    return [f"'{name}' may leave it as it was, and whether it is locked then is not known" for name in sorted(found)]
+
+
 def _refused(verdicts: Verdicts) -> list[At]:
-    """Returns the places of casts between pointers and numbers, of sums of these, and of pointers that are compared by their
-    order, for which functions were passed over."""
+    """Returns the places, in the text that was checked, of casts between pointers and numbers, of sums of these, of pointers
+    that are compared by their order, and of jumps, for which functions were passed over."""
     skips = [it.skip for it in verdicts.functions if it.skip]
-    return [it.at for it in skips if it.reason == "unsupported" and it.kind in ("cast", "arith", "order") and it.at]
+    return [it.stands or it.at for it in skips if it.reason == "unsupported" and it.kind in ("cast", "arith", "order", "goto") and it.at]
 
 
 def callees_first(functions: list[Segment]) -> list[str]:

@@ -9,7 +9,7 @@ from collections.abc import Mapping, Sequence
 from dataclasses import dataclass
 
 from .processes import CLOCK, ran
-from .verdicts import Verdicts, read_json
+from .verdicts import Told, Verdicts, read_json
 
 TOP = os.path.dirname(os.path.dirname(os.path.dirname(os.path.abspath(__file__))))
 # A program to run in place of the one that bin/saturn_check finds.
@@ -51,9 +51,9 @@ class Checker:
     reach: int = 2
     machine: str | None = None
 
-    def check(self, text: str, model: str, seconds: float, renamed: Mapping[str, str]) -> Verdicts:
-        """Returns the verdicts of a text, in which names in place of others are told as those. It is written to a file
-        of a plain name, so that no name has a meaning."""
+    def check(self, text: str, model: str, seconds: float, renamed: Mapping[str, str], told: Told | None = None) -> Verdicts:
+        """Returns the verdicts of a text, in which names in place of others are told as those, and places as `told` says. It
+        is written to a file of a plain name, so that no name has a meaning."""
         with tempfile.TemporaryDirectory(prefix="nalvegop-") as room:
             with open(os.path.join(room, "unit.c"), "w", encoding="latin-1", newline="\n") as it:
                 it.write(text)
@@ -64,7 +64,7 @@ class Checker:
             raise OutOfMemory("memory was refused")
         if said.returncode not in (0, 1):
             raise NotChecked(_why(said))
-        return read_json(said.stdout, renamed)
+        return read_json(said.stdout, renamed, told)
 
 
 def _ran(words: Sequence[str], folder: str, seconds: float) -> subprocess.CompletedProcess[bytes]:

@@ -22,7 +22,7 @@ from .machines import find_machine
 from .noise import BadBaseline, Baseline
 from .processes import ENDING
 from .rows import rows_text, story
-from .show_gcc import lines_of
+from .show_gcc import Colours, lines_of
 from .show_html import page
 from .show_json import as_json
 from .show_sarif import sarif
@@ -71,6 +71,7 @@ def parser() -> argparse.ArgumentParser:
     _common(check)
     check.add_argument("--format", choices=("gcc", "sarif", "json", "html"), default="gcc", help="the form of what is shown (gcc)")
     check.add_argument("--output", metavar="FILE", help="write there, and not to standard output")
+    check.add_argument("--color", choices=("auto", "always", "never"), default="auto", help="colours in the form gcc: auto, on a terminal alone (auto)")
     check.add_argument("--only", action="append", choices=[*KINDS], default=[], help="show findings of this kind alone; may be given again")
     check.add_argument("--baseline", metavar="FILE", help="do not show the findings in this file")
     check.add_argument("--update-baseline", action="store_true", help="write the findings to the file of --baseline, and end with status 0")
@@ -288,7 +289,7 @@ def _show(results: list[FileResult], it: argparse.Namespace, status: int) -> Non
     made = io.StringIO()
     if it.format == "gcc":
         for result in results:
-            for line in lines_of(result.findings, files):
+            for line in lines_of(result.findings, files, Colours(_is_coloured(it))):
                 print(line, file=made)
     elif it.format == "html":
         made.write(page(results, files, status))
@@ -307,6 +308,12 @@ def _show(results: list[FileResult], it: argparse.Namespace, status: int) -> Non
         os.dup2(os.open(os.devnull, os.O_WRONLY), 1)
     except OSError as error:
         raise Trouble(f"{it.output or 'standard output'}: {error.strerror}", Status.NOT_ALL) from error
+
+
+def _is_coloured(it: argparse.Namespace) -> bool:
+    """Returns whether the lines have colours: where they are wanted, or by themselves on a terminal (https://no-color.org)."""
+    is_terminal = not it.output and sys.stdout.isatty() and os.environ.get("TERM", "dumb") != "dumb" and not os.environ.get("NO_COLOR")
+    return it.color == "always" or it.color == "auto" and is_terminal
 
 
 def _keep_texts(results: Iterable[FileResult], folder: str) -> None:
@@ -356,7 +363,7 @@ def _explain_number(number: int, source: str | None) -> int:
             found = [finding for one in json.load(file)["files"] for finding in one["findings"]]
         stories = [[str(line) for line in finding["story"]] for finding in found]
     except (OSError, ValueError, KeyError, TypeError) as error:
-        raise Trouble(f"{source}: {getattr(error, 'strerror', None) or error!r}", Status.NOT_ALL) from error
+        raise Trouble(f"{source}: {getattr(error, 'strerror', None) or repr(error)}", Status.NOT_ALL) from error
     if not 0 < number <= len(stories):
         raise Trouble(f"{source} has {len(stories)} findings", Status.WORDS)
     _print(stories[number - 1])

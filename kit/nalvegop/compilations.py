@@ -102,7 +102,7 @@ def read_database(path: str) -> list[Compilation]:
             found.setdefault(os.path.realpath(made.path), made)
         return [*found.values()]
     except (OSError, ValueError, KeyError, TypeError, AttributeError) as error:
-        raise BadDatabase(f"{path}: {getattr(error, 'strerror', None) or error!r}") from error
+        raise BadDatabase(f"{path}: {getattr(error, 'strerror', None) or repr(error)}") from error
 
 
 _LAUNCHERS = {"ccache", "distcc", "sccache", "icecc"}

@@ -71,6 +71,8 @@ class Finding:
 
 # A condition with this is of what a variable leads to, or of what a call gives.
 _LOOKS_BEHIND = re.compile(r"[*.\[&]|->|\w\s*\(")
+# An operator of two operands, and no address.
+_BITWISE = re.compile(r"(?<=[\w)\]])\s*&{1,2}\s*")
 _ELEMENT = re.compile(r"\[\d+\]")
 
 
@@ -121,8 +123,9 @@ class Teller:
             return []
         ways = [{it.at: it.word for it in reversed(run.events) if it.kind in ("if", "switch")} for run in report.runs]
         parts = [at for at, word in ways[0].items() if ways[1].get(at, word) != word]
-        texts = [it for it in map(self._condition_text, parts) if not _LOOKS_BEHIND.search(it.replace("&&", ""))]
-        names = [{*re.findall(r"[A-Za-z_]\w*", it)} for it in texts]
+        texts = [it for it in (_BITWISE.sub(" | ", self._condition_text(at)) for at in parts) if not _LOOKS_BEHIND.search(it)]
+        # (a name in capitals is that of a macro, or of a constant)
+        names = [{one for one in re.findall(r"[A-Za-z_]\w*", it) if not one.isupper()} for it in texts]
         return sorted({name for one in names if one <= {*function.entry} for name in one})
 
     def _main_place(self, function: Function, report: Report) -> Place:

@@ -72,7 +72,7 @@ class Baseline:
                 raise BadBaseline(f"{path}: it is no baseline of nalvegop")
             return cls(path, [(str(it["file"]), str(it["known_by"])) for it in value["findings"]])
         except (OSError, ValueError, KeyError, TypeError) as error:
-            raise BadBaseline(f"{path}: {getattr(error, 'strerror', None) or error!r}") from error
+            raise BadBaseline(f"{path}: {getattr(error, 'strerror', None) or repr(error)}") from error
 
     def key(self, file: str, finding: Finding) -> tuple[str, str]:
         """Returns what a finding is known by: the file as seen from the baseline's folder, and the finding's own sum."""

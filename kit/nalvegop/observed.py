@@ -15,7 +15,7 @@ from dataclasses import dataclass, field
 from .pointers import Pointers
 from .segments import KEYWORDS, Segment, Unit
 from .tokens import LineIndex, tokens_of
-from .verdicts import At, Event, Run
+from .verdicts import At, Event, Run, Told
 
 _HEADS = {"if", "while", "for", "switch"}
 # What may stand before and behind an expression that a condition tests as it is.
@@ -53,9 +53,10 @@ class Values:
 class Observers:
     """A text with observers in one of its functions."""
 
-    def __init__(self, text: str, function: str, with_numbers: bool) -> None:
-        """With numbers, what seems to be an integer is looked at by `switch`, which is not C where it is a pointer."""
-        self._text, self._with_numbers = text, with_numbers
+    def __init__(self, text: str, function: str, with_numbers: bool, told: Told = lambda at: at) -> None:
+        """With numbers, what seems to be an integer is looked at by `switch`, which is not C where it is a pointer. `told`:
+        where something is told that stands at a place of the text."""
+        self._text, self._with_numbers, self._told = text, with_numbers, told
         self._tokens = [*tokens_of(text)]
         self._unit = Unit(self._tokens)
         self._partner = self._unit.partner
@@ -99,7 +100,7 @@ class Observers:
 
     def _write(self, line: int, statement: str, observer: Observer | None) -> None:
         self._lines[line - 1] += f" {statement}"
-        self._asked[At(line, len(self._lines[line - 1]) - len(statement) + 1)] = observer
+        self._asked[self._told(At(line, len(self._lines[line - 1]) - len(statement) + 1))] = observer
 
     def _ends_line(self, at: int) -> bool:
         return not self._text[self._tokens[at].end :].partition("\n")[0].strip()
@@ -178,7 +179,7 @@ class Observers:
             if subject and call is not None and self._ends_line(end):
                 token = self._tokens[call]
                 is_variable = not _MEMBERS & {it.text for it in self._tokens[first:equals]}
-                self._put(end, self._observer(subject, self._index.at(token.start), is_variable, token.text in _ALLOCATORS), [])
+                self._put(end, self._observer(subject, self._told(self._index.at(token.start)), is_variable, token.text in _ALLOCATORS), [])
 
     def _statements(self, it: Segment) -> Iterator[tuple[int, int]]:
         """Gives the statements that stand in a block and not behind the head of another one: the first token, and the `;`."""

@@ -71,11 +71,21 @@ class Unit:
         """Returns whether the brace begins a function's body: behind `)`, or behind old-style parameters."""
         if brace == first:
             return True
+        if self._has_value(first, brace):
+            # (a compound literal)
+            return False
         at = brace - 1
         while at > first and self.tokens[at].text == ")" and self.partner[at] > first and self.tokens[self.partner[at] - 1].text in _WITH_BRACKETS:
             # (attributes between what they belong to and the brace)
             at = self.partner[at] - 2
         return self.tokens[at].text in (")", ";")
+
+    def _has_value(self, first: int, brace: int) -> bool:
+        """Returns whether a `=` stands before a brace, outside of brackets."""
+        at = first
+        while at < brace and self.tokens[at].text != "=":
+            at = self.partner[at] + 1 if self.partner[at] > at else at + 1
+        return at < brace
 
     def _is_among_old_parameters(self, first: int, behind: int) -> bool:
         """Returns whether this `;` ends a declaration of an old-style parameter: `int f(a, b) int a; char *b; {`."""

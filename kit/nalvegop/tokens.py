@@ -110,6 +110,10 @@ class Sheet:
         assert "\n" not in text and self.was.find("\n", start, end) < 0 or _breaks(text) == _breaks(self.was[start:end])
         self._pieces.append((start, end, text))
 
+    def stands(self, at: int) -> bool:
+        """Returns whether nothing was written over a byte."""
+        return not any(start <= at < end for start, end, _ in self._pieces)
+
     def text(self) -> str:
         """Returns the text with all that was written over it; of two writings over one place the later one counts."""
         # (a character is a byte, so slices of bytes are set: a list of characters takes ten times as long)

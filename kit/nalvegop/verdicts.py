@@ -23,12 +23,14 @@ class At:
 
 @dataclass(frozen=True)
 class Skip:
-    """Why a function, or something at file scope, was left out: `unsupported`, `float`, and where; a limit has a count."""
+    """Why a function, or something at file scope, was left out: `unsupported`, `float`, and where; a limit has a count.
+    `stands`: where that stands in the text that was checked, if something moved there."""
 
     reason: str
     kind: str = ""
     at: At | None = None
     count: int | None = None
+    stands: At | None = None
 
 
 @dataclass(frozen=True)
@@ -114,13 +116,19 @@ class NotVerdicts(ValueError):
 _FORM = ("nalvegop verdicts", 1)
 # The members that have names of C in them.
 _NAMES = {"name", "text", "callee", "label", "location"}
+# The object that a call gave, by the call's place.
+_OBJECT = re.compile(r"\bcall@(\d+):(\d+)")
 
 
-def read_json(text: str | bytes, renamed: Mapping[str, str] | None = None) -> Verdicts:
-    """Reads the JSON of a check, in which names that stand for others are told as those. Members that are not known are
-    passed over."""
+# Where something is told that stands at a place.
+Told = Callable[[At], At]
+
+
+def read_json(text: str | bytes, renamed: Mapping[str, str] | None = None, told: Told | None = None) -> Verdicts:
+    """Reads the JSON of a check, in which names that stand for others are told as those, and places as `told` says. Members
+    that are not known are passed over."""
     try:
-        value = json.loads(text, object_hook=_with_old_names(renamed) if renamed else None)
+        value = json.loads(text, object_hook=_as_told(renamed or {}, told or (lambda at: at)) if renamed or told else None)
         form = value["format"], value["version"]
         if form == _FORM:
             return Verdicts([_function(it) for it in value["functions"]], [_skip(it) for it in value["notes"]])
@@ -129,14 +137,29 @@ def read_json(text: str | bytes, renamed: Mapping[str, str] | None = None) -> Ve
     raise NotVerdicts(f"saturn_check wrote {form[0]!r}, version {form[1]!r}, and this kit reads {_FORM[0]!r}, version {_FORM[1]}")
 
 
-def _with_old_names(renamed: Mapping[str, str]) -> Callable[[dict[str, Any]], dict[str, Any]]:
-    """Returns what puts old names into an object of JSON, and leaves the words of the form and the states of a machine."""
-    pattern = re.compile(rf"\b(?:{'|'.join(renamed)})\b")
+def _as_told(renamed: Mapping[str, str], told: Told) -> Callable[[dict[str, Any]], dict[str, Any]]:
+    """Returns what puts old names and places into an object of JSON, and leaves the words of the form and the states of a
+    machine."""
+    pattern = re.compile(rf"\b(?:{'|'.join(renamed)})\b") if renamed else None
+
+    def object_of(call: re.Match[str]) -> str:
+        at = told(At(int(call[1]), int(call[2])))
+        return f"call@{at.line}:{at.column}"
 
     def old(key: str, value: Any) -> Any:
-        return pattern.sub(lambda name: renamed[name[0]], value) if key in _NAMES and isinstance(value, str) else value
+        if key not in _NAMES or not isinstance(value, str):
+            return value
+        named = pattern.sub(lambda name: renamed[name[0]], value) if pattern else value
+        return _OBJECT.sub(object_of, named)
 
-    return lambda it: {key: old(key, value) for key, value in it.items()}
+    def hook(it: dict[str, Any]) -> dict[str, Any]:
+        if isinstance(it.get("line"), int) and isinstance(it.get("column"), int):
+            stands = At(it["line"], it["column"])
+            at = told(stands)
+            return {**it, "line": at.line, "column": at.column, "stands": stands}
+        return {key: old(key, value) for key, value in it.items()}
+
+    return hook
 
 
 def _at(place: dict[str, Any]) -> At:
@@ -144,7 +167,8 @@ def _at(place: dict[str, Any]) -> At:
 
 
 def _skip(it: dict[str, Any]) -> Skip:
-    return Skip(it["reason"], it.get("kind", ""), _at(it["place"]) if "place" in it else None, it.get("count"))
+    place = it.get("place")
+    return Skip(it["reason"], it.get("kind", ""), _at(place) if place else None, it.get("count"), place.get("stands") if place else None)
 
 
 def _function(it: dict[str, Any]) -> Function:

@@ -7,7 +7,7 @@ import unittest
 from nalvegop.filter import Filter
 
 _HEAD = """\
-struct s { int a; int *b; }; int g(int);
+struct s { int a; int *b; }; int g(int); static struct s *all = 0;
 int h(struct s *s, const char *t, int n, unsigned k)
 {
 """
@@ -36,20 +36,18 @@ class BlockValues(unittest.TestCase):
         for before, after in {
             "n = ({ typeof(k) b = k; b; });": "{ unsigned b = k; n = b; }",
             "const char *e = ({ __typeof__(t) b = t; b; });": "const char *e ; { const char * b = t; e = b; }",
+            "typeof(t) b = t;": "const char * b = t;",
+            "typeof(all) b = all;": "struct s * b = all;",
             "struct s *e = ({ __typeof__(s) b = s; b; });": "struct s *e ; { struct s * b = s; e = b; }",
         }.items():
             self.check(before, after)
-        for same in ("typeof(t) b = t;", "int b[2]; typeof(b) c;", "{ char b; } { int b; typeof(b) c; }", "int b, c; typeof(c) d;", "typeof(g) *b;"):
+        for same in ("int b[2]; typeof(b) c;", "{ char b; } { int b; typeof(b) c; }", "int b, c; typeof(c) d;", "typeof(g) *b;"):
             self.check(same, same)
 
     def test_what_stays(self) -> None:
         for body in (
             "n = ({ int n = 1; n; });",
             "s->a = ({ int b = 1; s = s + 0; b; });",
-            "n = ({ int b = 1; g(b); });",
-            "n = ({ int b = 1; b; }) + 1;",
-            "return ({ int b = 1; b; });",
-            "n = ({ int b = 1; b; }); g(n);",
             "int c = ({ int b = 1; b; }), d;",
             "n = ({ int b = 1; if (b) n++; });",
             "n = ({ int b; });",

@@ -229,7 +229,7 @@ function("f", at + 2, 6, [], [ends], [{"kind": "leak", "place": place(at + 4, 7)
 
     @needs_checker
     def test_findings_and_strictness(self) -> None:
-        with folder(a__c=_LOST, b__c="float f(float x) { return x; }\n") as room:
+        with folder(a__c=_LOST, b__c="int f(int n, ...) { return n; }\n") as room:
             self.assertEqual(nalvegop("check", "a.c", at=room).returncode, 1)
             self.assertEqual(nalvegop("check", "--only", "double", "a.c", at=room).returncode, 0)
             self.assertEqual(nalvegop("check", "b.c", at=room).returncode, 0)
@@ -287,6 +287,16 @@ class Forms(unittest.TestCase):
                 said = nalvegop("check", "--format", form, name, at=room)
                 self.assertEqual((said.returncode, "Traceback" in said.stderr), (1, False), said.stderr)
             self.assertIn("a%FF%20%27b%27.c", said.stdout)
+
+    @needs_checker
+    def test_colours_of_a_terminal(self) -> None:
+        with folder(a__c=_LOST) as room:
+            plain = nalvegop("check", "a.c", at=room).stdout
+            self.assertNotIn("\033", plain)
+            self.assertEqual(nalvegop("check", "--color", "never", "a.c", at=room).stdout, plain)
+            said = nalvegop("check", "--color", "always", "a.c", at=room).stdout
+            self.assertIn("\033[1ma.c:4:12:\033[m \033[1;35mwarning:\033[m ", said)
+            self.assertEqual(re.sub(r"\033\[[\d;]*m", "", said), plain)
 
     @needs_checker
     def test_explain_and_rows(self) -> None:

@@ -3,7 +3,7 @@
 
 struct queue {
 	pthread_mutex_t mutex;
-	union word word;
+	struct word word;
 	char *text;
 };
 
@@ -13,7 +13,7 @@ static void queue_unlock(struct queue *q)
 }
 
 /* passed over: it tries to lock, unlocks by way of another function, and allocates */
-static int queue_fill(struct queue *q)
+static int queue_fill(struct queue *q, ...)
 {
 	if (pthread_mutex_trylock(&q->mutex))
 		return 0;
@@ -23,13 +23,13 @@ static int queue_fill(struct queue *q)
 }
 
 /* passed over: it frees */
-static void queue_clear(struct queue *q)
+static void queue_clear(struct queue *q, ...)
 {
-	free(q->text + q->word.bytes[0]);
+	free(q->word.number > 0 ? q->text : NULL);
 }
 
 /* passed over, but it does nothing that counts */
-static int queue_length(struct queue *q)
+static int queue_length(struct queue *q, ...)
 {
 	return q->word.number;
 }
@@ -57,7 +57,7 @@ void queue_add(struct queue *q)
 /* a function that is only named is not called */
 void *queue_names(void)
 {
-	void (*clear)(struct queue *q) = queue_clear;
+	void (*clear)(struct queue *q, ...) = queue_clear;
 
 	return clear ? 0 : malloc(1);
 }

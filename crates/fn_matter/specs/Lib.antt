@@ -1,0 +1,5 @@
+pub mod Words
+pub mod Numbers
+pub mod Shapes
+pub mod Leads
+pub mod Matter

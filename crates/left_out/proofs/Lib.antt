@@ -1,0 +1,5 @@
+mod Lists
+mod OneRow
+mod Nothing
+mod Alike
+mod Whole

@@ -1,0 +1,10 @@
+pub mod Names
+pub mod Gathered
+pub mod Laid
+pub mod Evaluated
+pub mod Executed
+pub mod Said
+pub mod Ambiguous
+pub mod Texts
+pub mod Judged
+pub mod Programs
