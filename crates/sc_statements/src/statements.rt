@@ -36,6 +36,7 @@ pub fn switched(
     if is_integer(&e.ctype) {
         Ok(Some(promote(alloc, e)?))
     } else {
+        drop(e);
         Ok(ill_typed(walk, IllTyped::Operand, at))
     }
 }
@@ -54,9 +55,15 @@ pub fn case_number(
     ensures { Gives (spec.case_number w at (option_copied t.entry) e n walk.old) result walk.new }
 {
     match n {
-        None => Ok(ill_typed(walk, IllTyped::Constant, at)),
+        None => {
+            drop(e);
+            Ok(ill_typed(walk, IllTyped::Constant, at))
+        }
         Some(n) => match t {
-            None => Ok(None),
+            None => {
+                drop(e);
+                Ok(None)
+            }
             Some(t) => {
                 let n = number_converted(w, &e.ctype, t, n);
                 made(alloc, TStmt::Case(n, e, at))
@@ -129,7 +136,10 @@ pub fn return_as(
     ensures { Gives (spec.return_as w at (option_copied t.entry) e walk.old) result walk.new }
 {
     match t {
-        None => Ok(None),
+        None => {
+            drop(e);
+            Ok(None)
+        }
         Some(t) => {
             if is_void(t) {
                 return_void(alloc, walk, at, e)
