@@ -30,9 +30,17 @@ fn with_item(
     ensures { IfOk result (λ more. more ≡ spec.with_item way e items) }
 {
     match e {
-        None => Ok(None),
+        None => {
+            drop(way);
+            drop(items);
+            Ok(None)
+        }
         Some(value) => match items {
-            None => Ok(None),
+            None => {
+                drop(way);
+                drop(value);
+                Ok(None)
+            }
             Some(mut items) => {
                 items.push(TInitItem { value, way })?;
                 Ok(Some(items))
@@ -109,11 +117,18 @@ fn put_value(
 ) -> Result<Filling, OutOfMemory>
     ensures { Gives (spec.put_value w at t.now way.now.items left items e walk.old) result walk.new }
 {
-    let e = value(alloc, walk, e)?;
-    let e = converted_if(alloc, walk, w, at, t, e)?;
-    let way = copied(way)?;
-    let items = with_item(Some(way), e, items)?;
-    Ok(Filling { items, left })
+    match copied(way) {
+        Err(fault) => {
+            drop(e);
+            Err(fault)
+        }
+        Ok(way) => {
+            let e = value(alloc, walk, e)?;
+            let e = converted_if(alloc, walk, w, at, t, e)?;
+            let items = with_item(Some(way), e, items)?;
+            Ok(Filling { items, left })
+        }
+    }
 }
 
 // A scalar takes one value.
@@ -140,7 +155,7 @@ fn refused(walk: &mut Walk, at: Pos, filling: Filling) -> Result<Filling, OutOfM
     ensures { Gives (spec.refused at filling walk.old) result walk.new }
 {
     let Filling { items, mut left } = filling;
-    left.pop();
+    drop(left.pop());
     let e = unsupported(walk, Unsupported::Init, at);
     let items = with_item(None, e, items)?;
     Ok(Filling { items, left })

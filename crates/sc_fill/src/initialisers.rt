@@ -53,7 +53,7 @@ fn each_value(
     ensures { Gives (spec.each_value values walk.old) result walk.new }
 {
     for e in values.into_vec() {
-        value_if(alloc, walk, e)?;
+        drop(value_if(alloc, walk, e)?);
     }
     Ok(None)
 }
@@ -131,7 +131,10 @@ fn value_as(
     match e {
         None => Ok(None),
         Some(e) => match t {
-            None => Ok(None),
+            None => {
+                drop(e);
+                Ok(None)
+            }
             Some(t) => converted(alloc, walk, w, IllTyped::Operand, at, t, e),
         },
     }
@@ -150,6 +153,7 @@ pub fn one_value(
     ensures { Gives (spec.one_value w at (option_copied t.entry) e walk.old) result walk.new }
 {
     if is_string(&e) && is_array_if(t) {
+        drop(e);
         Ok(unsupported(walk, Unsupported::Init, at))
     } else {
         let e = value(alloc, walk, e)?;
