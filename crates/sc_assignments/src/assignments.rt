@@ -1,7 +1,12 @@
 // `++`, `--` (C11 6.5.2.4, 6.5.3.1) and assignment (C11 6.5.16).
+//
+// An operand that a branch does not use is dropped by a call of `drop`: each drop that is not written out costs the
+// check of its function ten seconds, and several of them more than their sum.
 
 ghost use Rattle.std.specs.Prelude.{◌≡◌, IfOk};
 ghost use Rattle.sc_rules.specs.Gives.{Gives};
+ghost use Rattle.sc_rules.specs.Conversions.{node as node_of, type_of};
+ghost use Rattle.sc_typed.specs.declared.expr.What.TheVariants as what;
 ghost use Rattle.sc_assignments.specs.Assignments as spec;
 
 use sc_base::{Boxed, IllTyped, OutOfMemory, Unsupported};
@@ -72,7 +77,21 @@ fn step_operand(
     if steps_unless(walk, opaque, &a, p) {
         Ok(Some(a))
     } else {
+        drop(a);
         Ok(None)
+    }
+}
+
+// An expression on the heap, and a copy of its type.
+fn boxed_with_type(alloc: Global, a: TExpr) -> Result<(Boxed<TExpr>, CType), OutOfMemory>
+    ensures { IfOk result (λ x. x ≡ (a, type_of a)) }
+{
+    match copy_type(alloc, &a.ctype) {
+        Err(e) => {
+            drop(a);
+            Err(e)
+        }
+        Ok(t) => Ok((Boxed::new(alloc, a)?, t)),
     }
 }
 
@@ -89,8 +108,8 @@ pub fn pre_increment(
     match step_operand(alloc, walk, p, a)? {
         None => Ok(None),
         Some(a) => {
-            let t = copy_type(alloc, &a.ctype)?;
-            Ok(Some(node(What::PreInc(step, Boxed::new(alloc, a)?), t, p)))
+            let (a, t) = boxed_with_type(alloc, a)?;
+            Ok(Some(node(What::PreInc(step, a), t, p)))
         }
     }
 }
@@ -108,8 +127,8 @@ pub fn post_increment(
     match step_operand(alloc, walk, p, a)? {
         None => Ok(None),
         Some(a) => {
-            let t = copy_type(alloc, &a.ctype)?;
-            Ok(Some(node(What::PostInc(step, Boxed::new(alloc, a)?), t, p)))
+            let (a, t) = boxed_with_type(alloc, a)?;
+            Ok(Some(node(What::PostInc(step, a), t, p)))
         }
     }
 }
@@ -158,9 +177,12 @@ fn working_by(
 {
     match m {
         Manner::Shifting => {
-            let ctype = CType::Int(promoted_kind(&a.ctype));
+            let kind = promoted_kind(&a.ctype);
             let right = promote(alloc, b)?;
-            Ok(Working { ctype, right })
+            Ok(Working {
+                ctype: CType::Int(kind),
+                right,
+            })
         }
         Manner::Logical
         | Manner::Equality
@@ -191,10 +213,12 @@ fn compound(
 {
     let m = manner_of(op);
     if is_additive(m) && some_pointer(a, &b) {
+        drop(b);
         Ok(unsupported(walk, Unsupported::Arith, p.token))
     } else if both_integers(a, &b) {
         Ok(Some(working_by(alloc, m, w, a, b)?))
     } else {
+        drop(b);
         Ok(ill_typed(walk, IllTyped::Operand, p.token))
     }
 }
@@ -209,10 +233,13 @@ fn working_if(
 {
     match right {
         None => Ok(None),
-        Some(right) => {
-            let ctype = copy_type(alloc, t)?;
-            Ok(Some(Working { ctype, right }))
-        }
+        Some(right) => match copy_type(alloc, t) {
+            Err(e) => {
+                drop(right);
+                Err(e)
+            }
+            Ok(ctype) => Ok(Some(Working { ctype, right })),
+        },
     }
 }
 
@@ -237,6 +264,29 @@ fn working_for(
     }
 }
 
+// The assignment to an object.
+fn assign(
+    alloc: Global,
+    op: AssignOp,
+    p: Place,
+    a: TExpr,
+    working: Working,
+) -> Result<TExpr, OutOfMemory>
+    ensures { IfOk result (λ x. x ≡ node_of (what.Assign op working.ctype a working.right) (type_of a) p) }
+{
+    match boxed_with_type(alloc, a) {
+        Err(e) => {
+            drop(working);
+            Err(e)
+        }
+        Ok((a, t)) => {
+            let Working { ctype, right } = working;
+            let right = Boxed::new(alloc, right)?;
+            Ok(node(What::Assign(op, ctype, a, right), t, p))
+        }
+    }
+}
+
 // The assignment, where its left side names an object and its right side converts.
 fn assigned(
     alloc: Global,
@@ -249,14 +299,16 @@ fn assigned(
     ensures { IfOk result (λ x. x ≡ spec.assigned names op p a right) }
 {
     match right {
-        None => Ok(None),
-        Some(Working { ctype, right }) => {
+        None => {
+            drop(a);
+            Ok(None)
+        }
+        Some(working) => {
             if names {
-                let t = copy_type(alloc, &a.ctype)?;
-                let a = Boxed::new(alloc, a)?;
-                let right = Boxed::new(alloc, right)?;
-                Ok(Some(node(What::Assign(op, ctype, a, right), t, p)))
+                Ok(Some(assign(alloc, op, p, a, working)?))
             } else {
+                drop(a);
+                drop(working);
                 Ok(None)
             }
         }
@@ -294,8 +346,13 @@ fn assignment_of(
     ensures { Gives (spec.assignment_of w op p a b walk.old) result walk.new }
 {
     let names = holds_or(walk, is_lvalue(&a), ill_typed_at(IllTyped::Lvalue, p.token));
-    let right = assign_value(alloc, walk, w, op, p, &a, b)?;
-    assigned(alloc, names, op, p, a, right)
+    match assign_value(alloc, walk, w, op, p, &a, b) {
+        Err(e) => {
+            drop(a);
+            Err(e)
+        }
+        Ok(right) => assigned(alloc, names, op, p, a, right),
+    }
 }
 
 // An object of an opaque type is not assigned to.
@@ -320,10 +377,18 @@ pub fn assignment(
     ensures { Gives (spec.assignment w op p a b walk.old) result walk.new }
 {
     match opaque_kind(&a.ctype) {
-        None => {
-            let a = decayed(alloc, a)?;
-            assignment_of(alloc, walk, w, op, p, a, b)
+        None => match decayed(alloc, a) {
+            Err(e) => {
+                drop(b);
+                Err(e)
+            }
+            Ok(a) => assignment_of(alloc, walk, w, op, p, a, b),
+        },
+        Some(kind) => {
+            let refused = opaque_assigned(walk, kind, p, &a);
+            drop(a);
+            drop(b);
+            Ok(refused)
         }
-        Some(kind) => Ok(opaque_assigned(walk, kind, p, &a)),
     }
 }

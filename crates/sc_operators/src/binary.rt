@@ -1,10 +1,13 @@
 // Operators between two operands (C11 6.5.5 to 6.5.14), by the manner in which they treat them.
+//
+// An operand that a branch does not use is dropped by a call of `drop`: each drop that is not written out costs the
+// check of its function ten seconds, and several of them more than their sum.
 
 ghost use Rattle.std.specs.Prelude.{◌≡◌, IfOk};
 ghost use Rattle.sc_tree.specs.declared.ctype.CType.TheVariants as ty;
 ghost use Rattle.sc_typed.specs.declared.expr.What.TheVariants as what;
 ghost use Rattle.sc_rules.specs.Gives.{Gives};
-ghost use Rattle.sc_rules.specs.Conversions.{node, to};
+ghost use Rattle.sc_rules.specs.Conversions.{node, to, promote, type_of};
 ghost use Rattle.sc_operators.specs.Binary as spec;
 
 use sc_base::{Boxed, IllTyped, OutOfMemory, Unsupported};
@@ -17,6 +20,23 @@ use sc_typed::{TExpr, What};
 use sc_types::{is_null_constant, is_pointer, is_scalar, promoted_kind};
 use std::alloc::Global;
 
+// Both operands on the heap.
+pub fn both_boxed(
+    alloc: Global,
+    a: TExpr,
+    b: TExpr,
+) -> Result<(Boxed<TExpr>, Boxed<TExpr>), OutOfMemory>
+    ensures { IfOk result (λ x. x ≡ (a, b)) }
+{
+    match Boxed::new(alloc, a) {
+        Err(e) => {
+            drop(b);
+            Err(e)
+        }
+        Ok(a) => Ok((a, Boxed::new(alloc, b)?)),
+    }
+}
+
 // `a op b` of type `t`.
 fn operation(
     alloc: Global,
@@ -28,13 +48,36 @@ fn operation(
 ) -> Result<TExpr, OutOfMemory>
     ensures { IfOk result (λ x. x ≡ node (what.Binary op a b) t p) }
 {
-    let a = Boxed::new(alloc, a)?;
-    let b = Boxed::new(alloc, b)?;
+    let (a, b) = both_boxed(alloc, a, b)?;
     Ok(TExpr {
         what: What::Binary(op, a, b),
         ctype: t,
         place: p,
     })
+}
+
+// Both operands in one kind.
+fn both_to_kind(
+    alloc: Global,
+    kind: IntKind,
+    a: TExpr,
+    b: TExpr,
+) -> Result<(TExpr, TExpr), OutOfMemory>
+    ensures { IfOk result (λ x. x ≡ (to (ty.Int kind) a, to (ty.Int kind) b)) }
+{
+    match to_kind(alloc, kind, a) {
+        Err(e) => {
+            drop(b);
+            Err(e)
+        }
+        Ok(a) => match to_kind(alloc, kind, b) {
+            Err(e) => {
+                drop(a);
+                Err(e)
+            }
+            Ok(b) => Ok((a, b)),
+        },
+    }
 }
 
 // `a op b` of type `t`, with both operands in one kind.
@@ -49,8 +92,7 @@ fn operation_in(
 ) -> Result<TExpr, OutOfMemory>
     ensures { IfOk result (λ x. x ≡ node (what.Binary op (to (ty.Int kind) a) (to (ty.Int kind) b)) t p) }
 {
-    let a = to_kind(alloc, kind, a)?;
-    let b = to_kind(alloc, kind, b)?;
+    let (a, b) = both_to_kind(alloc, kind, a, b)?;
     operation(alloc, op, a, b, t, p)
 }
 
@@ -71,6 +113,8 @@ fn on_common(
         let t = CType::Int(kind);
         Ok(Some(operation_in(alloc, kind, op, a, b, t, p)?))
     } else {
+        drop(a);
+        drop(b);
         Ok(ill_typed(walk, IllTyped::Operand, p.token))
     }
 }
@@ -92,6 +136,8 @@ fn compared(
         let t = CType::Int(IntKind::Int);
         Ok(Some(operation_in(alloc, kind, op, a, b, t, p)?))
     } else {
+        drop(a);
+        drop(b);
         Ok(ill_typed(walk, IllTyped::Operand, p.token))
     }
 }
@@ -109,6 +155,8 @@ fn additive(
     ensures { Gives (spec.additive w op p a b walk.old) result walk.new }
 {
     if some_pointer(&a, &b) {
+        drop(a);
+        drop(b);
         Ok(unsupported(walk, Unsupported::Arith, p.token))
     } else {
         on_common(alloc, walk, w, op, p, a, b)
@@ -128,6 +176,8 @@ fn ordering(
     ensures { Gives (spec.ordering w op p a b walk.old) result walk.new }
 {
     if some_pointer(&a, &b) {
+        drop(a);
+        drop(b);
         Ok(unsupported(walk, Unsupported::Order, p.token))
     } else {
         compared(alloc, walk, w, op, p, a, b)
@@ -148,6 +198,19 @@ fn left_follows(w: Widths, a: &TExpr, b: &TExpr) -> bool
     !is_pointer(&a.ctype) || (is_null_constant(w, a) && !is_null_constant(w, b))
 }
 
+// An operand in the type of another one, and that one.
+fn to_type_of(alloc: Global, goes: TExpr, stays: TExpr) -> Result<(TExpr, TExpr), OutOfMemory>
+    ensures { IfOk result (λ x. x ≡ (to (type_of stays) goes, stays)) }
+{
+    match to(alloc, &stays.ctype, goes) {
+        Err(e) => {
+            drop(stays);
+            Err(e)
+        }
+        Ok(gone) => Ok((gone, stays)),
+    }
+}
+
 // Two pointers, or a pointer and a null constant, compared: one goes to the other's type.
 fn pointers_compared(
     alloc: Global,
@@ -161,10 +224,10 @@ fn pointers_compared(
 {
     let int = CType::Int(IntKind::Int);
     if left_follows(w, &a, &b) {
-        let a = to(alloc, &b.ctype, a)?;
+        let (a, b) = to_type_of(alloc, a, b)?;
         operation(alloc, op, a, b, int, p)
     } else {
-        let b = to(alloc, &a.ctype, b)?;
+        let (b, a) = to_type_of(alloc, b, a)?;
         operation(alloc, op, a, b, int, p)
     }
 }
@@ -184,6 +247,8 @@ fn pointer_equality(
     if is_comparable(w, &a) && is_comparable(w, &b) {
         Ok(Some(pointers_compared(alloc, w, op, p, a, b)?))
     } else {
+        drop(a);
+        drop(b);
         Ok(ill_typed(walk, IllTyped::Operand, p.token))
     }
 }
@@ -207,6 +272,25 @@ fn equality(
     }
 }
 
+// Both operands promoted.
+fn both_promoted(alloc: Global, a: TExpr, b: TExpr) -> Result<(TExpr, TExpr), OutOfMemory>
+    ensures { IfOk result (λ x. x ≡ (promote a, promote b)) }
+{
+    match promote(alloc, a) {
+        Err(e) => {
+            drop(b);
+            Err(e)
+        }
+        Ok(a) => match promote(alloc, b) {
+            Err(e) => {
+                drop(a);
+                Err(e)
+            }
+            Ok(b) => Ok((a, b)),
+        },
+    }
+}
+
 // `<<` and `>>`: each operand promoted, and the left one's kind as that of the result.
 fn shifting(
     alloc: Global,
@@ -220,10 +304,11 @@ fn shifting(
 {
     if both_integers(&a, &b) {
         let t = CType::Int(promoted_kind(&a.ctype));
-        let a = promote(alloc, a)?;
-        let b = promote(alloc, b)?;
+        let (a, b) = both_promoted(alloc, a, b)?;
         Ok(Some(operation(alloc, op, a, b, t, p)?))
     } else {
+        drop(a);
+        drop(b);
         Ok(ill_typed(walk, IllTyped::Operand, p.token))
     }
 }
@@ -242,6 +327,8 @@ fn logical(
     if is_scalar(&a.ctype) && is_scalar(&b.ctype) {
         Ok(Some(operation(alloc, op, a, b, CType::Int(IntKind::Int), p)?))
     } else {
+        drop(a);
+        drop(b);
         Ok(ill_typed(walk, IllTyped::Operand, p.token))
     }
 }

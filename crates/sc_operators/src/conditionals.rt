@@ -1,10 +1,13 @@
 // `? :` and the comma operator (C11 6.5.15, 6.5.17).
+//
+// An operand that a branch does not use is dropped by a call of `drop`, as in `binary`.
 
 ghost use Rattle.std.specs.Prelude.{◌≡◌, IfOk, Some};
 ghost use Rattle.sc_rules.specs.Gives.{Gives};
 ghost use Rattle.sc_rules.specs.Conversions.{to as in_type};
 ghost use Rattle.sc_operators.specs.Conditionals as spec;
 
+use crate::binary::both_boxed;
 use sc_base::{Boxed, IllTyped, OutOfMemory, Unsupported};
 use sc_manners::{both_integers, some_pointer};
 use sc_rules::{Walk, common_of, ill_typed, node, to, unsupported};
@@ -78,6 +81,24 @@ fn arm(alloc: Global, t: &CType, e: TExpr) -> Result<Boxed<TExpr>, OutOfMemory>
     Ok(Boxed::new(alloc, e)?)
 }
 
+// Both arms of `a ? b : c` in the type of the whole.
+fn both_arms(
+    alloc: Global,
+    t: &CType,
+    b: TExpr,
+    c: TExpr,
+) -> Result<(Boxed<TExpr>, Boxed<TExpr>), OutOfMemory>
+    ensures { IfOk result (λ x. x ≡ (in_type t.now b, in_type t.now c)) }
+{
+    match arm(alloc, t, b) {
+        Err(e) => {
+            drop(c);
+            Err(e)
+        }
+        Ok(b) => Ok((b, arm(alloc, t, c)?)),
+    }
+}
+
 // `a ? b : c` with both arms in one type.
 fn chosen(
     alloc: Global,
@@ -89,10 +110,16 @@ fn chosen(
 ) -> Result<TExpr, OutOfMemory>
     ensures { IfOk result (λ x. x ≡ spec.chosen t p a b c) }
 {
-    let a = Boxed::new(alloc, a)?;
-    let b = arm(alloc, &t, b)?;
-    let c = arm(alloc, &t, c)?;
-    Ok(node(What::Cond(a, b, c), t, p))
+    match both_arms(alloc, &t, b, c) {
+        Err(e) => {
+            drop(a);
+            Err(e)
+        }
+        Ok((b, c)) => {
+            let a = Boxed::new(alloc, a)?;
+            Ok(node(What::Cond(a, b, c), t, p))
+        }
+    }
 }
 
 // `a ? b : c`, where its type is known.
@@ -108,11 +135,19 @@ fn conditional_to(
     ensures { Gives (spec.conditional_to t p a b c walk.old) result walk.new }
 {
     match t {
-        None => Ok(ill_typed(walk, IllTyped::Operand, p.token)),
+        None => {
+            drop(a);
+            drop(b);
+            drop(c);
+            Ok(ill_typed(walk, IllTyped::Operand, p.token))
+        }
         Some(t) => {
             if is_scalar(&a.ctype) {
                 Ok(Some(chosen(alloc, t, p, a, b, c)?))
             } else {
+                drop(a);
+                drop(b);
+                drop(c);
                 Ok(ill_typed(walk, IllTyped::Operand, p.token))
             }
         }
@@ -127,7 +162,9 @@ fn no_aggregate(walk: &mut Walk, e: Option<TExpr>) -> Option<TExpr>
         None => None,
         Some(e) => {
             if is_aggregate(&e.ctype) {
-                unsupported(walk, Unsupported::Struct, e.place.first)
+                let at = e.place.first;
+                drop(e);
+                unsupported(walk, Unsupported::Struct, at)
             } else {
                 Some(e)
             }
@@ -148,11 +185,20 @@ fn with_third(
     ensures { Gives (spec.conditional_of w p (Some a) (Some b) c walk.old) result walk.new }
 {
     match c {
-        None => Ok(None),
-        Some(c) => {
-            let t = arms_type(alloc, w, &b, &c)?;
-            conditional_to(alloc, walk, t, p, a, b, c)
+        None => {
+            drop(a);
+            drop(b);
+            Ok(None)
         }
+        Some(c) => match arms_type(alloc, w, &b, &c) {
+            Err(e) => {
+                drop(a);
+                drop(b);
+                drop(c);
+                Err(e)
+            }
+            Ok(t) => conditional_to(alloc, walk, t, p, a, b, c),
+        },
     }
 }
 
@@ -169,7 +215,11 @@ fn with_second(
     ensures { Gives (spec.conditional_of w p (Some a) b c walk.old) result walk.new }
 {
     match b {
-        None => Ok(None),
+        None => {
+            drop(a);
+            drop(c);
+            Ok(None)
+        }
         Some(b) => with_third(alloc, walk, w, p, a, b, c),
     }
 }
@@ -187,7 +237,11 @@ fn conditional_of(
     ensures { Gives (spec.conditional_of w p a b c walk.old) result walk.new }
 {
     match a {
-        None => Ok(None),
+        None => {
+            drop(b);
+            drop(c);
+            Ok(None)
+        }
         Some(a) => with_second(alloc, walk, w, p, a, b, c),
     }
 }
@@ -214,8 +268,15 @@ pub fn conditional(
 pub fn comma(alloc: Global, p: Place, a: TExpr, b: TExpr) -> Result<TExpr, OutOfMemory>
     ensures { IfOk result (λ x. x ≡ spec.comma p a b) }
 {
-    let t = copy_type(alloc, &b.ctype)?;
-    let a = Boxed::new(alloc, a)?;
-    let b = Boxed::new(alloc, b)?;
-    Ok(node(What::Comma(a, b), t, p))
+    match copy_type(alloc, &b.ctype) {
+        Err(e) => {
+            drop(a);
+            drop(b);
+            Err(e)
+        }
+        Ok(t) => {
+            let (a, b) = both_boxed(alloc, a, b)?;
+            Ok(node(What::Comma(a, b), t, p))
+        }
+    }
 }

@@ -75,12 +75,14 @@ pub fn owned(bare: bool, own: Own, shape: Shape) -> Shape
     ensures { result ≡ spec.owned bare own shape }
 {
     if bare {
-        let Shape { ctype, .. } = shape;
+        let Shape { ctype, own: inner } = shape;
+        drop(inner);
         Shape {
             ctype,
             own: Some(own),
         }
     } else {
+        drop(own);
         shape
     }
 }

@@ -1,5 +1,8 @@
 // The walk over expressions, specifiers and declarators (C11 6.5, 6.7). Each function types the parts of what it is
 // given, and then asks the rule of the whole.
+//
+// What a failing step leaves is dropped by a call of `drop`: each drop of an expression that is not written out costs
+// the check of its function ten seconds, and several of them more than their sum.
 
 ghost use Rattle.std.specs.Prelude.{◌≡◌, [], None, Some, map};
 ghost use Rattle.sc_rules.specs.Gives.{Gives};
@@ -56,8 +59,13 @@ pub fn expression(
         }
         Expr::Cond(a, b, c, p) => {
             let x = valued_expression(alloc, walk, here, a.get())?;
-            let y = valued_expression(alloc, walk, here, b.get())?;
-            choose_with(alloc, walk, here, c.get(), x, y, *p)
+            match valued_expression(alloc, walk, here, b.get()) {
+                Err(refused) => {
+                    drop(x);
+                    Err(refused)
+                }
+                Ok(y) => choose_with(alloc, walk, here, c.get(), x, y, *p),
+            }
         }
         Expr::Binary(op, a, b, p) => {
             let x = valued_expression(alloc, walk, here, a.get())?;
@@ -115,8 +123,13 @@ fn comma_with(
 ) -> Result<Option<TExpr>, OutOfMemory>
     ensures { Gives (spec.comma_with x (spec.typing (tables.here_of here.now) b.now) p walk.old) result walk.new }
 {
-    let y = valued_expression(alloc, walk, here, b)?;
-    comma_of(alloc, walk, p, x, y)
+    match valued_expression(alloc, walk, here, b) {
+        Err(e) => {
+            drop(x);
+            Err(e)
+        }
+        Ok(y) => comma_of(alloc, walk, p, x, y),
+    }
 }
 
 // `x = b` and its kin
@@ -133,8 +146,13 @@ fn assign_from(
     ensures { Gives (spec.assign_from (tables.here_of here.now) op x
         (spec.typing (tables.here_of here.now) b.now) p walk.old) result walk.new }
 {
-    let y = valued_expression(alloc, walk, here, b)?;
-    assignment_to(alloc, walk, here.widths(), op, p, x, y)
+    match valued_expression(alloc, walk, here, b) {
+        Err(e) => {
+            drop(x);
+            Err(e)
+        }
+        Ok(y) => assignment_to(alloc, walk, here.widths(), op, p, x, y),
+    }
 }
 
 // `x ? y : c`
@@ -151,8 +169,14 @@ fn choose_with(
     ensures { Gives (spec.choose_with (tables.here_of here.now) x y
         (spec.typing (tables.here_of here.now) c.now) p walk.old) result walk.new }
 {
-    let z = valued_expression(alloc, walk, here, c)?;
-    conditional(alloc, walk, here.widths(), p, x, y, z)
+    match valued_expression(alloc, walk, here, c) {
+        Err(e) => {
+            drop(x);
+            drop(y);
+            Err(e)
+        }
+        Ok(z) => conditional(alloc, walk, here.widths(), p, x, y, z),
+    }
 }
 
 // `x op b`
@@ -169,8 +193,13 @@ fn operate_with(
     ensures { Gives (spec.operate_with (tables.here_of here.now) op x
         (spec.typing (tables.here_of here.now) b.now) p walk.old) result walk.new }
 {
-    let y = valued_expression(alloc, walk, here, b)?;
-    binary_of(alloc, walk, here.widths(), op, p, x, y)
+    match valued_expression(alloc, walk, here, b) {
+        Err(e) => {
+            drop(x);
+            Err(e)
+        }
+        Ok(y) => binary_of(alloc, walk, here.widths(), op, p, x, y),
+    }
 }
 
 // `( t ) a`
@@ -186,8 +215,13 @@ fn cast_to(
     ensures { Gives (spec.cast_to (tables.here_of here.now) t
         (spec.typing (tables.here_of here.now) a.now) p walk.old) result walk.new }
 {
-    let x = valued_expression(alloc, walk, here, a)?;
-    cast_of(alloc, walk, here.widths(), p, t, x)
+    match valued_expression(alloc, walk, here, a) {
+        Err(e) => {
+            drop(t);
+            Err(e)
+        }
+        Ok(x) => cast_of(alloc, walk, here.widths(), p, t, x),
+    }
 }
 
 // `op a`
@@ -296,8 +330,13 @@ fn element_at(
 ) -> Result<Option<TExpr>, OutOfMemory>
     ensures { Gives (spec.element_at y (spec.typing (tables.here_of here.now) b.now) p walk.old) result walk.new }
 {
-    let z = valued_expression(alloc, walk, here, b)?;
-    index_of(alloc, walk, p, y, z)
+    match valued_expression(alloc, walk, here, b) {
+        Err(e) => {
+            drop(y);
+            Err(e)
+        }
+        Ok(z) => index_of(alloc, walk, p, y, z),
+    }
 }
 
 // A call of what is called.
@@ -313,8 +352,13 @@ fn call_with(
     ensures { Gives (spec.call_with (tables.here_of here.now) f
         (map (spec.typing (tables.here_of here.now)) es.now) p walk.old) result walk.new }
 {
-    let given = arguments(alloc, walk, here, es)?;
-    finish_call(alloc, walk, here, p, f, given)
+    match arguments(alloc, walk, here, es) {
+        Err(e) => {
+            drop(f);
+            Err(e)
+        }
+        Ok(given) => finish_call(alloc, walk, here, p, f, given),
+    }
 }
 
 // `a . name` and `a -> name`
@@ -470,7 +514,8 @@ fn type_named(
 ) -> Result<Option<CType>, OutOfMemory>
     ensures { Gives (spec.type_named (spec.heading (tables.here_of here.now) h.now) walk.old) result walk.new }
 {
-    let Shape { ctype, .. } = head(alloc, walk, here, h, h.pos)?;
+    let Shape { ctype, own } = head(alloc, walk, here, h, h.pos)?;
+    drop(own);
     Ok(ctype)
 }
 
@@ -502,22 +547,39 @@ pub fn declarator(
                 declarator(alloc, walk, here, inner.get(), at, t)
             }
             Some(e) => {
-                let length = written_length(alloc, walk, here, e.get(), at)?;
-                let element = no_function(walk, at, t);
-                let t = array_of(alloc, element, length)?;
-                declarator(alloc, walk, here, inner.get(), at, t)
+                match written_length(alloc, walk, here, e.get(), at) {
+                    Err(refused) => {
+                        drop(t);
+                        Err(refused)
+                    }
+                    Ok(length) => {
+                        let element = no_function(walk, at, t);
+                        let t = array_of(alloc, element, length)?;
+                        declarator(alloc, walk, here, inner.get(), at, t)
+                    }
+                }
             }
         },
         Declarator::Func(inner, heads, variadic) => match heads {
             None => {
                 let t = no_array(walk, at, t);
-                let own = empty_brackets(alloc, walk, *variadic)?;
-                round_function(alloc, walk, here, inner.get(), own, t, at)
+                match empty_brackets(alloc, walk, *variadic) {
+                    Err(refused) => {
+                        drop(t);
+                        Err(refused)
+                    }
+                    Ok(own) => round_function(alloc, walk, here, inner.get(), own, t, at),
+                }
             }
             Some(heads) => {
                 let t = no_array(walk, at, t);
-                let own = own_parameters(alloc, walk, here, heads, *variadic)?;
-                round_function(alloc, walk, here, inner.get(), own, t, at)
+                match own_parameters(alloc, walk, here, heads, *variadic) {
+                    Err(refused) => {
+                        drop(t);
+                        Err(refused)
+                    }
+                    Ok(own) => round_function(alloc, walk, here, inner.get(), own, t, at),
+                }
             }
         },
     }
@@ -536,7 +598,9 @@ fn written_length(
         (Some (spec.typing (tables.here_of here.now) e.now)) walk.old) result walk.new }
 {
     let x = valued_expression(alloc, walk, here, e)?;
-    Ok(length_given(walk, here.widths(), at, x.as_ref()))
+    let length = length_given(walk, here.widths(), at, x.as_ref());
+    drop(x);
+    Ok(length)
 }
 
 // The declarator round which such a function stands.
@@ -553,9 +617,19 @@ fn round_function(
     ensures { Gives (spec.round_function
         (spec.declaring (tables.here_of here.now) d.now) own result_type at walk.old) result walk.new }
 {
-    let t = function_of(alloc, result_type, &own)?;
-    let shape = declarator(alloc, walk, here, d, at, t)?;
-    Ok(owned(here.is_bare(d), own, shape))
+    match function_of(alloc, result_type, &own) {
+        Err(refused) => {
+            drop(own);
+            Err(refused)
+        }
+        Ok(t) => match declarator(alloc, walk, here, d, at, t) {
+            Err(refused) => {
+                drop(own);
+                Err(refused)
+            }
+            Ok(shape) => Ok(owned(here.is_bare(d), own, shape)),
+        },
+    }
 }
 
 // Parameters, in a scope of their own.
@@ -619,7 +693,8 @@ fn parameter(
 {
     let name = here.declared_name(&h.declarator);
     let at = where_named(name, h.pos);
-    let Shape { ctype, .. } = head(alloc, walk, here, h, at)?;
+    let Shape { ctype, own } = head(alloc, walk, here, h, at)?;
+    drop(own);
     let ctype = bounded(walk, at, adjusted(alloc, ctype)?);
     parameter_of(alloc, walk, number, name, h.pos, ctype)
 }
@@ -761,22 +836,48 @@ fn part(
         None => match &p.width {
             None => with_field(None, t, Some(None), fields),
             Some(e) => {
-                let bits = written_width(alloc, walk, here, e.get())?;
-                with_field(None, t, bits, fields)
+                match written_width(alloc, walk, here, e.get()) {
+                    Err(refused) => {
+                        drop(t);
+                        drop(fields);
+                        Err(refused)
+                    }
+                    Ok(bits) => with_field(None, t, bits, fields),
+                }
             }
         },
         Some(d) => match here.declared_name(d.get()) {
-            None => Ok(None),
-            Some((name, at)) => {
-                let made = new_member_of(alloc, walk, here, name, at, d.get(), t, &fields)?;
-                match &p.width {
-                    None => with_member(made, Some(None), fields),
-                    Some(e) => {
-                        let bits = written_width(alloc, walk, here, e.get())?;
-                        with_member(made, bits, fields)
-                    }
-                }
+            None => {
+                drop(t);
+                drop(fields);
+                Ok(None)
             }
+            Some((name, at)) => match new_member_of(
+                alloc,
+                walk,
+                here,
+                name,
+                at,
+                d.get(),
+                t,
+                &fields,
+            ) {
+                Err(refused) => {
+                    drop(fields);
+                    Err(refused)
+                }
+                Ok(made) => match &p.width {
+                    None => with_member(made, Some(None), fields),
+                    Some(e) => match written_width(alloc, walk, here, e.get()) {
+                        Err(refused) => {
+                            drop(made);
+                            drop(fields);
+                            Err(refused)
+                        }
+                        Ok(bits) => with_member(made, bits, fields),
+                    },
+                },
+            },
         },
     }
 }
@@ -796,7 +897,8 @@ fn new_member_of(
     ensures { Gives (spec.member_named (tables.here_of here.now) name at
         (spec.declaring (tables.here_of here.now) d.now) t fields.now walk.old) result walk.new }
 {
-    let Shape { ctype, .. } = declarator(alloc, walk, here, d, at, t)?;
+    let Shape { ctype, own } = declarator(alloc, walk, here, d, at, t)?;
+    drop(own);
     let ctype = member_object(walk, here.widths(), at, ctype);
     let new = new_member(walk, name, at, fields);
     Ok(NewMember { name, ctype, new })
@@ -814,7 +916,9 @@ fn written_width(
         (Some (spec.typing (tables.here_of here.now) e.now)) walk.old) result walk.new }
 {
     let x = valued_expression(alloc, walk, here, e)?;
-    Ok(width_given(walk, here.widths(), x.as_ref()))
+    let width = width_given(walk, here.widths(), x.as_ref());
+    drop(x);
+    Ok(width)
 }
 
 // An enumeration.
@@ -874,7 +978,9 @@ fn enumerator_number(
         (Some (spec.typing (tables.here_of here.now) e.now)) walk.old) result walk.new }
 {
     let x = valued_expression(alloc, walk, here, e)?;
-    Ok(enumerator_value(walk, here.widths(), next, at, x.as_ref()))
+    let number = enumerator_value(walk, here.widths(), next, at, x.as_ref());
+    drop(x);
+    Ok(number)
 }
 
 // An enumerator: the number of the next one.

@@ -1,4 +1,6 @@
 // Members of structs and unions (C11 6.5.2.3, 6.7.2.1).
+//
+// An expression that a branch does not use is dropped by a call of `drop`, as in `operators`.
 
 ghost use Rattle.std.specs.Prelude.{◌≡◌, ◌-◌, ◌<◌, slice_index_or, IfOk};
 ghost use Rattle.sc_rules.specs.Gives.{Gives};
@@ -204,11 +206,11 @@ fn plain_field(
 ) -> Result<TExpr, OutOfMemory>
     ensures { IfOk result (λ x. x ≡ spec.plain_field structs.now number arrow t.now p e) }
 {
+    let e = Boxed::new(alloc, e)?;
     if number > u32::MAX as usize {
         return Err(OutOfMemory);
     }
     let ctype = field_type(alloc, structs, t, number)?;
-    let e = Boxed::new(alloc, e)?;
     let what = What::Field(e, struct_number(t), number as u32, arrow);
     Ok(node(what, ctype, p))
 }
@@ -226,10 +228,22 @@ fn access(
     ensures { Gives (spec.access found arrow t.now p e walk.old) result walk.new }
 {
     match found {
-        Meant::Missing => Ok(ill_typed(walk, IllTyped::Field, p.token)),
-        Meant::OfUnion => Ok(unsupported(walk, Unsupported::Union, p.token)),
-        Meant::Bits => Ok(unsupported(walk, Unsupported::BitField, p.token)),
-        Meant::Unnamed => Ok(unsupported(walk, Unsupported::Anon, p.token)),
+        Meant::Missing => {
+            drop(e);
+            Ok(ill_typed(walk, IllTyped::Field, p.token))
+        }
+        Meant::OfUnion => {
+            drop(e);
+            Ok(unsupported(walk, Unsupported::Union, p.token))
+        }
+        Meant::Bits => {
+            drop(e);
+            Ok(unsupported(walk, Unsupported::BitField, p.token))
+        }
+        Meant::Unnamed => {
+            drop(e);
+            Ok(unsupported(walk, Unsupported::Anon, p.token))
+        }
         Meant::Plain(number) => {
             let structs = walk.structs.as_slice();
             Ok(Some(plain_field(alloc, structs, number, arrow, t, p, e)?))
@@ -253,6 +267,7 @@ fn field_in(
         let found = find_member(&walk.structs, name, t);
         access(alloc, walk, found, arrow, t, p, e)
     } else {
+        drop(e);
         Ok(ill_typed(walk, IllTyped::Operand, p.token))
     }
 }
@@ -283,6 +298,11 @@ pub fn field(
 ) -> Result<Option<TExpr>, OutOfMemory>
     ensures { Gives (spec.field name arrow p e walk.old) result walk.new }
 {
-    let t = accessed(alloc, arrow, &e.ctype)?;
-    field_in(alloc, walk, name, arrow, &t, p, e)
+    match accessed(alloc, arrow, &e.ctype) {
+        Err(fault) => {
+            drop(e);
+            Err(fault)
+        }
+        Ok(t) => field_in(alloc, walk, name, arrow, &t, p, e),
+    }
 }

@@ -1,7 +1,11 @@
 // Integer constants, operators before one operand, casts, `sizeof` and indexing (C11 6.4.4.1, 6.5.2.1, 6.5.3,
 // 6.5.4).
+//
+// An operand that a branch does not use is dropped by a call of `drop`: each drop that is not written out costs the
+// check of its function ten seconds, and several of them more than their sum.
 
 ghost use Rattle.std.specs.Prelude.{◌≡◌, IfOk};
+ghost use Rattle.sc_tree.specs.declared.ctype.CType.TheVariants as ty;
 ghost use Rattle.sc_typed.specs.Types as types;
 ghost use Rattle.sc_typed.specs.declared.expr.What.TheVariants as what;
 ghost use Rattle.sc_rules.specs.Gives.{Gives};
@@ -70,15 +74,28 @@ fn prefixed(alloc: Global, op: UnaryOp, a: TExpr, t: CType, p: Place) -> Result<
     Ok(node(What::Unary(op, a), t, p))
 }
 
+// The type of pointers to objects of a type.
+fn pointer_to(alloc: Global, t: &CType) -> Result<CType, OutOfMemory>
+    ensures { IfOk result (λ x. x ≡ ty.Ptr t.now) }
+{
+    let pointed = copy_type(alloc, t)?;
+    Ok(CType::Ptr(Boxed::new(alloc, pointed)?))
+}
+
 // `& a`: the operand is an lvalue or a function.
 fn address(alloc: Global, walk: &mut Walk, p: Place, a: TExpr) -> Result<Option<TExpr>, OutOfMemory>
     ensures { Gives (spec.address p a walk.old) result walk.new }
 {
     if is_lvalue(&a) || is_function(&a.ctype) {
-        let pointed = copy_type(alloc, &a.ctype)?;
-        let t = CType::Ptr(Boxed::new(alloc, pointed)?);
-        Ok(Some(prefixed(alloc, UnaryOp::Address, a, t, p)?))
+        match pointer_to(alloc, &a.ctype) {
+            Err(e) => {
+                drop(a);
+                Err(e)
+            }
+            Ok(t) => Ok(Some(prefixed(alloc, UnaryOp::Address, a, t, p)?)),
+        }
     } else {
+        drop(a);
         Ok(ill_typed(walk, IllTyped::Lvalue, p.token))
     }
 }
@@ -97,9 +114,16 @@ fn copy_target(alloc: Global, t: &CType) -> Result<Option<CType>, OutOfMemory>
 fn deref(alloc: Global, walk: &mut Walk, p: Place, a: TExpr) -> Result<Option<TExpr>, OutOfMemory>
     ensures { Gives (spec.deref p a walk.old) result walk.new }
 {
-    match copy_target(alloc, &a.ctype)? {
-        None => Ok(ill_typed(walk, IllTyped::Operand, p.token)),
-        Some(t) => Ok(Some(prefixed(alloc, UnaryOp::Deref, a, t, p)?)),
+    match copy_target(alloc, &a.ctype) {
+        Err(e) => {
+            drop(a);
+            Err(e)
+        }
+        Ok(None) => {
+            drop(a);
+            Ok(ill_typed(walk, IllTyped::Operand, p.token))
+        }
+        Ok(Some(t)) => Ok(Some(prefixed(alloc, UnaryOp::Deref, a, t, p)?)),
     }
 }
 
@@ -115,6 +139,7 @@ fn negation(
     if is_scalar(&a.ctype) {
         Ok(Some(prefixed(alloc, UnaryOp::Not, a, CType::Int(IntKind::Int), p)?))
     } else {
+        drop(a);
         Ok(ill_typed(walk, IllTyped::Operand, p.token))
     }
 }
@@ -130,10 +155,11 @@ fn promoting(
     ensures { Gives (spec.promoting op p a walk.old) result walk.new }
 {
     if is_integer(&a.ctype) {
-        let t = CType::Int(promoted_kind(&a.ctype));
+        let kind = promoted_kind(&a.ctype);
         let a = promote(alloc, a)?;
-        Ok(Some(prefixed(alloc, op, a, t, p)?))
+        Ok(Some(prefixed(alloc, op, a, CType::Int(kind), p)?))
     } else {
+        drop(a);
         Ok(ill_typed(walk, IllTyped::Operand, p.token))
     }
 }
@@ -149,6 +175,7 @@ fn signing(
     ensures { Gives (spec.signing op p a walk.old) result walk.new }
 {
     if is_pointer(&a.ctype) {
+        drop(a);
         Ok(unsupported(walk, Unsupported::Arith, p.token))
     } else {
         promoting(alloc, walk, op, p, a)
@@ -206,8 +233,12 @@ pub fn cast(
         let e = Boxed::new(alloc, e)?;
         Ok(Some(node(What::Cast(e), t, p)))
     } else if is_pointer(&e.ctype) || is_pointer(&t) {
+        drop(e);
+        drop(t);
         Ok(unsupported(walk, Unsupported::Cast, p.token))
     } else {
+        drop(e);
+        drop(t);
         Ok(ill_typed(walk, IllTyped::Operand, p.token))
     }
 }
@@ -224,7 +255,10 @@ pub fn size_of_expression(
     ensures { Gives (spec.size_of_expression w size p e walk.old) result walk.new }
 {
     match size {
-        None => Ok(ill_typed(walk, IllTyped::Incomplete, p.token)),
+        None => {
+            drop(e);
+            Ok(ill_typed(walk, IllTyped::Incomplete, p.token))
+        }
         Some(n) => {
             let e = Boxed::new(alloc, e)?;
             Ok(Some(node(What::SizeofExpr(e, n), size_type(w), p)))
@@ -265,6 +299,23 @@ fn copy_element(alloc: Global, t: &CType) -> Result<Option<CType>, OutOfMemory>
     }
 }
 
+// `a [ k ]` of type `t`.
+fn indexed(alloc: Global, t: CType, p: Place, a: TExpr, k: TExpr) -> Result<TExpr, OutOfMemory>
+    ensures { IfOk result (λ x. x ≡ node_of (what.Index a k) t p) }
+{
+    match Boxed::new(alloc, a) {
+        Err(e) => {
+            drop(t);
+            drop(k);
+            Err(e)
+        }
+        Ok(a) => {
+            let k = Boxed::new(alloc, k)?;
+            Ok(node(What::Index(a, k), t, p))
+        }
+    }
+}
+
 /// `a [ k ]` (C11 6.5.2.1), where `a` is an array that stands as it is or a pointer, and `k` a value.
 pub fn index(
     alloc: Global,
@@ -275,14 +326,24 @@ pub fn index(
 ) -> Result<Option<TExpr>, OutOfMemory>
     ensures { Gives (spec.index p a k walk.old) result walk.new }
 {
-    match copy_element(alloc, &a.ctype)? {
-        None => Ok(ill_typed(walk, IllTyped::Operand, p.token)),
-        Some(t) => {
+    match copy_element(alloc, &a.ctype) {
+        Err(e) => {
+            drop(a);
+            drop(k);
+            Err(e)
+        }
+        Ok(None) => {
+            drop(a);
+            drop(k);
+            Ok(ill_typed(walk, IllTyped::Operand, p.token))
+        }
+        Ok(Some(t)) => {
             if is_integer(&k.ctype) {
-                let a = Boxed::new(alloc, a)?;
-                let k = Boxed::new(alloc, k)?;
-                Ok(Some(node(What::Index(a, k), t, p)))
+                Ok(Some(indexed(alloc, t, p, a, k)?))
             } else {
+                drop(t);
+                drop(a);
+                drop(k);
                 Ok(ill_typed(walk, IllTyped::Operand, p.token))
             }
         }
