@@ -142,7 +142,9 @@ fn number_now(
     ensures { Gives (spec.number_now (tables.here_of here.now) e.now walk.old) result walk.new }
 {
     let value = unnoted_value(alloc, walk, here, e)?;
-    Ok(number_if(here.widths(), value.as_ref()))
+    let number = number_if(here.widths(), value.as_ref());
+    drop(value);
+    Ok(number)
 }
 
 // The part of a type that a designator names.
