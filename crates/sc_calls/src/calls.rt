@@ -1,4 +1,7 @@
 // Calls (C11 6.5.2.2): how many arguments a function takes, and what becomes of each.
+//
+// What a branch does not use is dropped by a call of `drop`: each drop of an expression that is not written out costs
+// the check of its function ten seconds, and several of them more than their sum.
 
 ghost use Rattle.std.specs.Prelude.{◌≡◌, ◌∷◌, IfOk};
 ghost use Rattle.std.specs.Option.{option_copied};
@@ -90,6 +93,7 @@ fn promoted_argument(
     } else if is_pointer(&a.ctype) {
         Ok(Some(a))
     } else {
+        drop(a);
         Ok(ill_typed(walk, IllTyped::Operand, at))
     }
 }
@@ -126,7 +130,9 @@ fn argument(
         None => Ok(None),
         Some(a) => {
             if is_aggregate(&a.ctype) {
-                Ok(unsupported(walk, Unsupported::Struct, a.place.first))
+                let first = a.place.first;
+                drop(a);
+                Ok(unsupported(walk, Unsupported::Struct, first))
             } else {
                 argument_to(alloc, walk, w, at, t, a)
             }
@@ -139,7 +145,10 @@ fn with_last(all: Option<List<TExpr>>, a: Option<TExpr>) -> Result<Option<List<T
     ensures { IfOk result (λ x. x ≡ spec.with_last all a) }
 {
     match all {
-        None => Ok(None),
+        None => {
+            drop(a);
+            Ok(None)
+        }
         Some(mut all) => match a {
             None => Ok(None),
             Some(a) => {
@@ -203,7 +212,11 @@ fn finished_call(
     ensures { IfOk result (λ x. x ≡ spec.finished_call p t f arguments) }
 {
     match arguments {
-        None => Ok(None),
+        None => {
+            drop(t);
+            drop(f);
+            Ok(None)
+        }
         Some(arguments) => {
             let f = Boxed::new(alloc, f)?;
             Ok(Some(node(What::Call(f, arguments), t, p)))
@@ -223,6 +236,9 @@ fn call_with(
     ensures { Gives (spec.call_with p t f arguments walk.old) result walk.new }
 {
     if is_aggregate(&t) {
+        drop(t);
+        drop(f);
+        drop(arguments);
         Ok(unsupported(walk, Unsupported::Struct, p.first))
     } else {
         finished_call(alloc, p, t, f, arguments)
@@ -251,8 +267,14 @@ fn call_taken(
 ) -> Result<Option<TExpr>, OutOfMemory>
     ensures { Gives (spec.call_taken w s p f given walk.old) result walk.new }
 {
-    let all = arguments(alloc, walk, w, p.first, params_of(&s), given)?;
-    call_with(alloc, walk, p, s.result, f, all)
+    match arguments(alloc, walk, w, p.first, params_of(&s), given) {
+        Err(e) => {
+            drop(s);
+            drop(f);
+            Err(e)
+        }
+        Ok(all) => call_with(alloc, walk, p, s.result, f, all),
+    }
 }
 
 // A call of what has that signature; `None` is that of no function.
@@ -268,11 +290,18 @@ fn call_as(
     ensures { Gives (spec.call_as w s p f given walk.old) result walk.new }
 {
     match s {
-        None => Ok(ill_typed(walk, IllTyped::Call, p.first)),
+        None => {
+            drop(f);
+            drop(given);
+            Ok(ill_typed(walk, IllTyped::Call, p.first))
+        }
         Some(s) => {
             if takes_many(&s, given.len()) {
                 call_taken(alloc, walk, w, s, p, f, given)
             } else {
+                drop(s);
+                drop(f);
+                drop(given);
                 Ok(ill_typed(walk, IllTyped::Call, p.first))
             }
         }
@@ -293,10 +322,14 @@ pub fn call(
 {
     match f {
         None => Ok(None),
-        Some(f) => {
-            let s = copy_called(alloc, &f.ctype)?;
-            call_as(alloc, walk, w, s, p, f, given)
-        }
+        Some(f) => match copy_called(alloc, &f.ctype) {
+            Err(e) => {
+                drop(f);
+                drop(given);
+                Err(e)
+            }
+            Ok(s) => call_as(alloc, walk, w, s, p, f, given),
+        },
     }
 }
 
@@ -406,9 +439,18 @@ fn pointer_argument(
     if is_pointer(&a.ctype) {
         Ok(Some(a))
     } else if is_null_constant(w, &a) {
-        let t = CType::Ptr(Boxed::new(alloc, CType::Void)?);
-        Ok(Some(convert(alloc, a, t)?))
+        match Boxed::new(alloc, CType::Void) {
+            Err(e) => {
+                drop(a);
+                Err(e)
+            }
+            Ok(void) => {
+                let t = CType::Ptr(void);
+                Ok(Some(convert(alloc, a, t)?))
+            }
+        }
     } else {
+        drop(a);
         Ok(ill_typed(walk, IllTyped::Operand, at))
     }
 }

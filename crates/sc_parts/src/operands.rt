@@ -1,4 +1,7 @@
 // Operators on operands in which a fault may stand (C11 6.5): a rule is judged where all its operands have types.
+//
+// An operand that a branch does not use is dropped by a call of `drop`: each drop that is not written out costs the
+// check of its function ten seconds, and several of them more than their sum.
 
 ghost use Rattle.std.specs.Prelude.{◌≡◌};
 ghost use Rattle.sc_rules.specs.Conversions as conversions;
@@ -64,9 +67,11 @@ pub fn comma_of(
     ensures { Gives (both x y (spec.comma_of p) walk.old) result walk.new }
 {
     let Some(x) = x else {
+        drop(y);
         return Ok(None);
     };
     let Some(y) = y else {
+        drop(x);
         return Ok(None);
     };
     Ok(Some(comma(alloc, p, x, y)?))
@@ -85,7 +90,10 @@ pub fn assignment_to(
     ensures { Gives (given x (spec.assigned w op p y) walk.old) result walk.new }
 {
     match x {
-        None => Ok(None),
+        None => {
+            drop(y);
+            Ok(None)
+        }
         Some(x) => assignment(alloc, walk, w, op, p, x, y),
     }
 }
@@ -103,9 +111,11 @@ pub fn binary_of(
     ensures { Gives (both x y (binaries.binary w op p) walk.old) result walk.new }
 {
     let Some(x) = x else {
+        drop(y);
         return Ok(None);
     };
     let Some(y) = y else {
+        drop(x);
         return Ok(None);
     };
     binary_operation(alloc, walk, w, op, p, x, y)
@@ -123,9 +133,11 @@ pub fn cast_of(
     ensures { Gives (both t x (unaries.cast w p) walk.old) result walk.new }
 {
     let Some(t) = t else {
+        drop(x);
         return Ok(None);
     };
     let Some(x) = x else {
+        drop(t);
         return Ok(None);
     };
     cast(alloc, walk, w, p, t, x)
@@ -242,9 +254,11 @@ pub fn index_of(
     ensures { Gives (both x y (unaries.index p) walk.old) result walk.new }
 {
     let Some(x) = x else {
+        drop(y);
         return Ok(None);
     };
     let Some(y) = y else {
+        drop(x);
         return Ok(None);
     };
     index(alloc, walk, p, x, y)
