@@ -205,6 +205,16 @@ impl Finding<'_> {
         Ok(())
     }
 
+    /// Makes all components, by the callers of the functions, the one that was left last first.
+    fn make_components(&mut self, alloc: Global) -> Result<(), OutOfMemory> {
+        let order = left_order(alloc, self.rows, self.steps)?;
+        let callers = callers(alloc, self.rows)?;
+        for root in order.iter().rev() {
+            self.component_of(alloc, &callers, *root)?;
+        }
+        Ok(())
+    }
+
     /// Links the functions of the component with that root.
     fn link_down(&mut self, alloc: Global, root: usize) -> Result<(), OutOfMemory> {
         let mut way = vec![in alloc; root]?;
@@ -212,6 +222,17 @@ impl Finding<'_> {
             match way.pop() {
                 Some(function) => self.spread_down(function, &mut way)?,
                 None => break,
+            }
+        }
+        Ok(())
+    }
+
+    /// Links the functions of each component.
+    fn link_components(&mut self, alloc: Global) -> Result<(), OutOfMemory> {
+        for root in 0..self.roots.len() {
+            if let Some(function) = self.roots.get(root) {
+                let function = *function;
+                self.link_down(alloc, function)?;
             }
         }
         Ok(())
@@ -234,32 +255,32 @@ fn numbers(alloc: Global, found: &[Option<usize>]) -> Result<List<usize>, OutOfM
     Ok(numbers)
 }
 
-/// Searches for the components. The time is linear in functions and calls.
-pub fn search(alloc: Global, rows: &[List<u32>]) -> Result<Evidence, OutOfMemory> {
-    let steps = most_steps(rows);
-    let order = left_order(alloc, rows, steps)?;
-    let callers = callers(alloc, rows)?;
-    let mut found = Finding {
+/// A search that has found nothing yet.
+fn begun(alloc: Global, rows: &[List<u32>]) -> Result<Finding<'_>, OutOfMemory> {
+    Ok(Finding {
         rows,
-        steps,
+        steps: most_steps(rows),
         components: none(alloc, rows.len())?,
         roots: Vec::new(alloc),
         down: none(alloc, rows.len())?,
         up: none(alloc, rows.len())?,
-    };
-    for root in order.iter().rev() {
-        found.component_of(alloc, &callers, *root)?;
-    }
-    for root in 0..found.roots.len() {
-        if let Some(function) = found.roots.get(root) {
-            let function = *function;
-            found.link_down(alloc, function)?;
-        }
-    }
+    })
+}
+
+/// What a search has found, once it is over.
+fn evidence(alloc: Global, found: Finding<'_>) -> Result<Evidence, OutOfMemory> {
     Ok(Evidence {
         components: numbers(alloc, &found.components)?,
         down: links(alloc, &found.down)?,
         up: links(alloc, &found.up)?,
         roots: List::from_vec(found.roots),
     })
+}
+
+/// Searches for the components. The time is linear in functions and calls.
+pub fn search(alloc: Global, rows: &[List<u32>]) -> Result<Evidence, OutOfMemory> {
+    let mut found = begun(alloc, rows)?;
+    found.make_components(alloc)?;
+    found.link_components(alloc)?;
+    evidence(alloc, found)
 }
