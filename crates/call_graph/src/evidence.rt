@@ -123,8 +123,8 @@ fn fits(rows: &[List<u32>], row: &[u32], evidence: &Evidence, function: usize) -
         )
 }
 
-/// Whether the evidence is good.
-pub(crate) fn is_evidence(rows: &[List<u32>], evidence: &Evidence) -> bool
+/// Whether the evidence is good. If so, it tells who reaches whom.
+pub fn is_evidence(rows: &[List<u32>], evidence: &Evidence) -> bool
     ensures { result ≡ spec.is_evidence rows.now evidence.now }
 {
     for (function, row) in rows.iter().enumerate() {

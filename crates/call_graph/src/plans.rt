@@ -5,8 +5,8 @@ ghost use Rattle.std.specs.List.Sorted.{IsStrictlyIncreasing};
 ghost use Rattle.plan_core.specs.Graph.{IsGraph, callees, is_cut, plan_of, reaches};
 ghost use Rattle.call_graph.specs.Plans as spec;
 
+use crate::components::search;
 use crate::evidence::{self, Evidence};
-use crate::search::search;
 use crate::tables::{self, table_of};
 use plan_core::{Edge, Plan};
 use sc_base::{List, OutOfMemory};

@@ -26,15 +26,13 @@ fn entry(table: &[List<bool>], caller: usize, callee: usize) -> bool
 fn calls(rows: &[List<u32>], caller: usize, callee: usize) -> bool
     ensures { result ≡ calls rows.now caller callee }
 {
-    let Some(row) = rows.get(caller) else {
-        return false;
-    };
-    for function in row.as_slice() {
-        if callee == *function as usize {
-            return true;
-        }
+    match rows.get(caller) {
+        Some(row) => row
+            .as_slice()
+            .iter()
+            .any(|function| callee == *function as usize),
+        None => false,
     }
-    false
 }
 
 /// Whether a function is the callee or calls it.

@@ -1,6 +1,6 @@
 //! The tests in which solver and checker of certificates meet: what the solver logs is accepted, and what a slow
 //! checker, written from the definition, says of certificates with one change is what `rup_check` says. `small`
-//! has the tests of `rup_check` alone.
+//! has the tests of `rup_check` alone, `verifying` whole runs of `saturn_verify`.
 #![tactic(auto)]
 
 #[cfg(test)]
@@ -13,3 +13,5 @@ mod refuted;
 mod slow;
 #[cfg(test)]
 mod small;
+#[cfg(test)]
+mod verifying;

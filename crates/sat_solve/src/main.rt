@@ -3,17 +3,10 @@
 // `--proof FILE` the file gets a certificate then. Where nothing is decided, it says why and ends with status 1.
 #![tactic(auto)]
 
-mod certify;
-mod decide;
-mod formula;
-mod solver;
-mod values;
 mod words;
 
 use anyhow::Error;
-use certify::{Certified, certify};
-use decide::{Decided, decide};
-use formula::read_formula;
+use cnf_answers::{Certified, Decided, certify, decide, read_formula};
 use std::io::{Read, Write};
 use std::process::ExitCode;
 use std::{env, fs, io};
@@ -100,6 +93,3 @@ fn main(rt: HostRuntime) -> ExitCode {
         Err(_) => ExitCode::from(1),
     }
 }
-
-#[cfg(test)]
-mod tests;

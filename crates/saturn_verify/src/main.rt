@@ -1,20 +1,13 @@
 // The checker of certificates as a program: `saturn_verify FILE` reads a formula with the steps that are to refute
 // it, and writes `verified C S`, the numbers of clauses and steps, or `rejected K`, the first step that is not
-// allowed. `verify_main` has its contract; nothing is decided here.
+// allowed. `verify_main` of `verify_runs` has its contract; nothing is decided here.
 #![tactic(auto)]
-
-mod finding;
-mod lines;
-mod verified;
-mod verify;
-mod words;
 
 use sc_base::{RealFiles, RealSink};
 use std::io::ErrorKind;
 use std::process::ExitCode;
 use std::{env, io};
-use verified::Verified;
-use verify::verify_main;
+use verify_runs::{Verified, verify_main};
 
 // The words of the command line, the program's name first.
 fn command_line(rt: &HostRuntime) -> io::Result<Vec<String>> {
@@ -41,6 +34,3 @@ fn run(rt: &HostRuntime) -> Verified {
 fn main(rt: HostRuntime) -> ExitCode {
     ExitCode::from(run(&rt).number())
 }
-
-#[cfg(test)]
-mod tests;
