@@ -6,10 +6,10 @@ use Rattle.sat_base.specs.declared.certificate.Step.{Step}
 use Rattle.sat_base.specs.Certificates.{IsCertificate}
 use Rattle.drat_text.specs.Certificate.{Contents}
 use Rattle.drat_text.specs.Reading.{spelled, Spells}
-use Rattle.cnf_answers.specs.declared.decide.Decided.{Decided}
-use Rattle.cnf_answers.specs.declared.decide.Decided.TheVariants.{Model, NoModel}
-use Rattle.cnf_answers.specs.declared.certify.Certified.{Certified}
-use Rattle.cnf_answers.specs.declared.certify.Certified.TheVariants as certified
+use Rattle.cnf_answers.specs.declared.deciding.Decided.{Decided}
+use Rattle.cnf_answers.specs.declared.deciding.Decided.TheVariants.{Model, NoModel}
+use Rattle.cnf_answers.specs.declared.certifying.Certified.{Certified}
+use Rattle.cnf_answers.specs.declared.certifying.Certified.TheVariants as certified
 use Rattle.cnf_answers.specs.Models.{IsModel, HasNoModel}
 use Rattle.cnf_answers.specs.Values.{values_text}
 

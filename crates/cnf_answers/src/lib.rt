@@ -1,15 +1,16 @@
 //! The answers to a formula in DIMACS CNF.
 //!
-//! `formula` reads its text. `decide` finds a model or that there is none, and `certify` gives a certificate with the
-//! latter. `solver` puts the clauses into the learning solver and takes the model from it, `values` writes its lines.
+//! `formula` reads its text. `deciding` finds a model or that there is none, and `certifying` gives a certificate with
+//! the latter. `solver` puts the clauses into the learning solver and takes the model from it; `values` writes its
+//! lines.
 #![tactic(auto)]
 
-mod certify;
-mod decide;
+mod certifying;
+mod deciding;
 mod formula;
 mod solver;
 mod values;
 
-pub use certify::{Certified, certify};
-pub use decide::{Decided, decide};
+pub use certifying::{Certified, certify};
+pub use deciding::{Decided, decide};
 pub use formula::{FormulaError, read_formula};

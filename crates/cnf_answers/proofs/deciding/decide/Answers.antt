@@ -1,6 +1,6 @@
 use Rattle.std.proofs.Common.{◌≡◌, rules}
 use Rattle.cnf_answers.proofs.ModelLemmas.{none_of}
-use Rattle.cnf_answers.proofs.decide.decide.Goals as goal
+use Rattle.cnf_answers.proofs.deciding.decide.Goals as goal
 
 pub returns : goal.returns
 returns c =

@@ -2,7 +2,7 @@ use Rattle.std.proofs.Common.{◌≡◌, ◌∙◌, List, sym, subst}
 use Rattle.sat_base.specs.declared.literal.Lit.{Lit}
 use Rattle.sat_base.specs.Logic.{LitsBelow}
 use Rattle.cnf_answers.proofs.ModelLemmas.{true_lits_below}
-use Rattle.cnf_answers.proofs.decide.model_text.Goals as goal
+use Rattle.cnf_answers.proofs.deciding.model_text.Goals as goal
 
 pub values_text-requires : goal.values_text-requires
 values_text-requires c =

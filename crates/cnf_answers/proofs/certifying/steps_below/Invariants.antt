@@ -1,6 +1,6 @@
 use Rattle.std.proofs.Common.{take, All}
 use Rattle.drat_text.specs.Certificate.{StepBelow}
-use Rattle.cnf_answers.proofs.certify.steps_below.Given as goal
+use Rattle.cnf_answers.proofs.certifying.steps_below.Given as goal
 
 -- the variables of the steps so far are below the number of variables
 abbrev pub invariant-loop-step : goal.invariant-loop-step

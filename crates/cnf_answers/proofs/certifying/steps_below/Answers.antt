@@ -3,7 +3,7 @@ use Rattle.std.proofs.Common.{List, take_all, subst, arith, All}
 use Rattle.std.proofs.lemmas.List.Elements.{All-more}
 use Rattle.sat_base.specs.declared.certificate.Step.{Step}
 use Rattle.drat_text.specs.Certificate.{StepBelow}
-use Rattle.cnf_answers.proofs.certify.steps_below.Goals as goal
+use Rattle.cnf_answers.proofs.certifying.steps_below.Goals as goal
 
 pub loop-step-preserved : goal.loop-step-preserved
 loop-step-preserved c =

@@ -2,7 +2,7 @@ use Rattle.std.proofs.Common.{◌≡◌, List, rules, sym, subst}
 use Rattle.sat_base.specs.declared.certificate.Step.{Step}
 use Rattle.sat_base.specs.Certificates.{IsCertificate}
 use Rattle.cnf_answers.proofs.ModelLemmas.{none_of, certificate_of}
-use Rattle.cnf_answers.proofs.certify.certify.Goals as goal
+use Rattle.cnf_answers.proofs.certifying.certify.Goals as goal
 
 pub returns : goal.returns
 returns c =

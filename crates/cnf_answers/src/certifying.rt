@@ -8,7 +8,7 @@ ghost use Rattle.drat_text.specs.Numbers.{greatest};
 ghost use Rattle.drat_text.specs.Reading.{spelled, Spells};
 ghost use Rattle.cnf_answers.specs.Decided.{IsCertified};
 
-use crate::decide::model_text;
+use crate::deciding::model_text;
 use crate::solver::solver_of;
 use drat_text::{Certificate, write_parts, written_is_read_back};
 use sat_base::{Answer, Lit, Log, OutOfMemory, Step};
