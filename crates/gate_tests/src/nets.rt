@@ -1,6 +1,9 @@
 //! The value of each kind of gate at a choice, what is folded, and a choice read by every input.
 
-use crate::values::is_value;
+ghost use Rattle.std.specs.Prelude.{◌≡◌};
+ghost use Rattle.bit_net.specs.Circuit.{input_count};
+
+use crate::values::are_values;
 use bit_net::{Net, Node, OutOfMemory, growth_composes, runs_fit_tables, values_are_runs};
 use std::alloc::Global;
 
@@ -12,13 +15,13 @@ fn two_inputs(alloc: Global) -> Result<bool, OutOfMemory> {
     let differ = net.xor(p, q)?;
     let opposite = net.not(p)?;
     let chosen = net.mux(p, q, net.constant(false))?;
-    let choice = [true, false];
-    Ok(
-        is_value(&net, &choice, both, false)
-            && is_value(&net, &choice, differ, true)
-            && is_value(&net, &choice, opposite, false)
-            && is_value(&net, &choice, chosen, false),
-    )
+    let wanted = [
+        (both, false),
+        (differ, true),
+        (opposite, false),
+        (chosen, false),
+    ];
+    Ok(are_values(&net, &[true, false], &wanted))
 }
 
 #[test]
@@ -26,32 +29,69 @@ fn gates_of_two_inputs(rt: HostRuntime) {
     assert!(rt; two_inputs(rt.alloc()) == Ok(true));
 }
 
-/// No gate is made where the operands show the value, or where the same gate was made before.
-fn makes_no_gate(alloc: Global) -> Result<bool, OutOfMemory> {
-    let mut net = Net::new(alloc, 2)?;
+/// No gate is made where the same gate was made before.
+fn shares(net: &mut Net) -> Result<bool, OutOfMemory>
+    requires { input_count net.old ≡ 2 }
+{
     let p = net.input(0);
     let q = net.input(1);
     let both = net.and(p, q)?;
-    let opposite = net.not(p)?;
     let gates = net.len();
     let shared = net.and(q, p)?;
+    Ok(shared == both && net.len() == gates)
+}
+
+/// No gate is made where the operands show the value.
+fn folds(net: &mut Net) -> Result<bool, OutOfMemory>
+    requires { input_count net.old ≡ 2 }
+{
+    let p = net.input(0);
+    let opposite = net.not(p)?;
+    let gates = net.len();
     let twice = net.not(opposite)?;
     let never = net.and(p, opposite)?;
-    let chosen = net.mux(net.constant(true), p, q)?;
-    Ok(
-        shared == both
-            && twice == p
-            && never == net.constant(false)
-            && chosen == p
-            && net.len() == gates
-            && net.node(p) == Node::Input(0)
-            && !net.is_empty(),
-    )
+    Ok(twice == p && never == net.constant(false) && net.len() == gates)
+}
+
+fn chooses(net: &mut Net) -> Result<bool, OutOfMemory>
+    requires { input_count net.old ≡ 2 }
+{
+    let p = net.input(0);
+    let q = net.input(1);
+    let gates = net.len();
+    let always = net.constant(true);
+    let chosen = net.mux(always, p, q)?;
+    Ok(chosen == p && net.len() == gates)
+}
+
+fn has_inputs(net: &Net) -> bool
+    requires { input_count net.now ≡ 2 }
+{
+    net.node(net.input(0)) == Node::Input(0) && !net.is_empty()
+}
+
+fn makes_no_gate(alloc: Global) -> Result<bool, OutOfMemory> {
+    let mut net = Net::new(alloc, 2)?;
+    let inputs = has_inputs(&net);
+    let shared = shares(&mut net)?;
+    Ok(inputs && shared)
+}
+
+fn folds_anew(alloc: Global) -> Result<bool, OutOfMemory> {
+    let mut net = Net::new(alloc, 2)?;
+    folds(&mut net)
+}
+
+fn chooses_anew(alloc: Global) -> Result<bool, OutOfMemory> {
+    let mut net = Net::new(alloc, 2)?;
+    chooses(&mut net)
 }
 
 #[test]
 fn folds_and_shares(rt: HostRuntime) {
     assert!(rt; makes_no_gate(rt.alloc()) == Ok(true));
+    assert!(rt; folds_anew(rt.alloc()) == Ok(true));
+    assert!(rt; chooses_anew(rt.alloc()) == Ok(true));
     values_are_runs();
     runs_fit_tables();
     growth_composes();

@@ -8,7 +8,7 @@ ghost use Rattle.gl_sets.specs.Guards.{Points, guards_top};
 ghost use Rattle.run_store.specs.Concrete.{Place, Numbers, Pointers, load, write};
 ghost use Rattle.gl_store.specs.Meets.{MeetsAll, val_top, locations_top, kinds};
 
-use crate::values::{is_value, value};
+use crate::values::{are_values, value};
 use bit_net::{Gate, Net, OutOfMemory};
 use bit_words::{Word, constant};
 use gl_sets::{Set, join};
@@ -49,11 +49,8 @@ fn is_marked(alloc: Global) -> Result<bool, OutOfMemory> {
     store.mark(&mut net, input, 0, Flag::Freed)?;
     let freed = store.flag(0, Flag::Freed);
     let escaped = store.flag(0, Flag::Escaped);
-    Ok(
-        is_value(&net, &[true], freed, true)
-            && is_value(&net, &[false], freed, false)
-            && is_value(&net, &[true], escaped, false),
-    )
+    let holds = are_values(&net, &[true], &[(freed, true), (escaped, false)]);
+    Ok(holds && are_values(&net, &[false], &[(freed, false)]))
 }
 
 #[test]
@@ -61,24 +58,46 @@ fn marks_where_the_input_holds(rt: HostRuntime) {
     assert!(rt; is_marked(rt.alloc()) == Ok(true));
 }
 
-fn is_marked_where_it_leads(alloc: Global) -> Result<bool, OutOfMemory> {
-    let mut net = Net::new(alloc, 1)?;
+/// A store of a number and a pointer.
+fn number_and_pointer(alloc: Global, net: &mut Net) -> Result<Store, OutOfMemory>
+    ensures same { net.new ≡ net.old }
+    ensures below { IfOk result (λ r. locations_top r.locations.items ≤ length net.new) }
+{
     let shape = Shape {
         cells: [8, 255].to_vec(alloc)?,
     };
-    let mut store = Store::new(&mut net, &shape)?;
+    Store::new(net, &shape)
+}
+
+/// Marks the first location where the input holds.
+fn mark_first(net: &mut Net, store: &mut Store) -> Result<(), OutOfMemory>
+    requires inputs { input_count net.old ≡ 1 }
+    requires store { locations_top store.old.locations.items ≤ length net.old }
+    ensures grown { Grown net.old net.new }
+    ensures below { OnOk result (locations_top store.new.locations.items ≤ length net.new) }
+{
     let input = net.input(0);
-    let first = Set::one(&net, 1);
-    let null = Set::one(&net, 0);
-    let pointer = join(&mut net, input, &first, &null)?;
+    let pointer = join(net, input, &Set::one(net, 1), &Set::one(net, 0))?;
     let always = net.constant(true);
-    store.mark_where(&mut net, always, &pointer, Flag::Freed)?;
+    store.mark_where(net, always, &pointer, Flag::Freed)
+}
+
+/// Whether the first location is marked where the input holds, and no other one.
+fn first_is_marked(net: &Net, store: &Store) -> bool
+    requires inputs { input_count net.now ≡ 1 }
+    requires store { locations_top store.now.locations.items ≤ length net.now }
+{
+    store.flag_anywhere(net, 0, Flag::Freed) == net.input(0)
+        && store.flag_anywhere(net, 1, Flag::Freed) == net.constant(false)
+        && store.flag_anywhere(net, 2, Flag::Freed) == net.constant(false)
+}
+
+fn is_marked_where_it_leads(alloc: Global) -> Result<bool, OutOfMemory> {
+    let mut net = Net::new(alloc, 1)?;
+    let mut store = number_and_pointer(alloc, &mut net)?;
+    mark_first(&mut net, &mut store)?;
     let same = store.try_clone(&net)?;
-    Ok(
-        same.flag_anywhere(&net, 0, Flag::Freed) == input
-            && same.flag_anywhere(&net, 1, Flag::Freed) == net.constant(false)
-            && same.flag_anywhere(&net, 2, Flag::Freed) == net.constant(false),
-    )
+    Ok(first_is_marked(&net, &same))
 }
 
 #[test]
@@ -320,6 +339,19 @@ fn with_five(alloc: Global, net: &mut Net) -> Result<Store, OutOfMemory>
     Ok(store)
 }
 
+/// Whether the number is 5 where both inputs hold, and else 0.
+fn is_five_in_the_branch(net: &Net, found: &Val) -> bool
+    requires { input_count net.now ≡ 2 }
+{
+    for choice in 0..4u32 {
+        let want = if choice == 3 { 5 } else { 0 };
+        if number(net, &[choice % 2 == 1, choice / 2 == 1], found) != Some(want) {
+            return false;
+        }
+    }
+    true
+}
+
 /// The store of the branch has 5 in cell 1, which is copied to cell 2 where the first input holds; the other store is blank.
 fn is_copied(alloc: Global) -> Result<bool, OutOfMemory> {
     let mut net = Net::new(alloc, 2)?;
@@ -331,12 +363,7 @@ fn is_copied(alloc: Global) -> Result<bool, OutOfMemory> {
     let mut store = with_five(alloc, &mut net)?;
     let merged = copied_in_a_branch(&mut net, live, &mut store, &from, &to, branch, &other)?;
     let found = cell(&mut net, &merged, 2)?;
-    Ok(
-        number(&net, &[true, true], &found) == Some(5)
-            && number(&net, &[false, true], &found) == Some(0)
-            && number(&net, &[true, false], &found) == Some(0)
-            && number(&net, &[false, false], &found) == Some(0),
-    )
+    Ok(is_five_in_the_branch(&net, &found))
 }
 
 #[test]

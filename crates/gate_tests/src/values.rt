@@ -19,7 +19,19 @@ pub fn value(net: &Net, choice: &[bool], gate: Gate) -> Option<bool>
     Some(room[gate.at])
 }
 
-/// Whether it is that.
+/// Whether these gates have these values, where the inputs have the values of `choice`.
+pub fn are_values(net: &Net, choice: &[bool], wanted: &[(Gate, bool)]) -> bool
+    requires { length choice.now ≡ input_count net.now }
+{
+    for &(gate, want) in wanted {
+        if value(net, choice, gate) != Some(want) {
+            return false;
+        }
+    }
+    true
+}
+
+/// Whether a gate has that value.
 pub fn is_value(net: &Net, choice: &[bool], gate: Gate, want: bool) -> bool
     requires { length choice.now ≡ input_count net.now }
 {

@@ -4,7 +4,7 @@ ghost use Rattle.bit_net.specs.Circuit.{input_count};
 ghost use Rattle.bit_net.specs.Runs.{Grown};
 ghost use Rattle.reach_net.specs.Walks.{rows_of, EachWide, gates_top, rows_top};
 
-use crate::values::is_value;
+use crate::values::{are_values, is_value};
 use bit_net::{Gate, Net, OutOfMemory};
 use reach_net::reached;
 use std::alloc::Global;
@@ -69,13 +69,12 @@ fn reached_by_a_chain(net: &mut Net) -> Result<Vec<Gate>, OutOfMemory>
 fn chain_is_followed(alloc: Global) -> Result<bool, OutOfMemory> {
     let mut net = Net::new(alloc, 0)?;
     let found = reached_by_a_chain(&mut net)?;
-    Ok(
-        found.len() == 4
-            && is_value(&net, &[], found[0], true)
-            && is_value(&net, &[], found[1], true)
-            && is_value(&net, &[], found[2], true)
-            && is_value(&net, &[], found[3], false),
-    )
+    match found.as_slice() {
+        &[a, b, c, d] => {
+            Ok(are_values(&net, &[], &[(a, true), (b, true), (c, true), (d, false)]))
+        }
+        _ => Ok(false),
+    }
 }
 
 #[test]

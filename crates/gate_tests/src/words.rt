@@ -14,7 +14,7 @@ use bit_words::{
 use std::alloc::Global;
 
 /// The calls on words, and four conversions.
-#[derive(Clone, Copy, Debug)]
+#[derive(Clone, Copy)]
 enum Operation {
     Add,
     Sub,
@@ -38,27 +38,28 @@ enum Operation {
     NarrowS,
 }
 
-const OPERATIONS: [Operation; 20] = [
-    Operation::Add,
-    Operation::Sub,
-    Operation::Mul,
-    Operation::And,
-    Operation::Or,
-    Operation::Xor,
-    Operation::DivU,
-    Operation::DivS,
-    Operation::RemU,
-    Operation::RemS,
-    Operation::Shl,
-    Operation::ShrU,
-    Operation::ShrS,
-    Operation::LessU,
-    Operation::LessS,
-    Operation::Equal,
-    Operation::WidenU,
-    Operation::WidenS,
-    Operation::NarrowU,
-    Operation::NarrowS,
+/// Each operation, and its name.
+const OPERATIONS: &[(Operation, &str)] = &[
+    (Operation::Add, "Add"),
+    (Operation::Sub, "Sub"),
+    (Operation::Mul, "Mul"),
+    (Operation::And, "And"),
+    (Operation::Or, "Or"),
+    (Operation::Xor, "Xor"),
+    (Operation::DivU, "DivU"),
+    (Operation::DivS, "DivS"),
+    (Operation::RemU, "RemU"),
+    (Operation::RemS, "RemS"),
+    (Operation::Shl, "Shl"),
+    (Operation::ShrU, "ShrU"),
+    (Operation::ShrS, "ShrS"),
+    (Operation::LessU, "LessU"),
+    (Operation::LessS, "LessS"),
+    (Operation::Equal, "Equal"),
+    (Operation::WidenU, "WidenU"),
+    (Operation::WidenS, "WidenS"),
+    (Operation::NarrowU, "NarrowU"),
+    (Operation::NarrowS, "NarrowS"),
 ];
 
 /// The word of the inputs from `from` on, as far as `end`.
@@ -270,12 +271,12 @@ fn holds_over_all(alloc: Global, operation: Operation, width: usize, all: u32) -
 
 #[test]
 fn operations_over_all_operands(rt: HostRuntime) {
-    for operation in OPERATIONS {
+    for &(operation, name) in OPERATIONS {
         let holds = holds_over_all(rt.alloc(), operation, 1, 2)
             && holds_over_all(rt.alloc(), operation, 2, 4)
             && holds_over_all(rt.alloc(), operation, 3, 8)
             && holds_over_all(rt.alloc(), operation, 4, 16);
-        assert!(rt; holds, "{operation:?}");
+        assert!(rt; holds, "{name}");
     }
 }
 
@@ -308,7 +309,7 @@ const WORKED: &[(Operation, u32, u32, i64)] = &[
 fn worked_numbers(rt: HostRuntime) {
     for &(operation, a, b, wanted) in WORKED {
         let found = trial(rt.alloc(), operation, 8, a, b);
-        assert!(rt; found == Ok(wanted), "{operation:?} of {a} and {b}");
+        assert!(rt; found == Ok(wanted), "{wanted} of {a} and {b}");
     }
 }
 
