@@ -128,6 +128,41 @@ pub fn condition(
     Ok(condition_value(walk, at, x))
 }
 
+// An expression on the heap, where there is one.
+fn boxed_if(alloc: Global, e: Option<TExpr>) -> Result<Option<Boxed<TExpr>>, OutOfMemory>
+    ensures { IfOk result (λ x. x ≡ e) }
+{
+    match e {
+        None => Ok(None),
+        Some(e) => Ok(Some(Boxed::new(alloc, e)?)),
+    }
+}
+
+// An expression from the heap, where there is one.
+fn unboxed_if(e: Option<Boxed<TExpr>>) -> Option<TExpr>
+    ensures { result ≡ e }
+{
+    match e {
+        None => None,
+        Some(e) => Some(e.into_inner()),
+    }
+}
+
+/// A condition on the heap, whose keyword stands at that place.
+pub fn boxed_condition(
+    alloc: Global,
+    walk: &mut Walk,
+    here: &Tables,
+    at: Pos,
+    e: &Expr,
+) -> Result<Option<Boxed<TExpr>>, OutOfMemory>
+    ensures typed { Gives (spec.condition (tables.here_of here.now) at e.now walk.old) result walk.new }
+    ensures kept { OnOk result (walk.new.globals ≡ walk.old.globals) }
+{
+    let x = condition(alloc, walk, here, at, e)?;
+    boxed_if(alloc, x)
+}
+
 /// A condition that may be left out: `None` is a fault in it.
 pub fn condition_if(
     alloc: Global,
@@ -422,7 +457,7 @@ pub fn close_if_else(
     alloc: Global,
     walk: &mut Walk,
     at: Pos,
-    c: Option<TExpr>,
+    c: Option<Boxed<TExpr>>,
     s: Option<Boxed<TStmt>>,
     t: Option<Boxed<TStmt>>,
 ) -> Result<Option<Boxed<TStmt>>, OutOfMemory>
@@ -430,7 +465,7 @@ pub fn close_if_else(
     ensures kept { OnOk result (walk.new.globals ≡ walk.old.globals) }
 {
     close_block(walk)?;
-    if_else_of(alloc, at, c, s, t)
+    if_else_of(alloc, at, unboxed_if(c), s, t)
 }
 
 /// Notes what stands twice among the items of a `switch`.

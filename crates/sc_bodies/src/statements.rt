@@ -1,4 +1,7 @@
 // The walk over statements (C11 6.8). Each function types the parts of a statement and asks the rule of its kind.
+//
+// What a failing step leaves is dropped by a call of `drop`, or is on the heap: each drop of an expression that is not
+// written out costs the check of its function ten seconds, and several of them more than their sum.
 
 ghost use Rattle.std.specs.Prelude.{◌≡◌, map, OnOk, None};
 ghost use Rattle.sc_rules.specs.Gives.{Gives};
@@ -10,9 +13,10 @@ ghost use Rattle.sc_bodies.specs.Bodies as spec;
 
 use crate::Around;
 use crate::parts::{
-    break_statement, case_statement, close_block, close_if_else, condition, condition_if,
-    continue_statement, declaration_statement, default_statement, differ, expression_statement,
-    for_start, goto_statement, open_block, return_statement, switch_number, value_if,
+    boxed_condition, break_statement, case_statement, close_block, close_if_else, condition,
+    condition_if, continue_statement, declaration_statement, default_statement, differ,
+    expression_statement, for_start, goto_statement, open_block, return_statement, switch_number,
+    value_if,
 };
 use sc_base::{Boxed, List, OutOfMemory, Pos};
 use sc_declare::GlobalNumbers;
@@ -53,7 +57,7 @@ pub fn statement(
             None => scoped_if(alloc, walk, numbers, here, around, x.get(), e.get(), *at),
             Some(z) => {
                 open_block(walk)?;
-                let c = condition(alloc, walk, here, *at, e.get())?;
+                let c = boxed_condition(alloc, walk, here, *at, e.get())?;
                 let y = inner(alloc, walk, numbers, here, around, x.get())?;
                 let t = inner(alloc, walk, numbers, here, around, z.get())?;
                 close_if_else(alloc, walk, *at, c, y, t)
@@ -260,8 +264,13 @@ fn if_statement(
     ensures tied { OnOk result (numbers.new ≡ keys_of walk.new.globals) }
 {
     let c = condition(alloc, walk, here, at, e)?;
-    let y = inner(alloc, walk, numbers, here, around, x)?;
-    if_of(alloc, at, c, y)
+    match inner(alloc, walk, numbers, here, around, x) {
+        Err(fault) => {
+            drop(c);
+            Err(fault)
+        }
+        Ok(y) => if_of(alloc, at, c, y),
+    }
 }
 
 // `while` in a scope of its own.
@@ -305,8 +314,13 @@ fn while_statement(
     ensures tied { OnOk result (numbers.new ≡ keys_of walk.new.globals) }
 {
     let c = condition(alloc, walk, here, at, e)?;
-    let y = inner(alloc, walk, numbers, here, &around.in_loop(), x)?;
-    while_of(alloc, at, c, y)
+    match inner(alloc, walk, numbers, here, &around.in_loop(), x) {
+        Err(fault) => {
+            drop(c);
+            Err(fault)
+        }
+        Ok(y) => while_of(alloc, at, c, y),
+    }
 }
 
 // `do` in a scope of its own.
@@ -396,10 +410,28 @@ fn for_statement(
     ensures tied { OnOk result (numbers.new ≡ keys_of walk.new.globals) }
 {
     let f = for_start(alloc, walk, numbers, here, h.start.get())?;
-    let c = condition_if(alloc, walk, here, at, h.test.get())?;
-    let n = value_if(alloc, walk, here, h.step.get())?;
-    let y = inner(alloc, walk, numbers, here, &around.in_loop(), x)?;
-    for_of(alloc, at, f, c, n, y)
+    match condition_if(alloc, walk, here, at, h.test.get()) {
+        Err(fault) => {
+            drop(f);
+            Err(fault)
+        }
+        Ok(c) => match value_if(alloc, walk, here, h.step.get()) {
+            Err(fault) => {
+                drop(f);
+                drop(c);
+                Err(fault)
+            }
+            Ok(n) => match inner(alloc, walk, numbers, here, &around.in_loop(), x) {
+                Err(fault) => {
+                    drop(f);
+                    drop(c);
+                    drop(n);
+                    Err(fault)
+                }
+                Ok(y) => for_of(alloc, at, f, c, n, y),
+            },
+        },
+    }
 }
 
 // `switch` in a scope of its own.
@@ -447,8 +479,13 @@ fn switch_statement(
 {
     let number = switch_number(alloc, walk, here, at, e)?;
     let within = around.in_switch(&number);
-    let all = scoped_switch_body(alloc, walk, numbers, here, &within, xs)?;
-    switch_of(alloc, at, to, number, all)
+    match scoped_switch_body(alloc, walk, numbers, here, &within, xs) {
+        Err(fault) => {
+            drop(number);
+            Err(fault)
+        }
+        Ok(all) => switch_of(alloc, at, to, number, all),
+    }
 }
 
 // The items of a `switch` in a scope of their own.

@@ -1,4 +1,7 @@
 // Declarations (C11 6.7): what a declarator declares, at file scope and in a body.
+//
+// What is not used further is dropped by a call of `drop`, before a step that can fail: a drop that is not written out
+// stands in the check of its function once for each way out.
 
 ghost use Rattle.std.specs.Prelude.{◌≡◌, IfOk, OnOk};
 ghost use Rattle.std.specs.Option.{option_copied};
@@ -173,7 +176,9 @@ fn file_variable(
     let t = completed_if(alloc, walk, here, init, t)?;
     object_at_file(walk, here, !has_extern(words), at, t.as_ref());
     let d = linked_if(alloc, here, name, at, has_static(words), t)?;
-    let number = global_if(alloc, walk, numbers, d.as_ref())?;
+    let number = global_if(alloc, walk, numbers, d.as_ref());
+    drop(d);
+    let number = number?;
     Ok(TDeclarator {
         name,
         pos: at,
@@ -220,7 +225,7 @@ fn body_variable(
 {
     if has_extern(words) {
         let d = linked_if(alloc, here, name, at, false, t)?;
-        extern_declared(
+        let made = extern_declared(
             alloc,
             walk,
             numbers,
@@ -228,7 +233,9 @@ fn body_variable(
             at,
             has_static(words),
             d.as_ref(),
-        )
+        );
+        drop(d);
+        made
     } else {
         let made = local_named(alloc, walk, here, words, name, at, init, t)?;
         Ok(made)
@@ -290,13 +297,18 @@ fn declared_as(
 {
     let Shape { ctype, own } = shape;
     if at_file && has_typedef(words) {
+        drop(own);
         let made = typedef_named(walk, name, at, ctype)?;
         Ok(made)
     } else if is_function_of(ctype.as_ref(), has_own(&own)) {
         let is_local = at_file && has_local(words);
-        let made = function_named(alloc, walk, here, is_local, name, at, ctype.as_ref(), &own)?;
+        let made = function_named(alloc, walk, here, is_local, name, at, ctype.as_ref(), &own);
+        drop(ctype);
+        drop(own);
+        let made = made?;
         Ok(made)
     } else {
+        drop(own);
         variable_declared(
             alloc, walk, numbers, here, at_file, words, name, at, init, ctype,
         )

@@ -1,8 +1,13 @@
 // Variables of a body without linkage, with their initialisers (C11 6.7, 6.7.9).
+//
+// An initialiser that a failing step leaves is dropped by a call of `drop`: a drop that is not written out costs the
+// check of its function ten seconds, and several of them more than their sum.
 
 ghost use Rattle.std.specs.Prelude.{◌≡◌};
 ghost use Rattle.std.specs.Option.{option_copied};
 ghost use Rattle.sc_rules.specs.Gives.{Gives};
+ghost use Rattle.sc_declare.specs.Locals.{lengthen};
+ghost use Rattle.sc_fill.specs.Initialisers.{elements_set};
 ghost use Rattle.sc_typing.specs.Tables as tables;
 ghost use Rattle.sc_declarations.specs.Declarations as spec;
 
@@ -29,6 +34,25 @@ fn sized(t: &CType, size: Option<u64>) -> Option<&CType>
     }
 }
 
+// The length that an initialiser gives the array that is the local with that number.
+fn lengthened(
+    alloc: Global,
+    walk: &mut Walk,
+    here: &Tables,
+    number: u32,
+    name: NameId,
+    at: Pos,
+    t: &CType,
+    made: &Option<TInit>,
+) -> Result<(), OutOfMemory>
+    ensures { Gives (lengthen (tables.here_of here.now).widths number name at (elements_set made.now) t.now walk.old)
+        result walk.new }
+{
+    let length = elements_set(made)?;
+    lengthen(alloc, walk, here.widths(), number, name, at, length, t)?;
+    Ok(())
+}
+
 // The initialiser of the local with that number, which may give its array a length.
 fn written_initialiser(
     alloc: Global,
@@ -45,9 +69,13 @@ fn written_initialiser(
 {
     let size = size_now(walk, here.widths(), t);
     let made = initialiser(alloc, walk, here, at, sized(t, size), init)?;
-    let length = elements_set(&made)?;
-    lengthen(alloc, walk, here.widths(), number, name, at, length, t)?;
-    Ok(made)
+    match lengthened(alloc, walk, here, number, name, at, t, &made) {
+        Err(refused) => {
+            drop(made);
+            Err(refused)
+        }
+        Ok(()) => Ok(made),
+    }
 }
 
 fn local_initialiser(

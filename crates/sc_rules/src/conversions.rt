@@ -1,5 +1,8 @@
 // Conversions (C11 6.3): what becomes of an expression where its value is taken, where it meets another one,
 // and where it is assigned, passed or returned.
+//
+// An expression that a branch does not use is dropped by a call of `drop`: each drop that is not written out costs the
+// check of its function ten seconds, and several of them more than their sum.
 
 ghost use Rattle.std.specs.Prelude.{◌≡◌, IfOk};
 ghost use Rattle.sc_tree.specs.declared.ctype.CType.TheVariants as ty;
@@ -42,8 +45,13 @@ pub fn to(alloc: Global, t: &CType, e: TExpr) -> Result<TExpr, OutOfMemory>
     if same(&e.ctype, t) {
         Ok(e)
     } else {
-        let t = copy_type(alloc, t)?;
-        convert(alloc, e, t)
+        match copy_type(alloc, t) {
+            Err(fault) => {
+                drop(e);
+                Err(fault)
+            }
+            Ok(t) => convert(alloc, e, t),
+        }
     }
 }
 
@@ -113,9 +121,13 @@ fn decayed_type(alloc: Global, t: &CType) -> Result<Option<CType>, OutOfMemory>
 pub fn decayed(alloc: Global, e: TExpr) -> Result<TExpr, OutOfMemory>
     ensures { IfOk result (λ x. x ≡ spec.decayed e) }
 {
-    match decayed_type(alloc, &e.ctype)? {
-        None => Ok(e),
-        Some(t) => convert(alloc, e, t),
+    match decayed_type(alloc, &e.ctype) {
+        Err(fault) => {
+            drop(e);
+            Err(fault)
+        }
+        Ok(None) => Ok(e),
+        Ok(Some(t)) => convert(alloc, e, t),
     }
 }
 
@@ -152,7 +164,11 @@ fn any_value(alloc: Global, walk: &mut Walk, e: TExpr) -> Result<Option<TExpr>, 
     let e = decayed(alloc, e)?;
     match opaque {
         None => Ok(Some(e)),
-        Some(kind) => Ok(unsupported(walk, opaque_fault(kind), e.place.first)),
+        Some(kind) => {
+            let first = e.place.first;
+            drop(e);
+            Ok(unsupported(walk, opaque_fault(kind), first))
+        }
     }
 }
 
@@ -196,6 +212,7 @@ fn converted_or(
     if allowed {
         Ok(Some(to(alloc, t, e)?))
     } else {
+        drop(e);
         Ok(ill_typed(walk, kind, at))
     }
 }
@@ -220,8 +237,11 @@ pub fn converted(
         }
         Some(opaque) => {
             if is_integer(&e.ctype) {
-                Ok(unsupported(walk, opaque_fault(opaque), e.place.first))
+                let first = e.place.first;
+                drop(e);
+                Ok(unsupported(walk, opaque_fault(opaque), first))
             } else {
+                drop(e);
                 Ok(ill_typed(walk, kind, at))
             }
         }

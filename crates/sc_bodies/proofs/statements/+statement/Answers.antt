@@ -8,7 +8,7 @@ pub statement-returns-in_ok-t-in-Some-clause-typed : goal.statement-returns-in_o
 statement-returns-in_ok-t-in-Some-clause-typed t c =
     else_gives (here_of c.args.here.now) c.in-If.at c.in-If.e c.get-in-Some.result.now c.in-If.x
     c.get-in-Some-2.result.now c.in-Some.z c.get-in-Some-3.result.now c.args.s.now c.in-If.y
-    (inside_of c.args.around.now) c.args.walk.now c.open_block.new.walk c.condition.new.walk c.inner.new.walk
+    (inside_of c.args.around.now) c.args.walk.now c.open_block.new.walk c.boxed_condition.new.walk c.inner.new.walk
     c.inner-in-Some.new.walk c.in_ok-open_block-in-Some.field-0 c.in_ok-c-in-Some.c c.in_ok-y-in-Some.y
     c.in_ok-t-in-Some.t c.close_if_else.result c.close_if_else.new.walk
     c.in-If.is c.in-Some.is c.get-in-Some.ensures c.get-in-Some-2.ensures c.get-in-Some-3.ensures
