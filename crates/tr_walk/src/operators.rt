@@ -6,6 +6,7 @@ ghost use Rattle.gate_places.specs.Places.{DoesMember, DoesMemberBehind};
 ghost use Rattle.gate_runs.specs.Stands.{AreEnds};
 ghost use Rattle.gl_sets.specs.Guards.{guards_top};
 ghost use Rattle.gl_store.specs.Meets.{val_top};
+ghost use Rattle.gl_store.specs.declared.values.Val.TheVariants as val;
 ghost use Rattle.run_values.specs.Seen.{want_of};
 ghost use Rattle.sc_world.specs.Tree.{is_integer, type_of};
 ghost use Rattle.sc_world.specs.View.{type};
@@ -147,6 +148,23 @@ fn count_at(
     Ok(Change { before, after })
 }
 
+// No value, in place of one. It is dropped here, by one call in each branch.
+fn nothing(x: Val) -> Val
+    ensures { result ≡ val.Unit }
+{
+    drop(x);
+    Val::Unit
+}
+
+// The same of two values.
+fn nothing_of(left: Val, right: Val) -> Val
+    ensures { result ≡ val.Unit }
+{
+    drop(left);
+    drop(right);
+    Val::Unit
+}
+
 /// What an operator with one operand makes of it.
 pub fn apply_unary(
     around: &Around,
@@ -217,13 +235,13 @@ pub fn apply_unary(
                 Ok(made)
             }
         }
-        What::Comma(_, _) | What::Cond(_, _, _) | What::Call(_, _) => Ok(Val::Unit),
-        What::Assign(_, _, _, _) | What::Binary(_, _, _) | What::Index(_, _) => Ok(Val::Unit),
-        What::SizeofExpr(_, _) | What::SizeofType(_) => Ok(Val::Unit),
-        What::Int(_) | What::Char(_) => Ok(Val::Unit),
-        What::Param(_) | What::Local(_) | What::Global(_) => Ok(Val::Unit),
-        What::Function(_, _) | What::Str(_) => Ok(Val::Unit),
-        What::Temp(_) | What::TempPlace(_) => Ok(Val::Unit),
+        What::Comma(_, _) | What::Cond(_, _, _) | What::Call(_, _) => Ok(nothing(x)),
+        What::Assign(_, _, _, _) | What::Binary(_, _, _) | What::Index(_, _) => Ok(nothing(x)),
+        What::SizeofExpr(_, _) | What::SizeofType(_) => Ok(nothing(x)),
+        What::Int(_) | What::Char(_) => Ok(nothing(x)),
+        What::Param(_) | What::Local(_) | What::Global(_) => Ok(nothing(x)),
+        What::Function(_, _) | What::Str(_) => Ok(nothing(x)),
+        What::Temp(_) | What::TempPlace(_) => Ok(nothing(x)),
     }
 }
 
@@ -298,13 +316,15 @@ pub fn apply_binary(
                 Ok(made)
             }
         }
-        What::Comma(_, _) | What::Cond(_, _, _) | What::Call(_, _) => Ok(Val::Unit),
-        What::Cast(_) | What::Convert(_) | What::Unary(_, _) => Ok(Val::Unit),
-        What::PreInc(_, _) | What::PostInc(_, _) | What::Field(_, _, _, _) => Ok(Val::Unit),
-        What::SizeofExpr(_, _) | What::SizeofType(_) => Ok(Val::Unit),
-        What::Int(_) | What::Char(_) => Ok(Val::Unit),
-        What::Param(_) | What::Local(_) | What::Global(_) => Ok(Val::Unit),
-        What::Function(_, _) | What::Str(_) => Ok(Val::Unit),
-        What::Temp(_) | What::TempPlace(_) => Ok(Val::Unit),
+        What::Comma(_, _) | What::Cond(_, _, _) | What::Call(_, _) => Ok(nothing_of(left, right)),
+        What::Cast(_) | What::Convert(_) | What::Unary(_, _) => Ok(nothing_of(left, right)),
+        What::PreInc(_, _) | What::PostInc(_, _) | What::Field(_, _, _, _) => Ok(nothing_of(
+            left, right,
+        )),
+        What::SizeofExpr(_, _) | What::SizeofType(_) => Ok(nothing_of(left, right)),
+        What::Int(_) | What::Char(_) => Ok(nothing_of(left, right)),
+        What::Param(_) | What::Local(_) | What::Global(_) => Ok(nothing_of(left, right)),
+        What::Function(_, _) | What::Str(_) => Ok(nothing_of(left, right)),
+        What::Temp(_) | What::TempPlace(_) => Ok(nothing_of(left, right)),
     }
 }
