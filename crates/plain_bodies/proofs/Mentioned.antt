@@ -19,16 +19,16 @@ use Rattle.plain_bodies.specs.Leaves.{FaultAlone, faultless}
 use Rattle.plain_bodies.proofs.Steps.{keeps, keeps_where, by_then, by_done}
 use Rattle.plain_bodies.proofs.Plain.{never, first_so, second_so, not_so}
 
-found_as : (b : Bool) (k : TagKind) (name : NameId) (t : Tag) (w : Walk) → b ≡ true → faultless (found_tag name k (if b then Some t else None) w).1 ≡ faultless w
-found_as true k name t w h = refl
-found_as false k name t w h = never h
+found_as : (b : Bool) (at : Pos) (k : TagKind) (name : NameId) (t : Tag) (w : Walk) → b ≡ true → faultless (found_tag at name k (if b then Some t else None) w).1 ≡ faultless w
+found_as true at k name t w h = refl
+found_as false at k name t w h = never h
 
-found_kept : (k : TagKind) (name : NameId) (m : Option Tag) (w : Walk) → is_kind k m ≡ true → faultless (found_tag name k (of_kind k m) w).1 ≡ faultless w
-found_kept k name None w h = never h
-found_kept k name (Some t) w h = found_as (same_tag k t.kind) k name t w h
+found_kept : (at : Pos) (k : TagKind) (name : NameId) (m : Option Tag) (w : Walk) → is_kind k m ≡ true → faultless (found_tag at name k (of_kind k m) w).1 ≡ faultless w
+found_kept at k name None w h = never h
+found_kept at k name (Some t) w h = found_as (same_tag k t.kind) at k name t w h
 
 unless_kept : (c : Bool) (at : Pos) (k : TagKind) (name : NameId) (w : Walk) → c ≡ false → is_kind k (meaning name.at w.tags) ≡ true → faultless (tag_unless c at name k false w).1 ≡ faultless w
-unless_kept false at k name w is h = found_kept k name (meaning name.at w.tags) w h
+unless_kept false at k name w is h = found_kept at k name (meaning name.at w.tags) w h
 unless_kept true at k name w is h = absurd (true≢false is)
 
 standing : (at : Pos) (k : TagKind) (name : NameId) (w : Walk) → is_tagged w.tags k name ≡ true → faultless (tag_of at (Some name) k false false w).1 ≡ faultless w

@@ -1,6 +1,6 @@
 //! Small bodies with labels and jumps, whose first faults were found by hand from C11 6.8.6.1.
 
-use sc_base::{Boxed, IllTyped, List, NameId, OutOfMemory, Pos, Skip, Unsupported};
+use sc_base::{Boxed, IllTyped, List, NameId, Numbers, OutOfMemory, Pos, Skip, Unsupported};
 use sc_jumps::{check_jumps, jumps_of_body};
 use sc_rules::{Fault, Walk};
 use sc_tree::stmt::Stmt;
@@ -36,7 +36,9 @@ fn no_walk(alloc: Global) -> Walk {
         names: Scopes::new(alloc),
         tags: Scopes::new(alloc),
         structs: Structs::new(alloc),
-        met: 0,
+        specifiers: Numbers::new(alloc),
+        origins: List::new(alloc),
+        joined: List::new(alloc),
         completed: List::new(alloc),
         globals: List::new(alloc),
         records: List::new(alloc),

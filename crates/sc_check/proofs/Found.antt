@@ -59,7 +59,7 @@ same_answer s k None table =
     ap (λ (heres : ℕ → Here).
     if is_too_many (length k.bodies) then TooMany (length k.bodies)
     else Typed (program_of s
-    (walk_files heres nothing_made s.units (record no_walk { structs = k.first.structs }))))
+    (walk_files heres nothing_made s.units (record no_walk { structs = k.first.structs; specifiers = k.first.specifiers }))))
     (known_is s k.first k.bodies k.builtins table)
 
 -- what is known behind the first walk, by the table of built-in functions, makes the answer that is defined

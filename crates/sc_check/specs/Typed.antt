@@ -42,7 +42,7 @@ no_walk =
       names = no_frames;
       tags = no_frames;
       structs = [];
-      met = 0;
+      specifiers = [];
       completed = [];
       globals = [];
       records = [];
@@ -110,7 +110,8 @@ abbrev pub bodies_of : Sources → List (ℕ × NameId) → List file.Unit → L
 bodies_of s locals [] = []
 bodies_of s locals (x ∷ xs) = bodies_in s locals x.file x.segments ++ bodies_of s locals xs
 
--- The second walk begins with the structs as the first left them.
+-- The second walk begins with the structs as the first left them, and with the numbers of their specifiers: a number means
+-- one specifier in both walks.
 
 abbrev pub second_here : Sources → Walk → List Bodied → ℕ → Here
 second_here s v bodies f =
@@ -126,7 +127,7 @@ second_here s v bodies f =
 
 abbrev pub second_walk : Sources → Walk → List Bodied → Made × Walk
 second_walk s v bodies =
-    walk_files (second_here s v bodies) nothing_made s.units (record no_walk { structs = v.structs })
+    walk_files (second_here s v bodies) nothing_made s.units (record no_walk { structs = v.structs; specifiers = v.specifiers })
 
 abbrev pub program_of : Sources → Made × Walk → Program
 program_of s (m, w) =

@@ -3,22 +3,23 @@
 ghost use Rattle.std.specs.Prelude.{◌≡◌, ℕ, None, slice_get, IfOk};
 ghost use Rattle.sc_check.specs.Bodied.{bodies_over};
 ghost use Rattle.sc_check.specs.Checked.{Answers, Tells};
+ghost use Rattle.sc_check.specs.First.{first_over, nothing_first};
 ghost use Rattle.sc_check.specs.Heres.{entry_of, alone_here};
 ghost use Rattle.sc_check.specs.Known.{answer_if, answer_known, program_known};
-ghost use Rattle.sc_check.specs.Parts.{made};
-ghost use Rattle.sc_check.specs.Typed.{builtin_if, is_local_function, no_walk, nothing_made, program_of, walk_files};
+ghost use Rattle.sc_check.specs.Typed.{builtin_if, is_local_function, program_of};
 
 use crate::CheckAnswer;
 use crate::bodied::bodies_of;
 use crate::builtins::builtin_table;
-use crate::walks::{first_walk, second_walk};
+use crate::first::{First, first_walk};
+use crate::second::{Second, second_walk};
 use fsm_spec::MachineSpec;
-use sc_base::{LimitKind, List, NameId, Names, OutOfMemory, Skip};
+use sc_base::{LimitKind, List, NameId, Names, OutOfMemory};
 use sc_program::{Bodied, first_clash, is_too_many};
-use sc_rules::{Builtin, Walk};
+use sc_rules::Builtin;
 use sc_tree::ctype::Widths;
 use sc_tree::unit::Unit;
-use sc_typed::{Function, Program};
+use sc_typed::Program;
 use std::alloc::Global;
 
 /// What is known behind the first walk.
@@ -26,8 +27,8 @@ use std::alloc::Global;
 pub struct Known {
     /// The built-in function that each name means.
     pub builtins: List<Option<Builtin>>,
-    /// The walk that the first one left.
-    pub first: Walk,
+    /// What the first walk left.
+    pub first: First,
     /// The functions with bodies of all files, in their order.
     pub bodies: List<Bodied>,
 }
@@ -41,14 +42,13 @@ fn known_of(
     machine: &Option<MachineSpec>,
 ) -> Result<Known, OutOfMemory>
     ensures table { IfOk result (λ k. (n : ℕ) → entry_of k.builtins n ≡ builtin_if machine.now (slice_get names.now n)) }
-    ensures first { IfOk result (λ k. k.first
-        ≡ (walk_files (alone_here widths k.builtins) nothing_made units.now no_walk).1) }
+    ensures first { IfOk result (λ k. k.first ≡ first_over (alone_here widths k.builtins) units.now nothing_first) }
     ensures bodies { IfOk result (λ k. k.bodies
-        ≡ bodies_over (is_local_function k.first.local_functions) (alone_here widths k.builtins) units.now) }
+        ≡ bodies_over (is_local_function k.first.walk.local_functions) (alone_here widths k.builtins) units.now) }
 {
     let builtins = builtin_table(alloc, names, machine)?;
     let first = first_walk(alloc, widths, builtins.as_slice(), units)?;
-    let locals = first.local_functions.as_slice();
+    let locals = first.walk.local_functions.as_slice();
     let bodies = bodies_of(alloc, widths, builtins.as_slice(), locals, units)?;
     Ok(Known {
         builtins,
@@ -57,32 +57,31 @@ fn known_of(
     })
 }
 
-// The program that has these functions and notes, with what the second walk left.
+// The program that the second walk made.
 fn program_with(
     names: Names,
     files: List<NameId>,
     units: &[Unit],
     widths: Widths,
     machine: Option<MachineSpec>,
-    functions: List<Function>,
-    notes: List<Skip>,
-    walk: Walk,
+    second: Second,
 ) -> Program
     ensures { result
         ≡ program_of (record { names = names; files = files; units = units.now; widths = widths; machine = machine })
-        (made functions notes, walk) }
+        second }
 {
-    let Walk {
+    let Second {
+        functions,
+        notes,
         structs,
         globals,
-        ..
-    } = walk;
+    } = second;
     Program {
         names,
         files,
         widths,
         machine,
-        structs: structs.into_list(),
+        structs,
         globals,
         functions,
         notes,
@@ -108,7 +107,7 @@ fn program(
         first,
         bodies,
     } = known;
-    let (functions, (notes, walk)) = second_walk(
+    let second = second_walk(
         alloc,
         widths,
         builtins.as_slice(),
@@ -116,7 +115,7 @@ fn program(
         bodies.as_slice(),
         units,
     )?;
-    Ok(program_with(names, files, units, widths, machine, functions, notes, walk))
+    Ok(program_with(names, files, units, widths, machine, second))
 }
 
 // The answer where no function has a second body.

@@ -58,5 +58,5 @@ function_of name at ps t locals (Some s) None =
 abbrev pub finish_function : NameId → Pos → List Parameter → Option CType → Option TStmt → Check Function
 finish_function name at ps t s w = (
   function_of name at ps t w.locals s w.first,
-  record w { names = kept w.names; tags = kept w.tags; completed = []; locals = []; first = None },
+  record w { names = kept w.names; tags = kept w.tags; locals = []; first = None },
 )

@@ -143,6 +143,5 @@ pub fn finish_function(
     let locals = mem::replace(&mut walk.locals, List::new(alloc));
     let first = walk.first;
     walk.first = None;
-    walk.completed = List::new(alloc);
     function_of(alloc, name, at, params, t, locals, s, first)
 }

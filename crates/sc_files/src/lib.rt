@@ -10,5 +10,5 @@ mod scope;
 mod variables;
 
 pub use functions::{few_params, finish_function, skip_pos};
-pub use notes::{Before, begin_file, end_declaration, so_far};
+pub use notes::{Before, begin_file, end_declaration, so_far, take_structs_back};
 pub use variables::{is_function_of, linked_in, object_if};

@@ -1,17 +1,15 @@
 // Declarations at file scope (C11 6.9): what one declared stays, or goes and leaves a note.
 
-ghost use Rattle.std.specs.Prelude.{◌≡◌, take, slice_set, OnOk};
-ghost use Rattle.sc_typed.specs.Extents.{struct_at};
+ghost use Rattle.std.specs.Prelude.{◌≡◌, take, OnOk};
 ghost use Rattle.sc_declare.specs.Numbers.{keys_of};
 ghost use Rattle.sc_files.specs.Notes as spec;
 
 use crate::scope::{forget, keep};
 use sc_base::{List, OutOfMemory, Skip};
 use sc_declare::GlobalNumbers;
-use sc_rules::Walk;
+use sc_rules::{Replaced, Walk};
 use std::alloc::Global;
 use std::mem;
-use struct_table::Structs;
 
 /// How much there was of what a declaration adds to, before it.
 #[derive(Clone, Copy, Debug, PartialEq, Eq)]
@@ -22,6 +20,10 @@ pub struct Before {
     pub records: usize,
     /// How many functions that are local to a file.
     pub local_functions: usize,
+    /// How many structs.
+    pub structs: usize,
+    /// How many of them whose bodies began in the file.
+    pub completed: usize,
 }
 
 /// What a walk has before a declaration.
@@ -32,6 +34,8 @@ pub fn so_far(walk: &Walk) -> Before
         globals: walk.globals.len(),
         records: walk.records.len(),
         local_functions: walk.local_functions.len(),
+        structs: walk.structs.len(),
+        completed: walk.completed.len(),
     }
 }
 
@@ -44,25 +48,26 @@ fn truncate<T: Drop>(alloc: Global, items: &mut List<T>, count: usize)
     *items = List::from_vec(all);
 }
 
-// Makes the struct with that number incomplete, if there is one.
-fn make_incomplete(alloc: Global, structs: &mut Structs, number: usize) -> Result<(), OutOfMemory>
-    ensures { OnOk result (structs.new ≡ slice_set structs.old number (spec.incomplete (struct_at structs.old number))) }
+/// Makes the structs whose bodies began behind the first so many what they were before, the latest first.
+pub fn take_structs_back(alloc: Global, walk: &mut Walk, count: usize)
+    ensures { walk.new ≡ spec.structs_back count walk.old }
 {
-    let union = match structs.as_slice().get(number) {
-        None => return Ok(()),
-        Some(definition) => definition.union,
-    };
-    structs.put(alloc, number, union)
+    let mut bodies = mem::replace(&mut walk.completed, List::new(alloc)).into_vec();
+    while bodies.len() > count {
+        if let Some(Replaced { number, before }) = bodies.pop() {
+            walk.structs.put_back(alloc, number as usize, before);
+        }
+    }
+    walk.completed = List::from_vec(bodies);
 }
 
-// Makes the structs of those numbers incomplete.
-fn incomplete_at(alloc: Global, structs: &mut Structs, numbers: &[u32]) -> Result<(), OutOfMemory>
-    ensures { OnOk result (structs.new ≡ spec.incomplete_at numbers.now structs.old) }
+// Forgets the structs behind the first so many.
+fn forget_structs(alloc: Global, walk: &mut Walk, count: usize)
+    ensures { walk.new ≡ spec.structs_forgotten count walk.old }
 {
-    for number in numbers {
-        make_incomplete(alloc, structs, *number as usize)?;
-    }
-    Ok(())
+    walk.structs.truncate(count);
+    walk.specifiers.truncate(count);
+    truncate(alloc, &mut walk.origins, count);
 }
 
 // Takes back what a declaration with a fault declared.
@@ -78,8 +83,8 @@ fn take_back(
 {
     forget(&mut walk.names)?;
     forget(&mut walk.tags)?;
-    let completed = mem::replace(&mut walk.completed, List::new(alloc));
-    incomplete_at(alloc, &mut walk.structs, completed.as_slice())?;
+    take_structs_back(alloc, walk, before.completed);
+    forget_structs(alloc, walk, before.structs);
     truncate(alloc, &mut walk.globals, before.globals);
     truncate(alloc, &mut walk.records, before.records);
     truncate(alloc, &mut walk.local_functions, before.local_functions);
@@ -89,12 +94,11 @@ fn take_back(
 }
 
 // Keeps what a declaration without a fault declared.
-fn keep_walk(alloc: Global, walk: &mut Walk) -> Result<(), OutOfMemory>
+fn keep_walk(walk: &mut Walk) -> Result<(), OutOfMemory>
     ensures { OnOk result (walk.new ≡ spec.kept_walk walk.old) }
 {
     keep(&mut walk.names)?;
     keep(&mut walk.tags)?;
-    walk.completed = List::new(alloc);
     walk.first = None;
     Ok(())
 }
@@ -116,7 +120,7 @@ pub fn end_declaration(
     ensures tied { OnOk result (numbers.new ≡ keys_of walk.new.globals) }
 {
     match walk.first {
-        None => keep_walk(alloc, walk),
+        None => keep_walk(walk),
         Some(fault) => {
             notes.push(fault.skip)?;
             take_back(alloc, walk, numbers, before)

@@ -26,26 +26,26 @@ abbrev pub of_kind : TagKind → Option Tag → Option Tag
 of_kind k None = None
 of_kind k (Some t) = if same_tag k t.kind then Some t else None
 
--- the number of a new struct or union; 0 for an `enum`
-abbrev pub new_number : TagKind → Check ℕ
-new_number tag.Struct = new_struct false
-new_number tag.Union = new_struct true
-new_number tag.Enum = done 0
+-- the number of a new struct or union, whose specifier stands there; 0 for an `enum`
+abbrev pub new_number : Pos → Option NameId → TagKind → Check ℕ
+new_number at name tag.Struct = new_struct at name false
+new_number at name tag.Union = new_struct at name true
+new_number at name tag.Enum = done 0
 
-abbrev pub new_tag : TagKind → Check Tag
-new_tag k = do
-  n ← new_number k
+abbrev pub new_tag : Pos → Option NameId → TagKind → Check Tag
+new_tag at name k = do
+  n ← new_number at name k
   done (record { kind = k; number = n; done = false })
 
-abbrev pub declared_tag : NameId → TagKind → Check Tag
-declared_tag name k = do
-  t ← new_tag k
+abbrev pub declared_tag : Pos → NameId → TagKind → Check Tag
+declared_tag at name k = do
+  t ← new_tag at (Some name) k
   _ ← declare_tag name t
   done t
 
-abbrev pub found_tag : NameId → TagKind → Option Tag → Check Tag
-found_tag name k None = declared_tag name k
-found_tag name k (Some t) = done t
+abbrev pub found_tag : Pos → NameId → TagKind → Option Tag → Check Tag
+found_tag at name k None = declared_tag at name k
+found_tag at name k (Some t) = done t
 
 -- what a tag means in the innermost scope, or in all of them
 abbrev pub tag_in : NameId → (inner : Bool) → Check (Option Tag)
@@ -53,18 +53,18 @@ tag_in name true = tag_here name
 tag_in name false = tag_means name
 
 -- what the tag means to a specifier that does not clash
-abbrev pub tag_for : NameId → TagKind → (inner : Bool) → Check Tag
-tag_for name k inner = tag_in name inner >>= λ t. found_tag name k (of_kind k t)
+abbrev pub tag_for : Pos → NameId → TagKind → (inner : Bool) → Check Tag
+tag_for at name k inner = tag_in name inner >>= λ t. found_tag at name k (of_kind k t)
 
 abbrev pub tag_unless : Bool → Pos → NameId → TagKind → (inner : Bool) → Check Tag
 tag_unless true at name k inner = do
   _ ← holds_or false (ill_typed_at i.Again at)
-  new_tag k
-tag_unless false at name k inner = tag_for name k inner
+  new_tag at (Some name) k
+tag_unless false at name k inner = tag_for at name k inner
 
 -- the tag of a specifier; one without a tag is a type by itself
 abbrev pub tag_of : Pos → Option NameId → TagKind → (body alone : Bool) → Check Tag
-tag_of at None k body alone = new_tag k
+tag_of at None k body alone = new_tag at None k
 tag_of at (Some name) k body alone = do
   h ← tag_in name true
   tag_unless (clashes k body h) at name k (body || alone)

@@ -14,5 +14,5 @@ mod tags;
 pub use names::{declare, declare_if, declare_or, name_here, name_means, new_here};
 pub use notes::note_unless;
 pub use scope::{Scope, close_scope, open_again, open_scope};
-pub use structs::{complete, complete_if, new_struct, object_at, size_now};
+pub use structs::{begin_struct, complete, complete_if, new_struct, object_at, size_now};
 pub use tags::{begin_body, declare_tag, tag_here, tag_means, tag_of};

@@ -6,27 +6,63 @@ ghost use Rattle.sc_typed.specs.Extents.{struct_at};
 ghost use Rattle.sc_rules.specs.Gives.{Gives};
 ghost use Rattle.sc_names.specs.Structs as spec;
 
-use sc_base::{IllTyped, OutOfMemory, Pos};
-use sc_rules::{Walk, holds_or, ill_typed_at};
+use sc_base::{IllTyped, NameId, OutOfMemory, Pos};
+use sc_rules::{Origin, Replaced, Walk, holds_or, ill_typed_at};
 use sc_tree::ctype::{CType, Widths};
 use sc_typed::StructDef;
 use sc_types::{extent, is_function, is_void, struct_extent};
 use std::alloc::Global;
 use struct_table::Members;
 
-/// Meets a struct or union, which is incomplete so far, and gives its number. Where memory is refused nothing
-/// changes; the number 2^32 - 1 is refused in the same way.
-pub fn new_struct(alloc: Global, walk: &mut Walk, union: bool) -> Result<u32, OutOfMemory>
-    ensures ok { Gives (spec.new_struct union walk.old) result walk.new }
+// The struct that one stands for: the first of those that are one type with it.
+fn stands_for(joined: &[u32], number: u32) -> u32
+    ensures { result ≡ spec.stands_for joined.now number }
+{
+    match joined.get(number as usize) {
+        None => number,
+        Some(first) => *first,
+    }
+}
+
+// Notes where the struct with that number was met, if it is a new one.
+fn note_origin(walk: &mut Walk, number: usize, origin: Origin) -> Result<(), OutOfMemory>
+    ensures ok { OnOk result (walk.new ≡ spec.with_origin number origin walk.old) }
     ensures err { OnErr result (walk.new ≡ walk.old) }
 {
-    let number = walk.met;
-    if number == u32::MAX {
+    if number < walk.origins.len() {
+        return Ok(());
+    }
+    walk.origins.push(origin)
+}
+
+/// Meets a struct or union at the place of its specifier, and gives the number of the one that it stands for. It is
+/// incomplete where it is a new one. A number of 2^32 and more is refused as too much for memory.
+pub fn new_struct(
+    alloc: Global,
+    walk: &mut Walk,
+    at: Pos,
+    tag: Option<NameId>,
+    union: bool,
+) -> Result<u32, OutOfMemory>
+    ensures { Gives (spec.new_struct at tag union walk.old) result walk.new }
+{
+    let specifier = (at.file, (at.line, at.col));
+    let number = walk.specifiers.number(&specifier);
+    if number > u32::MAX as usize {
         return Err(OutOfMemory);
     }
-    walk.structs.put(alloc, number as usize, union)?;
-    walk.met = number + 1;
-    Ok(number)
+    walk.structs.meet(alloc, number, union)?;
+    walk.specifiers.insert(specifier)?;
+    note_origin(walk, number, Origin { file: at.file, tag })?;
+    Ok(stands_for(walk.joined.as_slice(), number as u32))
+}
+
+/// Notes that the body of a struct or union begins: until it is complete nothing is known of its members.
+pub fn begin_struct(alloc: Global, walk: &mut Walk, number: u32) -> Result<(), OutOfMemory>
+    ensures { Gives (spec.begin_struct number walk.old) result walk.new }
+{
+    let before = walk.structs.hide(alloc, number as usize);
+    walk.completed.push(Replaced { number, before })
 }
 
 // Whether the struct with that number is a union.
@@ -39,32 +75,22 @@ fn union_at(structs: &[StructDef], number: u32) -> bool
     }
 }
 
-/// Completes a struct or union with its members. Where memory is refused nothing changes.
-pub fn complete(walk: &mut Walk, w: Widths, number: u32, fields: Members) -> Result<(), OutOfMemory>
-    ensures ok { Gives (spec.complete w number fields walk.old) result walk.new }
-    ensures err { OnErr result (walk.new ≡ walk.old) }
+/// Completes a struct or union with its members. It takes no memory.
+pub fn complete(walk: &mut Walk, w: Widths, number: u32, fields: Members)
+    ensures { spec.complete w number fields walk.old ≡ (tt, walk.new) }
 {
     let union = union_at(walk.structs.as_slice(), number);
     let extent = struct_extent(w, walk.structs.as_slice(), union, fields.as_slice());
-    walk.completed.push(number)?;
     walk.structs
         .complete(number as usize, union, fields, extent);
-    Ok(())
 }
 
-/// Completes a struct or union, if nothing in its body is refused. Where memory is refused nothing changes.
-pub fn complete_if(
-    walk: &mut Walk,
-    w: Widths,
-    number: u32,
-    fields: Option<Members>,
-) -> Result<(), OutOfMemory>
-    ensures ok { Gives (spec.complete_if w number fields walk.old) result walk.new }
-    ensures err { OnErr result (walk.new ≡ walk.old) }
+/// Completes a struct or union, if nothing in its body is refused. It takes no memory.
+pub fn complete_if(walk: &mut Walk, w: Widths, number: u32, fields: Option<Members>)
+    ensures { spec.complete_if w number fields walk.old ≡ (tt, walk.new) }
 {
-    match fields {
-        None => Ok(()),
-        Some(fields) => complete(walk, w, number, fields),
+    if let Some(fields) = fields {
+        complete(walk, w, number, fields);
     }
 }
 

@@ -65,22 +65,34 @@ fn of_kind(kind: TagKind, tag: Option<Tag>) -> Option<Tag>
     }
 }
 
-// The number of a new struct or union; 0 for an `enum`.
-fn new_number(alloc: Global, walk: &mut Walk, kind: TagKind) -> Result<u32, OutOfMemory>
-    ensures { Gives (spec.new_number kind walk.old) result walk.new }
+// The number of a new struct or union, whose specifier stands there; 0 for an `enum`.
+fn new_number(
+    alloc: Global,
+    walk: &mut Walk,
+    at: Pos,
+    name: Option<NameId>,
+    kind: TagKind,
+) -> Result<u32, OutOfMemory>
+    ensures { Gives (spec.new_number at name kind walk.old) result walk.new }
 {
     match kind {
-        TagKind::Struct => new_struct(alloc, walk, false),
-        TagKind::Union => new_struct(alloc, walk, true),
+        TagKind::Struct => new_struct(alloc, walk, at, name, false),
+        TagKind::Union => new_struct(alloc, walk, at, name, true),
         TagKind::Enum => Ok(0),
     }
 }
 
 // A new tag, whose body is not seen yet.
-fn new_tag(alloc: Global, walk: &mut Walk, kind: TagKind) -> Result<Tag, OutOfMemory>
-    ensures { Gives (spec.new_tag kind walk.old) result walk.new }
+fn new_tag(
+    alloc: Global,
+    walk: &mut Walk,
+    at: Pos,
+    name: Option<NameId>,
+    kind: TagKind,
+) -> Result<Tag, OutOfMemory>
+    ensures { Gives (spec.new_tag at name kind walk.old) result walk.new }
 {
-    let number = new_number(alloc, walk, kind)?;
+    let number = new_number(alloc, walk, at, name, kind)?;
     Ok(Tag {
         kind,
         number,
@@ -92,12 +104,13 @@ fn new_tag(alloc: Global, walk: &mut Walk, kind: TagKind) -> Result<Tag, OutOfMe
 fn declared_tag(
     alloc: Global,
     walk: &mut Walk,
+    at: Pos,
     name: NameId,
     kind: TagKind,
 ) -> Result<Tag, OutOfMemory>
-    ensures { Gives (spec.declared_tag name kind walk.old) result walk.new }
+    ensures { Gives (spec.declared_tag at name kind walk.old) result walk.new }
 {
-    let t = new_tag(alloc, walk, kind)?;
+    let t = new_tag(alloc, walk, at, Some(name), kind)?;
     declare_tag(walk, name, t)?;
     Ok(t)
 }
@@ -106,14 +119,15 @@ fn declared_tag(
 fn found_tag(
     alloc: Global,
     walk: &mut Walk,
+    at: Pos,
     name: NameId,
     kind: TagKind,
     found: Option<Tag>,
 ) -> Result<Tag, OutOfMemory>
-    ensures { Gives (spec.found_tag name kind found walk.old) result walk.new }
+    ensures { Gives (spec.found_tag at name kind found walk.old) result walk.new }
 {
     match found {
-        None => declared_tag(alloc, walk, name, kind),
+        None => declared_tag(alloc, walk, at, name, kind),
         Some(t) => Ok(t),
     }
 }
@@ -133,14 +147,15 @@ fn tag_in(walk: &Walk, name: NameId, inner: bool) -> Option<Tag>
 fn tag_for(
     alloc: Global,
     walk: &mut Walk,
+    at: Pos,
     name: NameId,
     kind: TagKind,
     inner: bool,
 ) -> Result<Tag, OutOfMemory>
-    ensures { Gives (spec.tag_for name kind inner walk.old) result walk.new }
+    ensures { Gives (spec.tag_for at name kind inner walk.old) result walk.new }
 {
     let found = of_kind(kind, tag_in(walk, name, inner));
-    found_tag(alloc, walk, name, kind, found)
+    found_tag(alloc, walk, at, name, kind, found)
 }
 
 // The tag of a specifier, where it is known whether it clashes.
@@ -157,9 +172,9 @@ fn tag_unless(
 {
     if clash {
         holds_or(walk, false, ill_typed_at(IllTyped::Again, at));
-        new_tag(alloc, walk, kind)
+        new_tag(alloc, walk, at, Some(name), kind)
     } else {
-        tag_for(alloc, walk, name, kind, inner)
+        tag_for(alloc, walk, at, name, kind, inner)
     }
 }
 
@@ -177,7 +192,7 @@ pub fn tag_of(
     ensures { Gives (spec.tag_of at name kind body alone walk.old) result walk.new }
 {
     match name {
-        None => new_tag(alloc, walk, kind),
+        None => new_tag(alloc, walk, at, None, kind),
         Some(name) => {
             let clash = clashes(kind, body, tag_in(walk, name, true));
             tag_unless(alloc, walk, clash, at, name, kind, body || alone)

@@ -14,4 +14,6 @@ pub use conversions::{
 };
 pub use faults::{ill_typed_at, is_before, unsupported_at, with_fault};
 pub use steps::{fault, holds_or, ill_typed, unsupported};
-pub use walk::{Builtin, Entity, Fault, Given, GlobalKey, Record, Tag, TagKind, Walk};
+pub use walk::{
+    Builtin, Entity, Fault, Given, GlobalKey, Origin, Record, Replaced, Tag, TagKind, Walk,
+};

@@ -1,11 +1,11 @@
 // What changes on the way through a file: the names in scope, the structs and globals so far, the locals of
 // the function at hand, and the first fault in it.
 
-use sc_base::{List, NameId, Pos, Skip};
+use sc_base::{List, NameId, Numbers, Pos, Skip};
 use sc_tree::ctype::CType;
 use sc_typed::{Global, Param};
 use scopes::Scopes;
-use struct_table::Structs;
+use struct_table::{Held, Structs};
 
 /// What an ordinary name means (C11 6.2.3).
 #[derive(Drop)]
@@ -65,6 +65,20 @@ pub struct Record {
     pub is_static: bool,
 }
 
+/// Where a struct or union was met: the file, and its tag where it has one.
+#[derive(Clone, Copy, Debug, PartialEq, Eq)]
+pub struct Origin {
+    pub file: u32,
+    pub tag: Option<NameId>,
+}
+
+/// A struct or union whose body began, and what it was before.
+#[derive(Drop)]
+pub struct Replaced {
+    pub number: u32,
+    pub before: Held,
+}
+
 /// How a built-in function takes its arguments.
 #[derive(Clone, Copy, Debug, PartialEq, Eq)]
 pub enum Given {
@@ -96,12 +110,18 @@ pub enum Builtin {
 pub struct Walk {
     pub names: Scopes<Entity>,
     pub tags: Scopes<Tag>,
-    /// Structs and unions, in the order of their first mention.
+    /// Structs and unions by their numbers.
     pub structs: Structs,
-    /// How many of them were met so far. Those behind are as an earlier walk over all files left them.
-    pub met: u32,
-    /// Those that the declaration at hand has completed.
-    pub completed: List<u32>,
+    /// The places of the specifiers that made them, in this walk or in an earlier one over the same files: the file, the
+    /// line and the column of each. The number of a struct is that of its place.
+    pub specifiers: Numbers<(u32, (u32, u32))>,
+    /// Where each of them was met.
+    pub origins: List<Origin>,
+    /// By its number the struct that each stands for: the first of those that are one type with it. One behind the last
+    /// stands for itself, as all do in the first walk.
+    pub joined: List<u32>,
+    /// Those whose bodies began in the file at hand, with what they were before, in the order of their bodies.
+    pub completed: List<Replaced>,
     /// Globals, in the order of their first declaration.
     pub globals: List<Global>,
     /// All declarations of variables with linkage, in their order.

@@ -34,7 +34,7 @@ use Rattle.sc_assignments.specs.Assignments.{pre_increment, post_increment}
 use Rattle.sc_operators.specs.Conditionals.{conditional}
 use Rattle.sc_unary.specs.Operators.{int_constant, unary, cast, index}
 use Rattle.sc_unary.specs.Members.{field, is_there}
-use Rattle.sc_names.specs.Structs.{complete_if}
+use Rattle.sc_names.specs.Structs.{begin_struct, complete_if}
 use Rattle.sc_names.specs.Tags.{tag_of, begin_body}
 use Rattle.sc_declare.specs.declared.functions.Parameter.{Parameter}
 use Rattle.sc_calls.specs.Calls.{callee, call, prototype, builtin_call}
@@ -358,6 +358,7 @@ module _ (here : Here) where
   body_of name t None = done true
   body_of name t (Some ms) = do
     _ ← begin_body name t
+    _ ← begin_struct t.number
     fs ← members ms (Some [])
     _ ← complete_if here.widths t.number fs
     done (is_there fs)

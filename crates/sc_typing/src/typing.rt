@@ -14,7 +14,7 @@ use crate::shapes::{
 use sc_base::{List, NameId, OutOfMemory, Pos, Unsupported};
 use sc_calls::BuiltinName;
 use sc_declare::Parameter;
-use sc_names::{begin_body, close_scope, complete_if, open_scope, tag_of};
+use sc_names::{begin_body, begin_struct, close_scope, complete_if, open_scope, tag_of};
 use sc_operators::conditional;
 use sc_parts::{
     a_name, a_typedef, accessed, adjusted, aggregate_kind, aggregate_type, array_of, assignment_to,
@@ -666,9 +666,10 @@ fn aggregate_body(
         (map (spec.adding (tables.here_of here.now)) body.now)) walk.old) result walk.new }
 {
     begin_body(walk, name, tag)?;
+    begin_struct(alloc, walk, tag.number)?;
     let fields = members(alloc, walk, here, body)?;
     let whole = fields.is_some();
-    complete_if(walk, here.widths(), tag.number, fields)?;
+    complete_if(walk, here.widths(), tag.number, fields);
     Ok(whole)
 }
 

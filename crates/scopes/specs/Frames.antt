@@ -2,6 +2,7 @@
 -- what they mean, the latest first; a name that is declared again in one scope means the latest.
 use Rattle.std.specs.Prelude.{ℕ, nat_eq, Option, Some, None, List, [], ◌∷◌, ◌++◌}
 use Rattle.std.specs.Map.{lookup}
+use Rattle.sc_base.specs.declared.pos.NameId.{NameId}
 
 -- The scopes round a point.
 pub record Frames (T : Type 0) : Type 0 where
@@ -75,3 +76,11 @@ kept f = record f { fresh = []; file = f.fresh ++ f.file }
 
 abbrev pub forgotten : {T : Type 0} → Frames T → Frames T
 forgotten f = record f { fresh = [] }
+
+-- all declarations at file scope, the latest first
+abbrev pub file_scope : {T : Type 0} → Frames T → List (ℕ × T)
+file_scope f = f.fresh ++ f.file
+
+-- a name with what it means, by the name's number
+abbrev pub numbered : {T : Type 0} → NameId × T → ℕ × T
+numbered (n, what) = (n.at, what)

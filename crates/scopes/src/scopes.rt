@@ -2,9 +2,9 @@
 //! open scope has tells where one ends and the next begins. What closes a scope takes its own
 //! entries off the stack and touches no other.
 
-ghost use Rattle.std.specs.Prelude.{◌≡◌, ◌+◌, ◌<◌, ◌≤◌, vec_capacity, MatchBool, [], ◌∷◌, ◌++◌, length, take, drop, IfOk, OnOk, OnErr};
-ghost use Rattle.std.specs.Option.{option_copied};
-ghost use Rattle.scopes.specs.Frames.{no_frames, meaning, here as declared_here, declared, opened, closed, innermost, kept, forgotten};
+ghost use Rattle.std.specs.Prelude.{◌≡◌, ◌+◌, ◌<◌, ◌≤◌, vec_capacity, MatchBool, [], ◌∷◌, ◌++◌, length, take, drop, IfOk, IfNone, OnOk, OnErr};
+ghost use Rattle.std.specs.Option.{option_copied, option_map, option_to_list};
+ghost use Rattle.scopes.specs.Frames.{no_frames, meaning, here as declared_here, declared, opened, closed, innermost, kept, forgotten, file_scope, numbered};
 
 use crate::stack::Stack;
 use sc_base::{NameId, OutOfMemory};
@@ -166,6 +166,20 @@ impl<T: Drop> Scopes<T> {
         let fresh = self.here;
         drop_off(&mut self.stack, fresh);
         self.here = 0;
+    }
+
+    /// At file scope, takes the latest declaration off. It takes no memory.
+    pub fn pop(&mut self) -> Option<(NameId, T)>
+        requires { self.old.blocks ≡ [] }
+        ensures taken { file_scope self.old ≡ option_to_list (option_map numbered result) ++ file_scope self.new }
+        ensures outside { self.new.blocks ≡ [] }
+        ensures empty { IfNone result (file_scope self.old ≡ []) }
+    {
+        let (at, value) = self.stack.pop()?;
+        if self.here > 0 {
+            self.here -= 1;
+        }
+        Some((NameId { at }, value))
     }
 
     /// Forgets all names and closes all blocks, as for the next file. It takes no memory.

@@ -1,18 +1,34 @@
 -- The structs and unions of a walk (C11 6.7.2.1).
-use Rattle.std.specs.Prelude.{ℕ, nat_lt, nat_eq, Option, Some, None, List, [], ◌∷◌, ◌++◌, length, slice_set, if◌then◌else◌}
+use Rattle.std.specs.Prelude.{ℕ, nat_lt, nat_eq, Bool, Option, Some, None, List, [], ◌∷◌, ◌++◌, length, slice_set, if◌then◌else◌}
 use Rattle.std.specs.HashMap.{get}
 use Rattle.sc_typed.specs.declared.program.FieldDef.{FieldDef}
 use Rattle.sc_typed.specs.declared.program.StructDef.{StructDef}
+use Rattle.sc_typed.specs.Extents.{struct_at}
 use Rattle.struct_table.specs.declared.members.Index.{Index}
+use Rattle.struct_table.specs.declared.structs.Held.{Held}
 use Rattle.struct_table.specs.Members.{IsIndexed}
 
 -- the table with another struct in place of the one with that number, if there is one
 abbrev pub replaced : List StructDef → ℕ → StructDef → List StructDef
 replaced structs n s = if nat_lt n (length structs) then slice_set structs n s else structs
 
--- the table with a struct at that number, or behind the last
-abbrev pub put_at : List StructDef → ℕ → StructDef → List StructDef
-put_at structs n s = if nat_lt n (length structs) then slice_set structs n s else structs ++ s ∷ []
+abbrev pub incomplete : (union : Bool) → StructDef
+incomplete union = record { union = union; fields = None; extent = None }
+
+-- the table with one that is incomplete behind the last, where there is none with that number
+abbrev pub met_at : List StructDef → ℕ → (union : Bool) → List StructDef
+met_at structs n union = if nat_lt n (length structs) then structs else structs ++ incomplete union ∷ []
+
+-- the table with the struct of that number incomplete
+abbrev pub hidden_at : List StructDef → ℕ → List StructDef
+hidden_at structs n = replaced structs n (incomplete (struct_at structs n).union)
+
+-- a struct outside the table
+abbrev pub held : StructDef → Held
+held s = record { union = s.union; members = s.fields; extent = s.extent }
+
+abbrev pub definition_of : Held → StructDef
+definition_of h = record { union = h.union; fields = h.members; extent = h.extent }
 
 abbrev pub fields_of : Option (List FieldDef) → List FieldDef
 fields_of None = []

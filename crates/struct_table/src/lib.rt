@@ -6,4 +6,4 @@ mod members;
 mod structs;
 
 pub use members::{Members, is_called};
-pub use structs::Structs;
+pub use structs::{Held, Structs};

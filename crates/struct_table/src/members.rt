@@ -77,6 +77,21 @@ fn note_unnamed(
     Ok(())
 }
 
+// The index of these members.
+pub(crate) fn index_of_fields(alloc: Global, fields: &[FieldDef]) -> Result<Index, OutOfMemory>
+    ensures { IfOk result (λ i. spec.IsIndexed (get nat_eq i.numbers) i.unnamed.items fields.now) }
+{
+    let Index {
+        mut numbers,
+        mut unnamed,
+    } = no_index(alloc);
+    for (number, field) in fields.iter().enumerate() {
+        note_name(&mut numbers, field.name, number)?;
+        note_unnamed(&mut unnamed, field, number)?;
+    }
+    Ok(Index { numbers, unnamed })
+}
+
 /// The members of a struct or union so far, in their order. Contracts see the plain list of them.
 #[derive(Drop)]
 pub struct Members {
@@ -132,6 +147,14 @@ impl Members {
         ensures { result.now ≡ self.now }
     {
         self.fields.as_slice()
+    }
+
+    /// The members as a list. It takes no memory.
+    pub fn into_fields(self) -> List<FieldDef>
+        ensures { result ≡ self }
+    {
+        let Members { fields, index: _ } = self;
+        fields
     }
 
     /// Whether a member has that name.

@@ -45,16 +45,16 @@ pub declare_kept : (new : Bool) (name : NameId) (e : Entity) → KeepsGlobals (d
 declare_kept true name e = keeps (λ w. refl)
 declare_kept false name e = keeps (λ w. refl)
 
-number_kept : (k : TagKind) → KeepsGlobals (new_number k)
-number_kept tag.Struct = keeps (λ w. refl)
-number_kept tag.Union = keeps (λ w. refl)
-number_kept tag.Enum = keeps (λ w. refl)
+number_kept : (at : Pos) (k : TagKind) → KeepsGlobals (new_number at k)
+number_kept at tag.Struct = keeps (λ w. refl)
+number_kept at tag.Union = keeps (λ w. refl)
+number_kept at tag.Enum = keeps (λ w. refl)
 
 abbrev numbered : TagKind → ℕ → Tag
 numbered k n = record { kind = k; number = n; done = false }
 
-new_tag_kept : (k : TagKind) → KeepsGlobals (new_tag k)
-new_tag_kept k = by_done _ (numbered k) (number_kept k)
+new_tag_kept : (at : Pos) (k : TagKind) → KeepsGlobals (new_tag at k)
+new_tag_kept at k = by_done _ (numbered k) (number_kept at k)
 
 abbrev made_known : NameId → Tag → Check Tag
 made_known name t = declare_tag name t >>= λ u. done t
@@ -62,26 +62,26 @@ made_known name t = declare_tag name t >>= λ u. done t
 known_kept : (name : NameId) (t : Tag) → KeepsGlobals (made_known name t)
 known_kept name t = keeps (λ w. refl)
 
-declared_kept : (name : NameId) (k : TagKind) → KeepsGlobals (declared_tag name k)
-declared_kept name k = by_then (new_tag k) (made_known name) (new_tag_kept k) (λ t. known_kept name t)
+declared_kept : (at : Pos) (name : NameId) (k : TagKind) → KeepsGlobals (declared_tag at name k)
+declared_kept at name k = by_then (new_tag at k) (made_known name) (new_tag_kept at k) (λ t. known_kept name t)
 
-found_kept : (name : NameId) (k : TagKind) (t : Option Tag) → KeepsGlobals (found_tag name k t)
-found_kept name k None = declared_kept name k
-found_kept name k (Some t) = keeps (λ w. refl)
+found_kept : (at : Pos) (name : NameId) (k : TagKind) (t : Option Tag) → KeepsGlobals (found_tag at name k t)
+found_kept at name k None = declared_kept at name k
+found_kept at name k (Some t) = keeps (λ w. refl)
 
 in_kept : (name : NameId) (inner : Bool) → KeepsGlobals (tag_in name inner)
 in_kept name true = keeps (λ w. refl)
 in_kept name false = keeps (λ w. refl)
 
-for_kept : (name : NameId) (k : TagKind) (inner : Bool) → KeepsGlobals (tag_for name k inner)
-for_kept name k inner = by_then _ _ (in_kept name inner) (λ t. found_kept name k (of_kind k t))
+for_kept : (at : Pos) (name : NameId) (k : TagKind) (inner : Bool) → KeepsGlobals (tag_for at name k inner)
+for_kept at name k inner = by_then _ _ (in_kept name inner) (λ t. found_kept at name k (of_kind k t))
 
 unless_kept : (clash : Bool) (at : Pos) (name : NameId) (k : TagKind) (inner : Bool) → KeepsGlobals (tag_unless clash at name k inner)
-unless_kept true at name k inner = by_then (holds_or false (ill_typed_at i.Again at)) (λ _. new_tag k) (by_test false _) (λ b. new_tag_kept k)
-unless_kept false at name k inner = for_kept name k inner
+unless_kept true at name k inner = by_then (holds_or false (ill_typed_at i.Again at)) (λ _. new_tag at k) (by_test false _) (λ b. new_tag_kept at k)
+unless_kept false at name k inner = for_kept at name k inner
 
 pub tag_kept : (at : Pos) (name : Option NameId) (k : TagKind) (body alone : Bool) → KeepsGlobals (tag_of at name k body alone)
-tag_kept at None k body alone = new_tag_kept k
+tag_kept at None k body alone = new_tag_kept at k
 tag_kept at (Some name) k body alone = by_then _ _ (keeps (λ w. refl)) (λ h. unless_kept (clashes k body h) at name k (body || alone))
 
 pub begin_kept : (name : Option NameId) (t : Tag) → KeepsGlobals (begin_body name t)

@@ -12,7 +12,7 @@ invariant-loop-x l = record {
   made :
       walk_files (linked_here l.w l.builtins l.fn.linked) (made l.functions l.notes) (drop l.x-index l.units) l.walk
       ≡ walk_files (linked_here l.fn.w l.fn.builtins l.fn.linked) nothing_made l.fn.units
-      (record no_walk { structs = l.fn.structs });
+      (record no_walk { structs = l.fn.met.structs; specifiers = l.fn.met.specifiers });
   tied : l.numbers ≡ keys_of l.walk.globals;
   tables : AreTables l.tables;
   same_bodies : body l.tables ≡ body l.fn.linked;
