@@ -22,7 +22,8 @@ fn extent_now(w: Widths, structs: &[StructDef], at: usize) -> Option<Extent>
 
 // Sets each extent to that of the members; whether one changed.
 fn set_extents(w: Widths, structs: &mut Vec<StructDef>) -> bool
-    ensures { spec.extents_set w structs.old.items ≡ (result, structs.new.items) }
+    ensures set { structs.new.items ≡ spec.set_all w structs.old.items }
+    ensures told { spec.IsTold result structs.old.items structs.new.items }
 {
     let mut changed = false;
     for at in 0..structs.len() {

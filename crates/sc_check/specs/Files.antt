@@ -105,6 +105,9 @@ pub record Made : Type 0 where
   pub functions : List Function
   pub notes : List Skip
 
+abbrev pub nothing_made : Made
+nothing_made = record { functions = []; notes = [] }
+
 abbrev pub segment_in : Here → Made → Segment → Check Made
 segment_in here m (segment.Skipped s) = done (record m { notes = m.notes ++ s ∷ [] })
 segment_in here m (segment.Function h b) = do

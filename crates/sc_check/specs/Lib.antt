@@ -1,4 +1,7 @@
 pub mod Files
+pub mod Walks
+pub mod First
+pub mod Second
 pub mod Typed
 pub mod Heres
 pub mod Parts

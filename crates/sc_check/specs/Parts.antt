@@ -9,7 +9,6 @@ use Rattle.sc_rules.specs.Walks.{Check, ◌>>=◌, done}
 use Rattle.sc_typing.specs.Here.{Here}
 use Rattle.sc_bodies.specs.Bodies.{stating}
 use Rattle.sc_jumps.specs.Jumps.{jumps, jumps_of}
-use Rattle.sc_rules.specs.declared.walk.Walk.{Walk}
 use Rattle.sc_check.specs.Files.{Made, inside}
 
 -- a body that has a tree
@@ -22,7 +21,3 @@ tree_in here t s = do
 -- functions and notes as one
 abbrev pub made : List Function → List Skip → Made
 made functions notes = record { functions = functions; notes = notes }
-
--- what a walk over all files leaves, in three parts
-abbrev pub found : List Function × (List Skip × Walk) → Made × Walk
-found r = (made r.0 r.1.0, r.1.1)

@@ -5,6 +5,7 @@ ghost use Rattle.file_tables.specs.Linkage.{file_of, AreTables, AreTurned};
 ghost use Rattle.sc_declare.specs.Numbers.{keys_of};
 ghost use Rattle.sc_typing.specs.Tables as tables;
 ghost use Rattle.sc_check.specs.Heres.{linked_here};
+ghost use Rattle.sc_check.specs.Known.{second_known};
 ghost use Rattle.sc_check.specs.Second as spec;
 
 use crate::files::file;
@@ -213,7 +214,7 @@ pub fn second_walk(
     bodies: &[Bodied],
     units: &[Unit],
 ) -> Result<Second, OutOfMemory>
-    ensures { IfOk result (λ s. s ≡ spec.second_known w builtins.now first bodies.now units.now) }
+    ensures { IfOk result (λ s. s ≡ second_known w builtins.now first bodies.now units.now) }
 {
     let over = over_all(alloc, w, first, bodies)?;
     let mut making = Making {

@@ -3,7 +3,7 @@
 ghost use Rattle.std.specs.Prelude.{◌≡◌};
 ghost use Rattle.sc_typing.specs.Tables as tables;
 ghost use Rattle.sc_check.specs.Heres.{alone_here};
-ghost use Rattle.sc_check.specs.Typed as spec;
+ghost use Rattle.sc_check.specs.Walks as spec;
 
 use sc_base::{List, Numbers};
 use sc_rules::{Builtin, Origin, Walk};

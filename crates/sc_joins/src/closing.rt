@@ -1,7 +1,7 @@
 // Pairs of structs that are one type, closed: with two structs those at one place of their members are one type, and what
 // is one type with one type is one type.
 
-ghost use Rattle.std.specs.Prelude.{◌≡◌, ◌≤◌, IfOk, OnOk};
+ghost use Rattle.std.specs.Prelude.{◌≡◌, length, OnOk, IfOk};
 ghost use Rattle.sc_joins.specs.Closing as spec;
 
 use crate::pairs::add_pairs_of_structs;
@@ -24,21 +24,28 @@ fn each_itself(alloc: Global, count: usize) -> Result<Vec<u32>, OutOfMemory>
     Ok(all)
 }
 
-// The first of those that are one type with a struct so far: each points to one before it, the first to itself.
+// The first of those that are one type with a struct so far: each leads to one before it, the first to itself.
 fn first_of(before: &[u32], number: u32) -> u32
+    requires { spec.IsForest before.now }
     ensures { result ≡ spec.first_of before.now number }
 {
     let mut at = number;
-    while before[at as usize] < at {
-        at = before[at as usize];
+    while class_of(before, at) < at {
+        at = class_of(before, at);
     }
     at
 }
 
-// Makes two structs one type; whether they were two so far.
-fn join(before: &mut Vec<u32>, a: u32, b: u32) -> bool
-    ensures { spec.join before.old.items a b ≡ (result, before.new.items) }
+// Makes two structs of one class one type; whether they were two so far.
+fn join(classes: &[u32], before: &mut Vec<u32>, a: u32, b: u32) -> bool
+    requires { spec.IsForest before.old.items }
+    ensures forest { spec.IsForest before.new.items }
+    ensures joined { spec.firsts before.new.items ≡ spec.with_pair classes.now (spec.firsts before.old.items) (a, b) }
+    ensures told { result ≡ spec.is_new classes.now (spec.firsts before.old.items) (a, b) }
 {
+    if class_of(classes, a) != class_of(classes, b) {
+        return false;
+    }
     let first = first_of(before.as_slice(), a);
     let other = first_of(before.as_slice(), b);
     before[a as usize] = first;
@@ -50,38 +57,98 @@ fn join(before: &mut Vec<u32>, a: u32, b: u32) -> bool
     true
 }
 
-// Closes pairs. Each pair that joins two types joins the structs in their members.
-fn close(
+// The same of all pairs; whether some were two so far.
+fn join_all(classes: &[u32], before: &mut Vec<u32>, pairs: &[(u32, u32)]) -> bool
+    requires { spec.IsForest before.old.items }
+    ensures forest { spec.IsForest before.new.items }
+    ensures joined { spec.firsts before.new.items ≡ spec.with_pairs classes.now (spec.firsts before.old.items) pairs.now }
+    ensures told { spec.IsTold result (spec.firsts before.old.items) (spec.firsts before.new.items) }
+{
+    let mut some = false;
+    for (a, b) in pairs {
+        if join(classes, before, *a, *b) {
+            some = true;
+        }
+    }
+    some
+}
+
+// Makes the structs one type that stand at one place of a struct and of the first of its type.
+fn join_members_of(
     structs: &[StructDef],
     classes: &[u32],
     before: &mut Vec<u32>,
-    pairs: Vec<(u32, u32)>,
-) -> Result<(), OutOfMemory>
-    ensures { OnOk result (before.new.items ≡ spec.close structs.now classes.now before.old.items pairs.items) }
+    pairs: &mut Vec<(u32, u32)>,
+    at: usize,
+) -> Result<bool, OutOfMemory>
+    requires { spec.IsForest before.old.items }
+    ensures forest { OnOk result (spec.IsForest before.new.items) }
+    ensures joined { OnOk result (spec.firsts before.new.items
+        ≡ spec.with_members structs.now classes.now (spec.firsts before.old.items) at) }
+    ensures told { IfOk result (λ some. spec.IsTold some (spec.firsts before.old.items) (spec.firsts before.new.items)) }
 {
-    let mut left = pairs;
-    while let Some((a, b)) = left.pop() {
-        if class_of(classes, a) == class_of(classes, b) && join(before, a, b) {
-            add_pairs_of_structs(&mut left, &structs[a as usize], &structs[b as usize])?;
+    let first = first_of(before.as_slice(), before[at]) as usize;
+    if first == at {
+        return Ok(false);
+    }
+    pairs.clear();
+    add_pairs_of_structs(pairs, &structs[first], &structs[at])?;
+    Ok(join_all(classes, before, pairs.as_slice()))
+}
+
+// The same for each struct; whether some were two so far.
+fn join_members(
+    alloc: Global,
+    structs: &[StructDef],
+    classes: &[u32],
+    before: &mut Vec<u32>,
+) -> Result<bool, OutOfMemory>
+    requires { spec.IsForest before.old.items }
+    ensures forest { OnOk result (spec.IsForest before.new.items) }
+    ensures joined { OnOk result (spec.firsts before.new.items
+        ≡ spec.round structs.now classes.now (spec.firsts before.old.items)) }
+    ensures told { IfOk result (λ some. spec.IsTold some (spec.firsts before.old.items) (spec.firsts before.new.items)) }
+{
+    let mut pairs = Vec::new(alloc);
+    let mut some = false;
+    for at in 0..structs.len() {
+        if join_members_of(structs, classes, before, &mut pairs, at)? {
+            some = true;
+        }
+    }
+    Ok(some)
+}
+
+// Rounds until one joins nothing. Each of the others makes two types one, so there are no more than structs.
+fn close(
+    alloc: Global,
+    structs: &[StructDef],
+    classes: &[u32],
+    before: &mut Vec<u32>,
+) -> Result<(), OutOfMemory>
+    requires { spec.IsForest before.old.items }
+    ensures forest { OnOk result (spec.IsForest before.new.items) }
+    ensures closed { OnOk result (spec.firsts before.new.items
+        ≡ spec.rounds structs.now classes.now (length structs.now) (spec.firsts before.old.items)) }
+{
+    for _round in 0..structs.len() {
+        if !join_members(alloc, structs, classes, before)? {
+            return Ok(());
         }
     }
     Ok(())
 }
 
-// The first of its type for each struct, where each points to one before it or to itself.
+// The first of its type for each struct.
 fn firsts(alloc: Global, before: &[u32]) -> Result<List<u32>, OutOfMemory>
+    requires { spec.IsForest before.now }
     ensures { IfOk result (λ r. r ≡ spec.firsts before.now) }
 {
-    let mut all = Vec::with_capacity(alloc, before.len())?;
-    for (at, one) in before.iter().enumerate() {
-        let first = if (*one as usize) < at {
-            all[*one as usize]
-        } else {
-            *one
-        };
-        all.push(first)?;
+    let mut all = List::from_vec(Vec::with_capacity(alloc, before.len())?);
+    for one in before {
+        all.push(first_of(before, *one))?;
     }
-    Ok(List::from_vec(all))
+    Ok(all)
 }
 
 /// The first of its type for each struct, where these pairs are one type.
@@ -89,11 +156,12 @@ pub fn closed(
     alloc: Global,
     structs: &[StructDef],
     classes: &[u32],
-    pairs: Vec<(u32, u32)>,
+    pairs: &[(u32, u32)],
 ) -> Result<List<u32>, OutOfMemory>
-    ensures { IfOk result (λ r. r ≡ spec.closed structs.now classes.now pairs.items) }
+    ensures { IfOk result (λ r. r ≡ spec.closed structs.now classes.now pairs.now) }
 {
     let mut before = each_itself(alloc, structs.len())?;
-    close(structs, classes, &mut before, pairs)?;
+    join_all(classes, &mut before, pairs);
+    close(alloc, structs, classes, &mut before)?;
     firsts(alloc, before.as_slice())
 }

@@ -1,6 +1,6 @@
 // Which structs are one type.
 
-ghost use Rattle.std.specs.Prelude.{◌≡◌, ◌++◌, length, IfOk, OnOk};
+ghost use Rattle.std.specs.Prelude.{◌≡◌, ◌++◌, [], None, length, slice_index_or, slice_set, IfOk, OnOk};
 ghost use Rattle.sc_joins.specs.Joins as spec;
 
 use crate::closing::closed;
@@ -18,7 +18,10 @@ struct Spans {
     others: Vec<Option<u32>>,
 }
 
-fn no_spans(alloc: Global, count: usize) -> Result<Spans, OutOfMemory> {
+// No struct yet, of so many classes.
+fn no_spans(alloc: Global, count: usize) -> Result<Spans, OutOfMemory>
+    ensures { IfOk result (λ s. spec.AreSpans [] [] 0 s.firsts.items s.others.items) }
+{
     let mut firsts = Vec::with_capacity(alloc, count)?;
     let mut others = Vec::with_capacity(alloc, count)?;
     for _ in 0..count {
@@ -39,7 +42,13 @@ fn file_of(origins: &[Origin], number: u32) -> u32
 }
 
 // Notes a struct of a class.
-fn note(spans: &mut Spans, origins: &[Origin], class: u32, number: u32) {
+fn note(spans: &mut Spans, origins: &[Origin], class: u32, number: u32)
+    ensures firsts { spans.new.firsts.items ≡ slice_set spans.old.firsts.items class
+        (spec.first_with (slice_index_or spans.old.firsts.items class None) number) }
+    ensures others { spans.new.others.items ≡ slice_set spans.old.others.items class
+        (spec.other_with origins.now (slice_index_or spans.old.firsts.items class None)
+        (slice_index_or spans.old.others.items class None) number) }
+{
     match spans.firsts[class as usize] {
         None => spans.firsts[class as usize] = Some(number),
         Some(first) => {
@@ -54,7 +63,7 @@ fn note(spans: &mut Spans, origins: &[Origin], class: u32, number: u32) {
 
 // The spans of the classes of all structs with a tag.
 fn spans_of(alloc: Global, origins: &[Origin], classes: &[u32]) -> Result<Spans, OutOfMemory>
-    ensures { IfOk result (λ s. spec.AreSpans origins.now classes.now s.firsts.items s.others.items) }
+    ensures { IfOk result (λ s. spec.AreSpans origins.now classes.now (length origins.now) s.firsts.items s.others.items) }
 {
     let mut spans = no_spans(alloc, classes.len())?;
     for (at, origin) in origins.iter().enumerate() {
@@ -66,7 +75,10 @@ fn spans_of(alloc: Global, origins: &[Origin], classes: &[u32]) -> Result<Spans,
 }
 
 // A struct of another file that is of the class of one.
-fn partner(spans: &Spans, origins: &[Origin], class: u32, number: u32) -> Option<u32> {
+fn partner(spans: &Spans, origins: &[Origin], class: u32, number: u32) -> Option<u32>
+    ensures { result ≡ spec.partner origins.now (slice_index_or spans.now.firsts.items class None)
+        (slice_index_or spans.now.others.items class None) number }
+{
     match (spans.firsts[class as usize], spans.others[class as usize]) {
         (Some(first), Some(other)) => {
             if file_of(origins, first) != file_of(origins, number) {
@@ -113,5 +125,5 @@ pub fn joined(
     let mut pairs = Vec::new(alloc);
     add_pairs_of_tags(alloc, origins, classes.as_slice(), &mut pairs)?;
     add_pairs_of_typedefs(alloc, classes.as_slice(), typedefs, &mut pairs)?;
-    closed(alloc, structs, classes.as_slice(), pairs)
+    closed(alloc, structs, classes.as_slice(), pairs.as_slice())
 }

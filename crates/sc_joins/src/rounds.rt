@@ -1,7 +1,7 @@
 // Classes of structs, split until the members of all that stand in one class correspond. They begin with kind and tag, so
 // what is left together is the greatest relation that C11 6.2.7 allows.
 
-ghost use Rattle.std.specs.Prelude.{◌≡◌, ◌<◌, length, IfOk, OnOk};
+ghost use Rattle.std.specs.Prelude.{◌≡◌, ◌++◌, [], ◌∷◌, length, replicate, None, IfOk, OnOk};
 ghost use Rattle.sc_joins.specs.Rounds as spec;
 
 use crate::members::{correspond, is_complete};
@@ -42,7 +42,9 @@ fn number_of(at: usize) -> Result<u32, OutOfMemory>
     Ok(at as u32)
 }
 
-fn none_each(alloc: Global, count: usize) -> Result<Vec<Option<u32>>, OutOfMemory> {
+fn none_each(alloc: Global, count: usize) -> Result<Vec<Option<u32>>, OutOfMemory>
+    ensures { IfOk result (λ r. r.items ≡ replicate count None) }
+{
     let mut all = Vec::with_capacity(alloc, count)?;
     for _ in 0..count {
         all.push(None)?;
@@ -52,7 +54,7 @@ fn none_each(alloc: Global, count: usize) -> Result<Vec<Option<u32>>, OutOfMemor
 
 // The first class: complete structs by their titles, the incomplete ones each by itself.
 fn by_titles(alloc: Global, given: &Given) -> Result<Vec<u32>, OutOfMemory>
-    ensures { IfOk result (λ classes. classes.items ≡ spec.by_titles given.now) }
+    ensures { IfOk result (λ classes. classes.items ≡ spec.by_titles (spec.given_of given.now)) }
 {
     let mut firsts = none_each(alloc, given.count)?;
     let mut classes = Vec::with_capacity(alloc, given.structs.len())?;
@@ -72,7 +74,7 @@ fn by_titles(alloc: Global, given: &Given) -> Result<Vec<u32>, OutOfMemory>
 // The first struct of those that were split off a class whose members correspond to those of this one; where there is
 // none, this one is split off.
 fn split_off(given: &Given, classes: &[u32], next: &mut Vec<Option<u32>>, number: u32) -> u32
-    ensures { spec.split_off given.now classes.now next.old.items number ≡ (result, next.new.items) }
+    ensures { spec.split_off (spec.given_of given.now) classes.now next.old.items number ≡ (result, next.new.items) }
 {
     let mut first = class_of(classes, number);
     for _split in 0..classes.len() {
@@ -96,20 +98,39 @@ fn split_off(given: &Given, classes: &[u32], next: &mut Vec<Option<u32>>, number
     number
 }
 
+// Puts one struct into its class: a complete one into that of the first before it that takes it, an incomplete one by
+// itself.
+fn split_one(
+    given: &Given,
+    classes: &[u32],
+    next: &mut Vec<Option<u32>>,
+    made: &mut Vec<u32>,
+    at: usize,
+) -> Result<(), OutOfMemory>
+    requires chained { spec.AreChained (spec.given_of given.now) classes.now made.old.items next.old.items }
+    requires behind { at ≡ length made.old.items }
+    ensures made { OnOk result (made.new.items
+        ≡ made.old.items ++ spec.class_in (spec.given_of given.now) classes.now made.old.items at ∷ []) }
+    ensures chained { OnOk result (spec.AreChained (spec.given_of given.now) classes.now made.new.items next.new.items) }
+{
+    let number = number_of(at)?;
+    let class = if is_complete(given.structs, at) {
+        split_off(given, classes, next, number)
+    } else {
+        number
+    };
+    made.push(class)?;
+    Ok(())
+}
+
 // Complete structs in classes that are split once; the incomplete ones each by itself.
 fn split(alloc: Global, given: &Given, classes: &[u32]) -> Result<Vec<u32>, OutOfMemory>
-    ensures { IfOk result (λ r. r.items ≡ spec.split given.now classes.now) }
+    ensures { IfOk result (λ r. r.items ≡ spec.split (spec.given_of given.now) classes.now) }
 {
     let mut next = none_each(alloc, classes.len())?;
     let mut made = Vec::with_capacity(alloc, classes.len())?;
     for at in 0..classes.len() {
-        let number = number_of(at)?;
-        let class = if is_complete(given.structs, at) {
-            split_off(given, classes, &mut next, number)
-        } else {
-            number
-        };
-        made.push(class)?;
+        split_one(given, classes, &mut next, &mut made, at)?;
     }
     Ok(made)
 }
@@ -133,7 +154,7 @@ fn with_one(whole: Whole, class: u32, file: u32) -> Whole
 
 // What the complete structs of each title are.
 fn wholes(alloc: Global, given: &Given, classes: &[u32]) -> Result<Vec<Whole>, OutOfMemory>
-    ensures { IfOk result (λ all. all.items ≡ spec.wholes given.now classes.now) }
+    ensures { IfOk result (λ all. all.items ≡ spec.wholes (spec.given_of given.now) given.now.count classes.now) }
 {
     let mut all = Vec::with_capacity(alloc, given.count)?;
     for _title in 0..given.count {
@@ -164,7 +185,7 @@ fn place_incomplete(
     given: &Given,
     classes: Vec<u32>,
 ) -> Result<Vec<u32>, OutOfMemory>
-    ensures { IfOk result (λ r. r.items ≡ spec.place_incomplete given.now classes.items) }
+    ensures { IfOk result (λ r. r.items ≡ spec.place_incomplete (spec.given_of given.now) classes.items) }
 {
     let wholes = wholes(alloc, given, classes.as_slice())?;
     let mut firsts = none_each(alloc, given.count)?;
@@ -182,7 +203,7 @@ fn place_incomplete(
 
 // One round.
 fn round(alloc: Global, given: &Given, classes: &[u32]) -> Result<Vec<u32>, OutOfMemory>
-    ensures { IfOk result (λ r. r.items ≡ spec.round given.now classes.now) }
+    ensures { IfOk result (λ r. r.items ≡ spec.round (spec.given_of given.now) classes.now) }
 {
     let made = split(alloc, given, classes)?;
     place_incomplete(alloc, given, made)
@@ -204,7 +225,7 @@ fn same_classes(a: &[u32], b: &[u32]) -> bool
 
 // Rounds until one changes nothing. Each of the others splits a class, so there are no more than structs.
 fn settled(alloc: Global, given: &Given) -> Result<Vec<u32>, OutOfMemory>
-    ensures { IfOk result (λ r. r.items ≡ spec.settled given.now) }
+    ensures { IfOk result (λ r. r.items ≡ spec.settled (spec.given_of given.now)) }
 {
     let first = by_titles(alloc, given)?;
     let mut classes = place_incomplete(alloc, given, first)?;

@@ -1,7 +1,7 @@
 // Types without a tag that two files declare under one name (C11 6.2.7, 1): where the types of a typedef name are alike, the
 // structs at one place of them are one type.
 
-ghost use Rattle.std.specs.Prelude.{◌≡◌, ◌++◌, IfOk, OnOk};
+ghost use Rattle.std.specs.Prelude.{◌≡◌, ◌++◌, [], ◌∷◌, length, replicate, Some, None, IfOk, OnOk};
 ghost use Rattle.sc_joins.specs.Typedefs as spec;
 
 use crate::pairs::add_pairs;
@@ -18,15 +18,17 @@ pub struct Typedef {
     pub ctype: CType,
 }
 
-// The first of those with one name, and by its number the next one that is not alike to those before it.
+// By name the first typedef, and by its number the next one of the name that is not alike to those before it.
 #[derive(Drop)]
-struct Chains {
-    firsts: Keyed<u32, usize>,
-    next: Vec<Option<usize>>,
+pub(crate) struct Chains {
+    pub(crate) firsts: Keyed<u32, usize>,
+    pub(crate) next: Vec<Option<usize>>,
 }
 
 // No name yet, of so many typedefs.
-fn no_chains(alloc: Global, count: usize) -> Result<Chains, OutOfMemory> {
+fn no_chains(alloc: Global, count: usize) -> Result<Chains, OutOfMemory>
+    ensures { IfOk result (λ c. (c.firsts ≡ []) × (c.next.items ≡ replicate count None)) }
+{
     let mut next = Vec::with_capacity(alloc, count)?;
     for _ in 0..count {
         next.push(None)?;
@@ -37,7 +39,8 @@ fn no_chains(alloc: Global, count: usize) -> Result<Chains, OutOfMemory> {
     })
 }
 
-// The first that is alike to one, of those from the number on; where there is none, that one is put behind them.
+// The first that is alike to one, of those that the table leads to from one on; where there is none, that one is put at its
+// end.
 fn alike_behind(
     classes: &[u32],
     typedefs: &[Typedef],
@@ -45,7 +48,8 @@ fn alike_behind(
     first: usize,
     at: usize,
 ) -> usize
-    ensures { spec.alike_behind classes.now typedefs.now next.old.items first at ≡ (result, next.new.items) }
+    ensures { spec.alike_behind classes.now typedefs.now next.old.items (length typedefs.now) at (Some first) at
+        ≡ (result, next.new.items) }
 {
     let mut other = first;
     for _differing in 0..typedefs.len() {
@@ -69,9 +73,7 @@ fn first_alike(
     classes: &[u32],
     typedefs: &[Typedef],
     at: usize,
-) -> Result<usize, OutOfMemory>
-    ensures { IfOk result (λ other. other ≡ spec.first_alike classes.now typedefs.now at) }
-{
+) -> Result<usize, OutOfMemory> {
     match chains.firsts.get(&typedefs[at].name.at).copied() {
         None => {
             chains.firsts.insert(typedefs[at].name.at, at)?;
@@ -79,6 +81,41 @@ fn first_alike(
         }
         Some(first) => Ok(alike_behind(classes, typedefs, &mut chains.next, first, at)),
     }
+}
+
+// Adds the first of the same name whose type is alike to those of the typedefs before.
+fn add_first(
+    chains: &mut Chains,
+    classes: &[u32],
+    typedefs: &[Typedef],
+    firsts: &mut Vec<usize>,
+    at: usize,
+) -> Result<(), OutOfMemory>
+    requires chained { spec.AreChained typedefs.now firsts.old.items chains.old }
+    requires behind { at ≡ length firsts.old.items }
+    ensures made { OnOk result (firsts.new.items
+        ≡ firsts.old.items ++ spec.first_in classes.now typedefs.now firsts.old.items at ∷ []) }
+    ensures chained { OnOk result (spec.AreChained typedefs.now firsts.new.items chains.new) }
+{
+    let first = first_alike(chains, classes, typedefs, at)?;
+    firsts.push(first)?;
+    Ok(())
+}
+
+// For each typedef the first of the same name whose type is alike.
+fn firsts_alike(
+    alloc: Global,
+    classes: &[u32],
+    typedefs: &[Typedef],
+) -> Result<Vec<usize>, OutOfMemory>
+    ensures { IfOk result (λ r. r.items ≡ spec.firsts_alike classes.now typedefs.now) }
+{
+    let mut chains = no_chains(alloc, typedefs.len())?;
+    let mut firsts = Vec::with_capacity(alloc, typedefs.len())?;
+    for at in 0..typedefs.len() {
+        add_first(&mut chains, classes, typedefs, &mut firsts, at)?;
+    }
+    Ok(firsts)
 }
 
 /// Adds the structs that typedef names of two files join.
@@ -90,11 +127,10 @@ pub fn add_pairs_of_typedefs(
 ) -> Result<(), OutOfMemory>
     ensures { OnOk result (pairs.new.items ≡ pairs.old.items ++ spec.pairs_of_typedefs classes.now typedefs.now) }
 {
-    let mut chains = no_chains(alloc, typedefs.len())?;
-    for at in 0..typedefs.len() {
-        let other = first_alike(&mut chains, classes, typedefs, at)?;
-        if other != at {
-            add_pairs(pairs, &typedefs[other].ctype, &typedefs[at].ctype)?;
+    let firsts = firsts_alike(alloc, classes, typedefs)?;
+    for (at, first) in firsts.iter().enumerate() {
+        if *first != at {
+            add_pairs(pairs, &typedefs[*first].ctype, &typedefs[at].ctype)?;
         }
     }
     Ok(())

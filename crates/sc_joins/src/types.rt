@@ -2,6 +2,7 @@
 
 ghost use Rattle.std.specs.Prelude.{◌≡◌, map};
 ghost use Rattle.std.specs.List.{list_all};
+ghost use Rattle.sc_typed.specs.Types as typed;
 ghost use Rattle.sc_joins.specs.Types as spec;
 
 use sc_base::List;
@@ -20,7 +21,7 @@ pub fn class_of(classes: &[u32], number: u32) -> u32
 
 // Whether two lengths agree: one that is not written agrees with each.
 fn lengths_agree(a: Option<u32>, b: Option<u32>) -> bool
-    ensures { result ≡ spec.lengths_agree a b }
+    ensures { result ≡ typed.lengths_agree a b }
 {
     match (a, b) {
         (Some(m), Some(n)) => m == n,
@@ -30,14 +31,14 @@ fn lengths_agree(a: Option<u32>, b: Option<u32>) -> bool
 
 // Whether the default argument promotions (C11 6.5.2.2) leave a kind as it is.
 fn keeps_kind(kind: IntKind) -> bool
-    ensures { result ≡ spec.keeps_kind kind }
+    ensures { result ≡ typed.keeps_kind kind }
 {
     promoted(kind) == kind
 }
 
 // Whether they leave a type as it is.
 fn keeps_itself(t: &CType) -> bool
-    ensures { result ≡ spec.keeps_itself t.now }
+    ensures { result ≡ typed.keeps_itself t.now }
 {
     match t {
         CType::Bool => false,
@@ -54,7 +55,7 @@ fn keeps_itself(t: &CType) -> bool
 
 // Whether they leave each of these types as it is.
 fn all_keep(types: &List<CType>) -> bool
-    ensures { result ≡ list_all spec.keeps_itself types.now }
+    ensures { result ≡ list_all typed.keeps_itself types.now }
 {
     for t in types.as_slice() {
         if !keeps_itself(t) {
@@ -102,7 +103,7 @@ fn alike_functions(classes: &[u32], a: &Signature, b: &Signature) -> bool
 // Whether each of one list is alike that at its place in the other, and there are as many.
 #[cycle(alike)]
 fn each_alike(classes: &[u32], a: &List<CType>, b: &List<CType>) -> bool
-    ensures { result ≡ spec.each_alike classes.now a.now b.now }
+    ensures { result ≡ typed.each_fits (spec.alike classes.now) a.now b.now }
 {
     if a.len() != b.len() {
         return false;
