@@ -151,6 +151,11 @@ pub fn both(alloc: Global, first: &str, second: &str) -> Option<Found> {
     told_of(alloc, Widths::Ilp32, &[first, second], None)
 }
 
+/// The same of any number of files.
+pub fn all_of(alloc: Global, texts: &[&str]) -> Option<Found> {
+    told_of(alloc, Widths::Ilp32, texts, None)
+}
+
 /// Whether the last function of a file is skipped for that, and no declaration leaves a note.
 pub fn is_skipped(alloc: Global, widths: Widths, text: &str, want: Skip) -> bool {
     match checked(alloc, widths, text) {
