@@ -3,6 +3,7 @@ pub mod Walks
 pub mod First
 pub mod Second
 pub mod Typed
+pub mod Numbers
 pub mod Heres
 pub mod Parts
 pub mod Bodied

@@ -15,9 +15,11 @@ mod files;
 mod first;
 mod functions;
 mod heads;
+mod laws;
 mod passing;
 mod second;
 mod walks;
 
 pub use answer::CheckAnswer;
 pub use checking::check;
+pub use laws::numbers_mean_one_specifier;

@@ -2,6 +2,7 @@ pub mod Types
 pub mod Members
 pub mod Titles
 pub mod Rounds
+pub mod Laws
 pub mod Pairs
 pub mod Typedefs
 pub mod Closing

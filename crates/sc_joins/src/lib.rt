@@ -8,6 +8,7 @@
 
 mod closing;
 mod joins;
+mod laws;
 mod members;
 mod pairs;
 mod rounds;
@@ -16,5 +17,6 @@ mod typedefs;
 mod types;
 
 pub use joins::joined;
+pub use laws::{classes_are_greatest, classes_correspond};
 pub use typedefs::Typedef;
 pub use types::{alike, class_of};
