@@ -4,7 +4,8 @@ use Rattle.std.specs.Prelude.{◌≡◌, ℕ, ◌+◌, ◌≤◌, nat_eq, Bool, 
 use Rattle.sc_typed.specs.declared.program.StructDef.{StructDef}
 use Rattle.sc_typed.specs.Extents.{struct_at}
 use Rattle.sc_joins.specs.Types.{class_of}
-use Rattle.sc_joins.specs.Rounds.{numbered}
+use Rattle.sc_joins.specs.Members.{is_complete}
+use Rattle.sc_joins.specs.Rounds.{or_else, first_where, numbered}
 use Rattle.sc_joins.specs.Pairs.{Pairs, pairs_of_structs}
 
 -- each struct is a type by itself
@@ -33,19 +34,33 @@ module _ (classes : List ℕ) where
   abbrev pub with_pairs : (firsts : List ℕ) → Pairs → List ℕ
   with_pairs firsts ps = fold with_pair firsts ps
 
+-- the first complete struct of the type of a complete one; an incomplete one is by itself
+abbrev pub first_whole : List StructDef → (firsts : List ℕ) → ℕ → ℕ
+first_whole structs firsts n =
+    if is_complete structs n
+    then or_else
+    (first_where (λ m. is_complete structs m && nat_eq (class_of firsts m) (class_of firsts n)) 0 n) n
+    else n
+
+abbrev pub first_wholes : List StructDef → (firsts : List ℕ) → List ℕ
+first_wholes structs firsts = numbered (first_whole structs firsts) 0 (length firsts)
+
 module _ (structs : List StructDef) (classes : List ℕ) where
-  -- the structs one type that stand at one place of a struct and of the first of its type
-  abbrev pub with_members : (firsts : List ℕ) → ℕ → List ℕ
-  with_members firsts n =
-      with_pairs classes firsts (pairs_of_structs (struct_at structs (class_of firsts n)) (struct_at structs n))
+  -- the structs one type that stand at one place of the members of two
+  abbrev pub with_members : (firsts : List ℕ) → (m n : ℕ) → List ℕ
+  with_members firsts m n =
+      if nat_eq m n
+      then firsts
+      else with_pairs classes firsts (pairs_of_structs (struct_at structs m) (struct_at structs n))
 
-  -- the same for the n structs from k on
-  abbrev pub members_from : (firsts : List ℕ) → (k n : ℕ) → List ℕ
-  members_from firsts k 0 = firsts
-  members_from firsts k (suc n) = members_from (with_members firsts k) (k + 1) n
+  -- the same for each struct from k on, with the struct that stands there
+  abbrev pub members_from : (firsts : List ℕ) → (wholes : List ℕ) → (k : ℕ) → List ℕ
+  members_from firsts [] k = firsts
+  members_from firsts (m ∷ ms) k = members_from (with_members firsts m k) ms (k + 1)
 
+  -- each complete struct with the first complete one of its type
   abbrev pub round : (firsts : List ℕ) → List ℕ
-  round firsts = members_from firsts 0 (length structs)
+  round firsts = members_from firsts (first_wholes structs firsts) 0
 
   -- so many rounds; behind one that joins nothing no other joins anything
   abbrev pub rounds : (k : ℕ) → (firsts : List ℕ) → List ℕ

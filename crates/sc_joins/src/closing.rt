@@ -1,10 +1,13 @@
 // Pairs of structs that are one type, closed: with two structs those at one place of their members are one type, and what
 // is one type with one type is one type.
 
-ghost use Rattle.std.specs.Prelude.{◌≡◌, length, OnOk, IfOk};
+ghost use Rattle.std.specs.Prelude.{◌≡◌, length, slice_index_or, slice_set, Some, None, OnOk, IfOk};
+ghost use Rattle.sc_joins.specs.Rounds.{or_else};
 ghost use Rattle.sc_joins.specs.Closing as spec;
 
+use crate::members::is_complete;
 use crate::pairs::add_pairs_of_structs;
+use crate::rounds::{none_each, number_of};
 use crate::types::class_of;
 use sc_base::{List, OutOfMemory};
 use sc_typed::StructDef;
@@ -16,10 +19,7 @@ fn each_itself(alloc: Global, count: usize) -> Result<Vec<u32>, OutOfMemory>
 {
     let mut all = Vec::with_capacity(alloc, count)?;
     for at in 0..count {
-        if at > u32::MAX as usize {
-            return Err(OutOfMemory);
-        }
-        all.push(at as u32)?;
+        all.push(number_of(at)?)?;
     }
     Ok(all)
 }
@@ -73,30 +73,63 @@ fn join_all(classes: &[u32], before: &mut Vec<u32>, pairs: &[(u32, u32)]) -> boo
     some
 }
 
-// Makes the structs one type that stand at one place of a struct and of the first of its type.
+// Notes a struct as the first complete one of its type, if there is none before it; gives that one.
+fn note_whole(wholes: &mut Vec<Option<u32>>, first: u32, number: u32) -> u32
+    ensures whole { result ≡ or_else (slice_index_or wholes.old.items first None) number }
+    ensures noted { wholes.new.items ≡ slice_set wholes.old.items first (Some result) }
+{
+    let whole = wholes[first as usize].unwrap_or(number);
+    wholes[first as usize] = Some(whole);
+    whole
+}
+
+// For each complete struct the first complete one of its type; the incomplete ones each by itself.
+fn first_wholes(
+    alloc: Global,
+    structs: &[StructDef],
+    before: &[u32],
+) -> Result<Vec<u32>, OutOfMemory>
+    requires { spec.IsForest before.now }
+    ensures { IfOk result (λ r. r.items ≡ spec.first_wholes structs.now (spec.firsts before.now)) }
+{
+    let mut wholes = none_each(alloc, before.len())?;
+    let mut all = Vec::with_capacity(alloc, before.len())?;
+    for at in 0..before.len() {
+        let number = number_of(at)?;
+        let whole = if is_complete(structs, at) {
+            note_whole(&mut wholes, first_of(before, number), number)
+        } else {
+            number
+        };
+        all.push(whole)?;
+    }
+    Ok(all)
+}
+
+// Makes the structs one type that stand at one place of the members of two.
 fn join_members_of(
     structs: &[StructDef],
     classes: &[u32],
     before: &mut Vec<u32>,
     pairs: &mut Vec<(u32, u32)>,
+    whole: u32,
     at: usize,
 ) -> Result<bool, OutOfMemory>
     requires { spec.IsForest before.old.items }
     ensures forest { OnOk result (spec.IsForest before.new.items) }
     ensures joined { OnOk result (spec.firsts before.new.items
-        ≡ spec.with_members structs.now classes.now (spec.firsts before.old.items) at) }
+        ≡ spec.with_members structs.now classes.now (spec.firsts before.old.items) whole at) }
     ensures told { IfOk result (λ some. spec.IsTold some (spec.firsts before.old.items) (spec.firsts before.new.items)) }
 {
-    let first = first_of(before.as_slice(), before[at]) as usize;
-    if first == at {
+    if whole as usize == at {
         return Ok(false);
     }
     pairs.clear();
-    add_pairs_of_structs(pairs, &structs[first], &structs[at])?;
+    add_pairs_of_structs(pairs, &structs[whole as usize], &structs[at])?;
     Ok(join_all(classes, before, pairs.as_slice()))
 }
 
-// The same for each struct; whether some were two so far.
+// The same of each struct and the first complete one of its type; whether some were two so far.
 fn join_members(
     alloc: Global,
     structs: &[StructDef],
@@ -109,10 +142,11 @@ fn join_members(
         ≡ spec.round structs.now classes.now (spec.firsts before.old.items)) }
     ensures told { IfOk result (λ some. spec.IsTold some (spec.firsts before.old.items) (spec.firsts before.new.items)) }
 {
+    let wholes = first_wholes(alloc, structs, before.as_slice())?;
     let mut pairs = Vec::new(alloc);
     let mut some = false;
-    for at in 0..structs.len() {
-        if join_members_of(structs, classes, before, &mut pairs, at)? {
+    for (at, whole) in wholes.iter().enumerate() {
+        if join_members_of(structs, classes, before, &mut pairs, *whole, at)? {
             some = true;
         }
     }

@@ -32,8 +32,8 @@ pub(crate) struct Given<'a> {
     pub(crate) count: usize,
 }
 
-// A number of a struct. One of 2^32 and more is refused as too much for memory.
-fn number_of(at: usize) -> Result<u32, OutOfMemory>
+/// A number of a struct. One of 2^32 and more is refused as too much for memory.
+pub fn number_of(at: usize) -> Result<u32, OutOfMemory>
     ensures { IfOk result (λ number. number ≡ at) }
 {
     if at > u32::MAX as usize {
@@ -42,7 +42,8 @@ fn number_of(at: usize) -> Result<u32, OutOfMemory>
     Ok(at as u32)
 }
 
-fn none_each(alloc: Global, count: usize) -> Result<Vec<Option<u32>>, OutOfMemory>
+/// So many numbers that are not there.
+pub fn none_each(alloc: Global, count: usize) -> Result<Vec<Option<u32>>, OutOfMemory>
     ensures { IfOk result (λ r. r.items ≡ replicate count None) }
 {
     let mut all = Vec::with_capacity(alloc, count)?;
