@@ -1,6 +1,6 @@
 -- Pairs of structs that are one type, closed: with two structs those at one place of their members are one type, and what is
 -- one type with one type is one type. Types are told by the first struct of each.
-use Rattle.std.specs.Prelude.{◌≡◌, ℕ, ◌+◌, ◌≤◌, nat_eq, Bool, true, false, not, ◌&&◌, min, max, List, [], ◌∷◌, fold, length, map, slice_index_or, if◌then◌else◌}
+use Rattle.std.specs.Prelude.{◌≡◌, ℕ, ◌+◌, ◌≤◌, nat_eq, Bool, true, false, not, ◌&&◌, min, max, List, [], ◌∷◌, fold, length, map, if◌then◌else◌}
 use Rattle.sc_typed.specs.declared.program.StructDef.{StructDef}
 use Rattle.sc_typed.specs.Extents.{struct_at}
 use Rattle.sc_joins.specs.Types.{class_of}

@@ -1,7 +1,7 @@
 -- Which structs and unions of several files are one type (C11 6.2.7, 1): those with a tag that are of one class and of two
 -- files; those without one that stand at one place of alike types of one typedef name; those at one place of the members of
 -- such; and what is one type with one type.
-use Rattle.std.specs.Prelude.{◌≡◌, ℕ, ◌+◌, nat_eq, Bool, true, not, ◌&&◌, Option, Some, None, is_some, List, [], ◌∷◌, ◌++◌, length, slice_index_or, if◌then◌else◌}
+use Rattle.std.specs.Prelude.{◌≡◌, ℕ, ◌+◌, nat_eq, Bool, not, ◌&&◌, Option, Some, None, is_some, List, [], ◌∷◌, ◌++◌, length, slice_index_or, if◌then◌else◌}
 use Rattle.sc_typed.specs.declared.program.StructDef.{StructDef}
 use Rattle.sc_rules.specs.declared.walk.Origin.{Origin}
 use Rattle.sc_joins.specs.declared.typedefs.Typedef.{Typedef}

@@ -1,7 +1,7 @@
 -- What the classes of structs are, in the words of C11 6.2.7, 1: structs of one class have one kind and tag, and where both
 -- are complete their members correspond, with structs of one class as one type; and no other such classes put two structs
 -- together that these part.
-use Rattle.std.specs.Prelude.{◌≡◌, ℕ, ◌<◌, Bool, true, false, List, length, slice_index_or}
+use Rattle.std.specs.Prelude.{◌≡◌, ℕ, ◌<◌, true, false, List, length, slice_index_or}
 use Rattle.sc_typed.specs.declared.program.StructDef.{StructDef}
 use Rattle.sc_typed.specs.Extents.{struct_at}
 use Rattle.sc_rules.specs.declared.walk.Origin.{Origin}

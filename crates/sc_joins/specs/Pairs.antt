@@ -1,5 +1,5 @@
 -- The structs that stand at one place of two types.
-use Rattle.std.specs.Prelude.{ℕ, Option, Some, None, List, [], ◌∷◌, ◌++◌, map}
+use Rattle.std.specs.Prelude.{ℕ, Option, Some, List, [], ◌∷◌, ◌++◌, map}
 use Rattle.sc_tree.specs.declared.ctype.CType.{CType, CType-F, out-CType}
 use Rattle.sc_tree.specs.declared.ctype.CType.TheFolds.{fold-CType, fold-Signature}
 use Rattle.sc_tree.specs.declared.ctype.Signature.{Signature, Signature-F, out-Signature}

@@ -2,7 +2,6 @@
 -- all complete ones of a class correspond. A relation on structs that is closed under C11 6.2.7, 1, is never split, so this
 -- is the greatest.
 use Rattle.std.specs.Prelude.{◌≡◌, ℕ, ◌+◌, ◌<◌, nat_eq, Bool, true, false, not, ◌&&◌, ◌||◌, Option, Some, None, is_some, List, [], ◌∷◌, ◌++◌, length, slice_index_or, slice_set, if◌then◌else◌}
-use Rattle.std.specs.List.{list_all}
 use Rattle.sc_typed.specs.declared.program.StructDef.{StructDef}
 use Rattle.sc_typed.specs.Extents.{struct_at}
 use Rattle.sc_rules.specs.declared.walk.Origin.{Origin}
@@ -168,6 +167,12 @@ module _ (g : Structs) where
 
   abbrev pub settled : List ℕ
   settled = rounds (length g.structs) (place_incomplete by_titles)
+
+-- whether two lists of classes are one
+abbrev pub same_classes : List ℕ → List ℕ → Bool
+same_classes [] [] = true
+same_classes (m ∷ ms) (n ∷ ns) = nat_eq m n && same_classes ms ns
+same_classes _ _ = false
 
 -- the classes of structs that were met so
 abbrev pub classes : List Origin → List StructDef → List ℕ

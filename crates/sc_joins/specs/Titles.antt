@@ -1,6 +1,6 @@
 -- By what structs can be one type before their members are looked at: the kind and the tag. Those without a tag go by the
 -- number of their members and the name of the first.
-use Rattle.std.specs.Prelude.{ℕ, nat_eq, Bool, true, false, ◌&&◌, Option, Some, None, List, [], ◌∷◌, ◌++◌, length}
+use Rattle.std.specs.Prelude.{ℕ, nat_eq, Bool, false, ◌&&◌, Option, Some, None, List, [], ◌∷◌, length}
 use Rattle.std.specs.List.{position_or_len}
 use Rattle.std.specs.Option.{option_eq}
 use Rattle.sc_base.specs.Numbers.{insert_key}

@@ -1,10 +1,10 @@
 -- When two types are alike where structs of one class are one type: each struct is written as its class, and then they are
 -- compatible (C11 6.2.7).
-use Rattle.std.specs.Prelude.{ℕ, Bool, Option, Some, None, List, slice_index_or}
+use Rattle.std.specs.Prelude.{ℕ, Bool, List, slice_index_or}
 use Rattle.sc_tree.specs.declared.ctype.CType.{CType, CType-F}
 use Rattle.sc_tree.specs.declared.ctype.CType.TheVariants as ty
 use Rattle.sc_tree.specs.declared.ctype.CType.TheFolds.{fold-CType, fold-Signature}
-use Rattle.sc_tree.specs.declared.ctype.Signature.{Signature, Signature-F, roll-Signature}
+use Rattle.sc_tree.specs.declared.ctype.Signature.{Signature, roll-Signature}
 use Rattle.sc_typed.specs.Types.{compatible, compatible_signature}
 
 -- the class of a struct; one behind the last is a class by itself
