@@ -8,6 +8,7 @@ use Rattle.sc_typed.specs.Extents.{struct_at}
 use Rattle.struct_table.specs.Structs.{incomplete, replaced}
 use Rattle.sc_rules.specs.declared.walk.Origin.{Origin}
 use Rattle.sc_names.specs.Structs.{stands_for}
+use Rattle.sc_joins.specs.Rounds.{origin_of}
 use Rattle.joined_types.specs.declared.wholes.Completing.{Completing}
 use Rattle.joined_types.specs.declared.wholes.Completing.TheVariants as by
 use Rattle.joined_types.specs.Types.{renumbered}
@@ -54,7 +55,7 @@ module _ (joined : List ℕ) where
   one_more os n so_far k s =
       if nat_eq (stands_for joined k) n
       then (if is_some s.fields
-      then completing_with so_far (slice_index_or os k (record { file = 0; tag = None })).file
+      then completing_with so_far (origin_of os k).file
       else so_far)
       else so_far
 
@@ -84,6 +85,11 @@ number_if _ f k = []
 abbrev pub numbers_of : (file k : ℕ) → List Completing → List ℕ
 numbers_of f k [] = []
 numbers_of f k (c ∷ cs) = number_if c f k ++ numbers_of f (k + 1) cs
+
+-- the lists with one more number for a file
+abbrev pub IsAdded : (file number : ℕ) → (before lists : List (List ℕ)) → Type 0
+IsAdded f n before lists =
+    (g : ℕ) → slice_index_or lists g [] ≡ slice_index_or before g [] ++ (if nat_eq f g then n ∷ [] else [])
 
 -- the lists have for each file those structs that it alone completes
 abbrev pub AreOwn : List Completing → (lists : List (List ℕ)) → Type 0

@@ -103,8 +103,10 @@ fn add(
         return Ok(());
     }
     all.types.push(None)?;
-    let known = mem::replace(&mut all.types[first], None);
-    all.types[first] = composite_with(alloc, known, &declared.ctype)?;
+    if let Some(known) = all.types.get_mut(first) {
+        let before = mem::replace(known, None);
+        *known = composite_with(alloc, before, &declared.ctype)?;
+    }
     Ok(())
 }
 

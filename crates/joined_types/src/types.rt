@@ -8,8 +8,8 @@ use sc_base::{Boxed, List, OutOfMemory};
 use sc_tree::ctype::{CType, Signature};
 use std::alloc::Global;
 
-// The struct that one stands for.
-fn first_of(joined: &[u32], number: u32) -> u32
+/// The struct that one stands for.
+pub fn first_of(joined: &[u32], number: u32) -> u32
     ensures { result ≡ stands_for joined.now number }
 {
     match joined.get(number as usize) {

@@ -1,11 +1,13 @@
 // The structs behind the first walk.
 
-ghost use Rattle.std.specs.Prelude.{◌≡◌, IfOk, OnOk};
+ghost use Rattle.std.specs.Prelude.{◌≡◌, replicate, slice_index_or, slice_set, IfOk, OnOk};
+ghost use Rattle.sc_joins.specs.Rounds.{origin_of};
+ghost use Rattle.joined_types.specs.declared.wholes.Completing.TheVariants.{Nobody};
 ghost use Rattle.joined_types.specs.Wholes as spec;
 
 use crate::composites::lay_together;
 use crate::extents::settle_extents;
-use crate::types::renumbered;
+use crate::types::{first_of, renumbered};
 use sc_base::{List, OutOfMemory};
 use sc_rules::Origin;
 use sc_tree::ctype::Widths;
@@ -85,6 +87,21 @@ fn incomplete_each(alloc: Global, structs: &[StructDef]) -> Result<Vec<StructDef
     Ok(table)
 }
 
+// Lays a definition together with what a table has at its number.
+fn lay(
+    alloc: Global,
+    table: &mut Vec<StructDef>,
+    number: u32,
+    definition: StructDef,
+) -> Result<(), OutOfMemory>
+    ensures { OnOk result (table.new.items ≡ spec.lay table.old.items number definition) }
+{
+    match table.get_mut(number as usize) {
+        None => Ok(()),
+        Some(into) => lay_together(alloc, into, definition),
+    }
+}
+
 // The definitions, each laid together with those before it of its type.
 fn together(
     alloc: Global,
@@ -96,9 +113,24 @@ fn together(
     let mut table = incomplete_each(alloc, structs.as_slice())?;
     for (at, definition) in structs.into_vec().into_iter().enumerate() {
         let definition = renumbered_struct(alloc, joined, definition)?;
-        lay_together(alloc, &mut table[joined[at] as usize], definition)?;
+        lay(
+            alloc,
+            &mut table,
+            first_of(joined, number_of(at)?),
+            definition,
+        )?;
     }
     Ok(table)
+}
+
+// A number of a struct. One of 2^32 and more is refused as too much for memory.
+fn number_of(at: usize) -> Result<u32, OutOfMemory>
+    ensures { IfOk result (λ number. number ≡ at) }
+{
+    if at > u32::MAX as usize {
+        return Err(OutOfMemory);
+    }
+    Ok(at as u32)
 }
 
 // Which files complete a struct, with one more.
@@ -118,6 +150,37 @@ fn completing_with(completing: Completing, file: u32) -> Completing
     }
 }
 
+// The file in which a struct was met.
+fn file_of(origins: &[Origin], at: usize) -> u32
+    ensures { result ≡ (origin_of origins.now at).file }
+{
+    match origins.get(at) {
+        None => 0,
+        Some(origin) => origin.file,
+    }
+}
+
+// Notes that a file completes a struct.
+fn note_file(table: &mut Vec<Completing>, number: u32, file: u32)
+    ensures { table.new.items ≡ slice_set table.old.items number
+        (spec.completing_with (slice_index_or table.old.items number Nobody) file) }
+{
+    if let Some(completing) = table.get_mut(number as usize) {
+        *completing = completing_with(*completing, file);
+    }
+}
+
+// So many structs that nobody completes.
+fn nobody_each(alloc: Global, count: usize) -> Result<Vec<Completing>, OutOfMemory>
+    ensures { IfOk result (λ r. r.items ≡ replicate count Nobody) }
+{
+    let mut table = Vec::with_capacity(alloc, count)?;
+    for _ in 0..count {
+        table.push(Completing::Nobody)?;
+    }
+    Ok(table)
+}
+
 // Which files complete each struct.
 fn completing(
     alloc: Global,
@@ -127,42 +190,42 @@ fn completing(
 ) -> Result<Vec<Completing>, OutOfMemory>
     ensures { IfOk result (λ r. r.items ≡ spec.completing_each joined.now origins.now structs.now) }
 {
-    let mut table = Vec::with_capacity(alloc, structs.len())?;
-    for _ in 0..structs.len() {
-        table.push(Completing::Nobody)?;
-    }
+    let mut table = nobody_each(alloc, structs.len())?;
     for (at, definition) in structs.iter().enumerate() {
         if definition.fields.is_some() {
-            let first = joined[at] as usize;
-            table[first] = completing_with(table[first], origins[at].file);
+            let first = first_of(joined, number_of(at)?);
+            note_file(&mut table, first, file_of(origins, at));
         }
     }
     Ok(table)
 }
 
-// A list for each file up to that of the latest struct.
-fn no_lists(alloc: Global, origins: &[Origin]) -> Result<Vec<List<u32>>, OutOfMemory> {
-    let mut lists = Vec::new(alloc);
-    for origin in origins {
-        while lists.len() <= origin.file as usize {
-            lists.push(List::new(alloc))?;
-        }
+// Adds a number to the list of a file. Lists for the files up to that one are made where there are none.
+fn add_own(
+    alloc: Global,
+    lists: &mut Vec<List<u32>>,
+    file: u32,
+    number: u32,
+) -> Result<(), OutOfMemory>
+    ensures { OnOk result (spec.IsAdded file number lists.old.items lists.new.items) }
+{
+    while lists.len() <= file as usize {
+        lists.push(List::new(alloc))?;
     }
-    Ok(lists)
+    match lists.get_mut(file as usize) {
+        None => Ok(()),
+        Some(list) => list.push(number),
+    }
 }
 
 // By the number of a file those structs that this file alone completes.
-fn own_lists(
-    alloc: Global,
-    origins: &[Origin],
-    completing: &[Completing],
-) -> Result<Vec<List<u32>>, OutOfMemory>
+fn own_lists(alloc: Global, completing: &[Completing]) -> Result<Vec<List<u32>>, OutOfMemory>
     ensures { IfOk result (λ r. spec.AreOwn completing.now r.items) }
 {
-    let mut lists = no_lists(alloc, origins)?;
+    let mut lists = Vec::new(alloc);
     for (at, one) in completing.iter().enumerate() {
         if let Completing::Only(file) = *one {
-            lists[file as usize].push(at as u32)?;
+            add_own(alloc, &mut lists, file, number_of(at)?)?;
         }
     }
     Ok(lists)
@@ -179,7 +242,7 @@ pub fn wholes(
     ensures { IfOk result (λ r. r.structs ≡ spec.wholes w joined.now structs) }
 {
     let completing = completing(alloc, joined, origins, structs.as_slice())?;
-    let own = own_lists(alloc, origins, completing.as_slice())?;
+    let own = own_lists(alloc, completing.as_slice())?;
     let mut table = together(alloc, joined, structs)?;
     settle_extents(w, &mut table);
     Ok(Wholes {

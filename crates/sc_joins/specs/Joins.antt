@@ -5,14 +5,11 @@ use Rattle.std.specs.Prelude.{◌≡◌, ℕ, ◌+◌, nat_eq, Bool, not, ◌&&�
 use Rattle.sc_typed.specs.declared.program.StructDef.{StructDef}
 use Rattle.sc_rules.specs.declared.walk.Origin.{Origin}
 use Rattle.sc_joins.specs.declared.typedefs.Typedef.{Typedef}
-use Rattle.sc_joins.specs.Types.{class_of}
-use Rattle.sc_joins.specs.Rounds.{classes, first_where}
+pub use Rattle.sc_joins.specs.Types.{class_of}
+use Rattle.sc_joins.specs.Rounds.{classes, first_where, origin_of}
 use Rattle.sc_joins.specs.Pairs.{Pairs}
 use Rattle.sc_joins.specs.Typedefs.{pairs_of_typedefs}
 use Rattle.sc_joins.specs.Closing.{closed}
-
-abbrev pub origin_of : List Origin → ℕ → Origin
-origin_of os n = slice_index_or os n (record { file = 0; tag = None })
 
 abbrev pub file_of : List Origin → ℕ → ℕ
 file_of os n = (origin_of os n).file
@@ -56,10 +53,6 @@ AreSpans os cs n firsts others =
     (c : ℕ)
     → (slice_index_or firsts c None ≡ first_tagged os cs c n)
     × (slice_index_or others c None ≡ other_tagged os cs c n (first_tagged os cs c n))
-
-abbrev pub first_with : Option ℕ → ℕ → Option ℕ
-first_with None n = Some n
-first_with (Some m) n = Some m
 
 -- with one more struct of the class
 abbrev pub other_with : List Origin → (first other : Option ℕ) → ℕ → Option ℕ

@@ -16,8 +16,8 @@ abbrev pub or_else : Option ℕ → ℕ → ℕ
 or_else None n = n
 or_else (Some m) n = m
 
-abbrev pub tagged : Origin → Bool
-tagged o = is_some o.tag
+abbrev pub origin_of : List Origin → ℕ → Origin
+origin_of os n = slice_index_or os n (record { file = 0; tag = None })
 
 -- the first of the n numbers from k on that passes
 abbrev pub first_where : (ℕ → Bool) → (k n : ℕ) → Option ℕ
@@ -117,7 +117,7 @@ module _ (g : Structs) where
   -- two of one file; where there are none, all incomplete ones of the tag are one.
 
   abbrev pub file_of : ℕ → ℕ
-  file_of n = (slice_index_or g.origins n (record { file = 0; tag = None })).file
+  file_of n = (origin_of g.origins n).file
 
   abbrev pub with_one : Whole → (class file : ℕ) → Whole
   with_one whole.Nothing c f = whole.One c f
@@ -141,7 +141,7 @@ module _ (g : Structs) where
   incomplete_class whole.Differing first n = n
 
   abbrev pub is_tagged : ℕ → Bool
-  is_tagged n = tagged (slice_index_or g.origins n (record { file = 0; tag = None }))
+  is_tagged n = is_some (origin_of g.origins n).tag
 
   abbrev pub first_incomplete : ℕ → ℕ
   first_incomplete n = or_else (first_where (λ m. not (complete m) && same_title m n) 0 n) n

@@ -12,18 +12,29 @@ abbrev pub is_name : Option Typedef → (name : ℕ) → Bool
 is_name None n = false
 is_name (Some t) n = nat_eq t.name.at n
 
+abbrev pub alike_if : (classes : List ℕ) → Option Typedef → Option Typedef → Bool
+alike_if classes (Some a) (Some b) = alike classes a.ctype b.ctype
+alike_if classes _ _ = false
+
+abbrev pub named_if : Option Typedef → Option Typedef → Bool
+named_if (Some a) (Some b) = nat_eq a.name.at b.name.at
+named_if _ _ = false
+
+abbrev pub pairs_if : Option Typedef → Option Typedef → Pairs
+pairs_if (Some a) (Some b) = pairs_of a.ctype b.ctype
+pairs_if _ _ = []
+
+abbrev pub name_of : Option Typedef → ℕ
+name_of None = 0
+name_of (Some t) = t.name.at
+
+abbrev pub name_at : List Typedef → ℕ → ℕ
+name_at ts n = name_of (slice_get ts n)
+
 module _ (classes : List ℕ) (ts : List Typedef) where
-  abbrev pub alike_if : Option Typedef → Option Typedef → Bool
-  alike_if (Some a) (Some b) = alike classes a.ctype b.ctype
-  alike_if _ _ = false
-
-  abbrev pub named_if : Option Typedef → Option Typedef → Bool
-  named_if (Some a) (Some b) = nat_eq a.name.at b.name.at
-  named_if _ _ = false
-
   -- whether two typedefs have one name and types that are alike
   abbrev pub takes : (m n : ℕ) → Bool
-  takes m n = named_if (slice_get ts m) (slice_get ts n) && alike_if (slice_get ts m) (slice_get ts n)
+  takes m n = named_if (slice_get ts m) (slice_get ts n) && alike_if classes (slice_get ts m) (slice_get ts n)
 
   -- the first typedef that takes one, of those that none before them takes; where there is none, itself
   abbrev pub first_in : (made : List ℕ) → ℕ → ℕ
@@ -35,10 +46,6 @@ module _ (classes : List ℕ) (ts : List Typedef) where
 
   abbrev pub firsts_alike : List ℕ
   firsts_alike = firsts_behind [] 0 (length ts)
-
-  abbrev pub pairs_if : Option Typedef → Option Typedef → Pairs
-  pairs_if (Some a) (Some b) = pairs_of a.ctype b.ctype
-  pairs_if _ _ = []
 
   abbrev pub pairs_with : (m n : ℕ) → Pairs
   pairs_with m n = if nat_eq m n then [] else pairs_if (slice_get ts m) (slice_get ts n)
@@ -56,7 +63,7 @@ module _ (classes : List ℕ) (ts : List Typedef) where
   alike_behind next k last None n = (n, slice_set next last (Some n))
   alike_behind next 0 last (Some c) n = (n, next)
   alike_behind next (suc k) last (Some c) n =
-      if alike_if (slice_get ts c) (slice_get ts n)
+      if alike_if classes (slice_get ts c) (slice_get ts n)
       then (c, next)
       else alike_behind next k c (slice_index_or next c None) n
 

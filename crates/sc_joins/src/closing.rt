@@ -1,13 +1,12 @@
 // Pairs of structs that are one type, closed: with two structs those at one place of their members are one type, and what
 // is one type with one type is one type.
 
-ghost use Rattle.std.specs.Prelude.{◌≡◌, length, slice_index_or, slice_set, Some, None, OnOk, IfOk};
-ghost use Rattle.sc_joins.specs.Rounds.{or_else};
+ghost use Rattle.std.specs.Prelude.{◌≡◌, length, slice_set, OnOk, IfOk};
 ghost use Rattle.sc_joins.specs.Closing as spec;
 
 use crate::members::is_complete;
 use crate::pairs::add_pairs_of_structs;
-use crate::rounds::{none_each, number_of};
+use crate::rounds::{none_each, note_first, number_of};
 use crate::types::class_of;
 use sc_base::{List, OutOfMemory};
 use sc_typed::StructDef;
@@ -36,6 +35,15 @@ fn first_of(before: &[u32], number: u32) -> u32
     at
 }
 
+// Makes a struct lead to another one.
+fn set_before(before: &mut Vec<u32>, number: u32, other: u32)
+    ensures { before.new.items ≡ slice_set before.old.items number other }
+{
+    if let Some(place) = before.get_mut(number as usize) {
+        *place = other;
+    }
+}
+
 // Makes two structs of one class one type; whether they were two so far.
 fn join(classes: &[u32], before: &mut Vec<u32>, a: u32, b: u32) -> bool
     requires { spec.IsForest before.old.items }
@@ -48,12 +56,12 @@ fn join(classes: &[u32], before: &mut Vec<u32>, a: u32, b: u32) -> bool
     }
     let first = first_of(before.as_slice(), a);
     let other = first_of(before.as_slice(), b);
-    before[a as usize] = first;
-    before[b as usize] = other;
+    set_before(before, a, first);
+    set_before(before, b, other);
     if first == other {
         return false;
     }
-    before[first.max(other) as usize] = first.min(other);
+    set_before(before, first.max(other), first.min(other));
     true
 }
 
@@ -73,16 +81,6 @@ fn join_all(classes: &[u32], before: &mut Vec<u32>, pairs: &[(u32, u32)]) -> boo
     some
 }
 
-// Notes a struct as the first complete one of its type, if there is none before it; gives that one.
-fn note_whole(wholes: &mut Vec<Option<u32>>, first: u32, number: u32) -> u32
-    ensures whole { result ≡ or_else (slice_index_or wholes.old.items first None) number }
-    ensures noted { wholes.new.items ≡ slice_set wholes.old.items first (Some result) }
-{
-    let whole = wholes[first as usize].unwrap_or(number);
-    wholes[first as usize] = Some(whole);
-    whole
-}
-
 // For each complete struct the first complete one of its type; the incomplete ones each by itself.
 fn first_wholes(
     alloc: Global,
@@ -97,7 +95,7 @@ fn first_wholes(
     for at in 0..before.len() {
         let number = number_of(at)?;
         let whole = if is_complete(structs, at) {
-            note_whole(&mut wholes, first_of(before, number), number)
+            note_first(&mut wholes, first_of(before, number) as usize, number)
         } else {
             number
         };
@@ -125,7 +123,7 @@ fn join_members_of(
         return Ok(false);
     }
     pairs.clear();
-    add_pairs_of_structs(pairs, &structs[whole as usize], &structs[at])?;
+    add_pairs_of_structs(pairs, structs, whole, number_of(at)?)?;
     Ok(join_all(classes, before, pairs.as_slice()))
 }
 

@@ -1,11 +1,13 @@
 // Which structs are one type.
 
-ghost use Rattle.std.specs.Prelude.{◌≡◌, ◌++◌, [], None, length, slice_index_or, slice_set, IfOk, OnOk};
+ghost use Rattle.std.specs.Prelude.{◌≡◌, ◌++◌, Some, None, length, replicate, slice_index_or, slice_set, IfOk, OnOk};
+ghost use Rattle.sc_joins.specs.Rounds.{or_else};
 ghost use Rattle.sc_joins.specs.Joins as spec;
 
 use crate::closing::closed;
-use crate::rounds::classes;
+use crate::rounds::{classes, none_each, note_first, number_of, origin_of};
 use crate::typedefs::{Typedef, add_pairs_of_typedefs};
+use crate::types::class_of;
 use sc_base::{List, OutOfMemory};
 use sc_rules::Origin;
 use sc_typed::StructDef;
@@ -20,44 +22,49 @@ struct Spans {
 
 // No struct yet, of so many classes.
 fn no_spans(alloc: Global, count: usize) -> Result<Spans, OutOfMemory>
-    ensures { IfOk result (λ s. spec.AreSpans [] [] 0 s.firsts.items s.others.items) }
+    ensures firsts { IfOk result (λ s. s.firsts.items ≡ replicate count None) }
+    ensures others { IfOk result (λ s. s.others.items ≡ replicate count None) }
 {
-    let mut firsts = Vec::with_capacity(alloc, count)?;
-    let mut others = Vec::with_capacity(alloc, count)?;
-    for _ in 0..count {
-        firsts.push(None)?;
-        others.push(None)?;
-    }
-    Ok(Spans { firsts, others })
+    Ok(Spans {
+        firsts: none_each(alloc, count)?,
+        others: none_each(alloc, count)?,
+    })
 }
 
 // The file in which a struct was met.
 fn file_of(origins: &[Origin], number: u32) -> u32
     ensures { result ≡ spec.file_of origins.now number }
 {
-    match origins.get(number as usize) {
-        None => 0,
-        Some(origin) => origin.file,
+    origin_of(origins, number as usize).file
+}
+
+// The struct of another file that a class has from now on, where that is its first.
+fn other_with(origins: &[Origin], first: u32, other: Option<u32>, number: u32) -> Option<u32>
+    ensures { result ≡ spec.other_with origins.now (Some first) other number }
+{
+    match other {
+        Some(other) => Some(other),
+        None => {
+            if file_of(origins, first) == file_of(origins, number) {
+                None
+            } else {
+                Some(number)
+            }
+        }
     }
 }
 
 // Notes a struct of a class.
 fn note(spans: &mut Spans, origins: &[Origin], class: u32, number: u32)
     ensures firsts { spans.new.firsts.items ≡ slice_set spans.old.firsts.items class
-        (spec.first_with (slice_index_or spans.old.firsts.items class None) number) }
+        (Some (or_else (slice_index_or spans.old.firsts.items class None) number)) }
     ensures others { spans.new.others.items ≡ slice_set spans.old.others.items class
-        (spec.other_with origins.now (slice_index_or spans.old.firsts.items class None)
+        (spec.other_with origins.now (Some (or_else (slice_index_or spans.old.firsts.items class None) number))
         (slice_index_or spans.old.others.items class None) number) }
 {
-    match spans.firsts[class as usize] {
-        None => spans.firsts[class as usize] = Some(number),
-        Some(first) => {
-            if spans.others[class as usize].is_none()
-                && file_of(origins, first) != file_of(origins, number)
-            {
-                spans.others[class as usize] = Some(number);
-            }
-        }
+    let first = note_first(&mut spans.firsts, class as usize, number);
+    if let Some(other) = spans.others.get_mut(class as usize) {
+        *other = other_with(origins, first, *other, number);
     }
 }
 
@@ -68,10 +75,21 @@ fn spans_of(alloc: Global, origins: &[Origin], classes: &[u32]) -> Result<Spans,
     let mut spans = no_spans(alloc, classes.len())?;
     for (at, origin) in origins.iter().enumerate() {
         if origin.tag.is_some() {
-            note(&mut spans, origins, classes[at], at as u32);
+            let number = number_of(at)?;
+            note(&mut spans, origins, class_of(classes, number), number);
         }
     }
     Ok(spans)
+}
+
+// A number at a place of a table.
+fn number_at(table: &[Option<u32>], at: u32) -> Option<u32>
+    ensures { result ≡ slice_index_or table.now at None }
+{
+    match table.get(at as usize) {
+        None => None,
+        Some(number) => *number,
+    }
 }
 
 // A struct of another file that is of the class of one.
@@ -79,16 +97,38 @@ fn partner(spans: &Spans, origins: &[Origin], class: u32, number: u32) -> Option
     ensures { result ≡ spec.partner origins.now (slice_index_or spans.now.firsts.items class None)
         (slice_index_or spans.now.others.items class None) number }
 {
-    match (spans.firsts[class as usize], spans.others[class as usize]) {
+    let first = number_at(spans.firsts.as_slice(), class);
+    let other = number_at(spans.others.as_slice(), class);
+    match (first, other) {
         (Some(first), Some(other)) => {
-            if file_of(origins, first) != file_of(origins, number) {
-                Some(first)
-            } else {
+            if file_of(origins, first) == file_of(origins, number) {
                 Some(other)
+            } else {
+                Some(first)
             }
         }
         (None, None) | (None, Some(_)) | (Some(_), None) => None,
     }
+}
+
+// Adds one with a struct of another file that is of its class, if there is one.
+fn add_pair_of(
+    spans: &Spans,
+    origins: &[Origin],
+    classes: &[u32],
+    pairs: &mut Vec<(u32, u32)>,
+    number: u32,
+) -> Result<(), OutOfMemory>
+    ensures { OnOk result (pairs.new.items
+        ≡ pairs.old.items ++ spec.pair_if (spec.partner origins.now
+        (slice_index_or spans.now.firsts.items (spec.class_of classes.now number) None)
+        (slice_index_or spans.now.others.items (spec.class_of classes.now number) None) number) number) }
+{
+    let class = class_of(classes, number);
+    if let Some(other) = partner(spans, origins, class, number) {
+        pairs.push((other, number))?;
+    }
+    Ok(())
 }
 
 // Adds the structs with a tag that are of one class and of two files.
@@ -103,9 +143,7 @@ fn add_pairs_of_tags(
     let spans = spans_of(alloc, origins, classes)?;
     for (at, origin) in origins.iter().enumerate() {
         if origin.tag.is_some() {
-            if let Some(other) = partner(&spans, origins, classes[at], at as u32) {
-                pairs.push((other, at as u32))?;
-            }
+            add_pair_of(&spans, origins, classes, pairs, number_of(at)?)?;
         }
     }
     Ok(())

@@ -1,6 +1,7 @@
 // When the members of two structs correspond (C11 6.2.7, 1): in number, order, names, widths and types.
 
 ghost use Rattle.std.specs.Prelude.{◌≡◌};
+ghost use Rattle.sc_typed.specs.Extents.{struct_at};
 ghost use Rattle.sc_joins.specs.Members as spec;
 
 use crate::types::alike;
@@ -57,6 +58,16 @@ pub fn correspond(classes: &[u32], a: &StructDef, b: &StructDef) -> bool
         (Some(fields), Some(others)) => {
             fields_correspond(classes, fields.as_slice(), others.as_slice())
         }
+        (None, None) | (None, Some(_)) | (Some(_), None) => false,
+    }
+}
+
+/// Whether the members of two structs of a program correspond.
+pub fn correspond_at(classes: &[u32], structs: &[StructDef], m: u32, n: u32) -> bool
+    ensures { result ≡ spec.correspond classes.now (struct_at structs.now m) (struct_at structs.now n) }
+{
+    match (structs.get(m as usize), structs.get(n as usize)) {
+        (Some(a), Some(b)) => correspond(classes, a, b),
         (None, None) | (None, Some(_)) | (Some(_), None) => false,
     }
 }

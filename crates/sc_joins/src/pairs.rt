@@ -1,6 +1,7 @@
 // The structs that stand at one place of two types.
 
 ghost use Rattle.std.specs.Prelude.{◌≡◌, ◌++◌, OnOk};
+ghost use Rattle.sc_typed.specs.Extents.{struct_at};
 ghost use Rattle.sc_joins.specs.Pairs as spec;
 
 use sc_base::{List, OutOfMemory};
@@ -70,8 +71,8 @@ fn add_pairs_of_fields(
     Ok(())
 }
 
-/// The same of the members of two structs.
-pub fn add_pairs_of_structs(
+// The same of the members of two definitions.
+fn add_pairs_of_definitions(
     pairs: &mut Vec<(u32, u32)>,
     a: &StructDef,
     b: &StructDef,
@@ -82,6 +83,22 @@ pub fn add_pairs_of_structs(
         (Some(fields), Some(others)) => {
             add_pairs_of_fields(pairs, fields.as_slice(), others.as_slice())
         }
+        (None, None) | (None, Some(_)) | (Some(_), None) => Ok(()),
+    }
+}
+
+/// The same of the members of two structs of a program.
+pub fn add_pairs_of_structs(
+    pairs: &mut Vec<(u32, u32)>,
+    structs: &[StructDef],
+    m: u32,
+    n: u32,
+) -> Result<(), OutOfMemory>
+    ensures { OnOk result (pairs.new.items
+        ≡ pairs.old.items ++ spec.pairs_of_structs (struct_at structs.now m) (struct_at structs.now n)) }
+{
+    match (structs.get(m as usize), structs.get(n as usize)) {
+        (Some(a), Some(b)) => add_pairs_of_definitions(pairs, a, b),
         (None, None) | (None, Some(_)) | (Some(_), None) => Ok(()),
     }
 }

@@ -1,10 +1,12 @@
 // Classes of structs, split until the members of all that stand in one class correspond. They begin with kind and tag, so
 // what is left together is the greatest relation that C11 6.2.7 allows.
 
-ghost use Rattle.std.specs.Prelude.{◌≡◌, ◌++◌, [], ◌∷◌, length, replicate, None, IfOk, OnOk};
+ghost use Rattle.std.specs.Prelude.{◌≡◌, ◌++◌, [], ◌∷◌, length, replicate, slice_index_or, slice_set, Some, None, IfOk, OnOk};
+ghost use Rattle.sc_joins.specs.declared.rounds.Whole.TheVariants.{Nothing};
+ghost use Rattle.sc_joins.specs.Rounds.{or_else};
 ghost use Rattle.sc_joins.specs.Rounds as spec;
 
-use crate::members::{correspond, is_complete};
+use crate::members::{correspond_at, is_complete};
 use crate::titles::titles;
 use crate::types::class_of;
 use sc_base::OutOfMemory;
@@ -53,23 +55,66 @@ pub fn none_each(alloc: Global, count: usize) -> Result<Vec<Option<u32>>, OutOfM
     Ok(all)
 }
 
-// The first class: complete structs by their titles, the incomplete ones each by itself.
+/// Notes a number at a place of a table, if there is none yet; gives the one that is there.
+pub fn note_first(firsts: &mut Vec<Option<u32>>, at: usize, number: u32) -> u32
+    ensures first { result ≡ or_else (slice_index_or firsts.old.items at None) number }
+    ensures noted { firsts.new.items ≡ slice_set firsts.old.items at (Some result) }
+{
+    match firsts.get_mut(at) {
+        None => number,
+        Some(place) => {
+            let first = (*place).unwrap_or(number);
+            *place = Some(first);
+            first
+        }
+    }
+}
+
+/// Where a struct was met.
+pub fn origin_of(origins: &[Origin], at: usize) -> Origin
+    ensures { result ≡ spec.origin_of origins.now at }
+{
+    match origins.get(at) {
+        None => Origin { file: 0, tag: None },
+        Some(origin) => *origin,
+    }
+}
+
+// The first classes: complete structs by their titles, the incomplete ones each by itself.
 fn by_titles(alloc: Global, given: &Given) -> Result<Vec<u32>, OutOfMemory>
     ensures { IfOk result (λ classes. classes.items ≡ spec.by_titles (spec.given_of given.now)) }
 {
     let mut firsts = none_each(alloc, given.count)?;
-    let mut classes = Vec::with_capacity(alloc, given.structs.len())?;
+    let mut classes = Vec::with_capacity(alloc, given.titles.len())?;
     for (at, title) in given.titles.iter().enumerate() {
         let number = number_of(at)?;
-        if is_complete(given.structs, at) {
-            let first = firsts[*title].unwrap_or(number);
-            firsts[*title] = Some(first);
-            classes.push(first)?;
+        let class = if is_complete(given.structs, at) {
+            note_first(&mut firsts, *title, number)
         } else {
-            classes.push(number)?;
-        }
+            number
+        };
+        classes.push(class)?;
     }
     Ok(classes)
+}
+
+// Puts a number behind the last on the way that a table leads.
+fn lead_to(next: &mut Vec<Option<u32>>, last: u32, number: u32)
+    ensures { next.new.items ≡ slice_set next.old.items last (Some number) }
+{
+    if let Some(place) = next.get_mut(last as usize) {
+        *place = Some(number);
+    }
+}
+
+// The number to which a table leads.
+fn next_of(next: &[Option<u32>], number: u32) -> Option<u32>
+    ensures { result ≡ slice_index_or next.now number None }
+{
+    match next.get(number as usize) {
+        None => None,
+        Some(other) => *other,
+    }
 }
 
 // The first struct of those that were split off a class whose members correspond to those of this one; where there is
@@ -79,18 +124,12 @@ fn split_off(given: &Given, classes: &[u32], next: &mut Vec<Option<u32>>, number
 {
     let mut first = class_of(classes, number);
     for _split in 0..classes.len() {
-        if first == number
-            || correspond(
-                classes,
-                &given.structs[first as usize],
-                &given.structs[number as usize],
-            )
-        {
+        if first == number || correspond_at(classes, given.structs, first, number) {
             return first;
         }
-        match next[first as usize] {
+        match next_of(next.as_slice(), first) {
             None => {
-                next[first as usize] = Some(number);
+                lead_to(next, first, number);
                 return number;
             }
             Some(other) => first = other,
@@ -153,17 +192,36 @@ fn with_one(whole: Whole, class: u32, file: u32) -> Whole
     }
 }
 
+// Notes a complete struct of a title.
+fn note_complete(all: &mut Vec<Whole>, title: usize, class: u32, file: u32)
+    ensures { all.new.items ≡ slice_set all.old.items title
+        (spec.with_one (slice_index_or all.old.items title Nothing) class file) }
+{
+    if let Some(whole) = all.get_mut(title) {
+        *whole = with_one(*whole, class, file);
+    }
+}
+
+// No complete struct of so many titles.
+fn nothing_each(alloc: Global, count: usize) -> Result<Vec<Whole>, OutOfMemory>
+    ensures { IfOk result (λ r. r.items ≡ replicate count Nothing) }
+{
+    let mut all = Vec::with_capacity(alloc, count)?;
+    for _title in 0..count {
+        all.push(Whole::Nothing)?;
+    }
+    Ok(all)
+}
+
 // What the complete structs of each title are.
 fn wholes(alloc: Global, given: &Given, classes: &[u32]) -> Result<Vec<Whole>, OutOfMemory>
     ensures { IfOk result (λ all. all.items ≡ spec.wholes (spec.given_of given.now) given.now.count classes.now) }
 {
-    let mut all = Vec::with_capacity(alloc, given.count)?;
-    for _title in 0..given.count {
-        all.push(Whole::Nothing)?;
-    }
+    let mut all = nothing_each(alloc, given.count)?;
     for (at, title) in given.titles.iter().enumerate() {
         if is_complete(given.structs, at) {
-            all[*title] = with_one(all[*title], classes[at], given.origins[at].file);
+            let class = class_of(classes, number_of(at)?);
+            note_complete(&mut all, *title, class, origin_of(given.origins, at).file);
         }
     }
     Ok(all)
@@ -180,24 +238,46 @@ fn incomplete_class(whole: Whole, first: u32, number: u32) -> u32
     }
 }
 
-// An incomplete struct is of the class of the complete ones of its tag, if these are all of one.
-fn place_incomplete(
-    alloc: Global,
-    given: &Given,
-    classes: Vec<u32>,
-) -> Result<Vec<u32>, OutOfMemory>
-    ensures { IfOk result (λ r. r.items ≡ spec.place_incomplete (spec.given_of given.now) classes.items) }
+// What the complete structs of a title are.
+fn whole_at(wholes: &[Whole], title: usize) -> Whole
+    ensures { result ≡ slice_index_or wholes.now title Nothing }
 {
-    let wholes = wholes(alloc, given, classes.as_slice())?;
+    match wholes.get(title) {
+        None => Whole::Nothing,
+        Some(whole) => *whole,
+    }
+}
+
+// The class of a struct, where these are the complete ones of each title and the first incomplete ones so far.
+fn placed(
+    given: &Given,
+    classes: &[u32],
+    wholes: &[Whole],
+    firsts: &mut Vec<Option<u32>>,
+    title: usize,
+    at: usize,
+) -> Result<u32, OutOfMemory> {
+    let number = number_of(at)?;
+    if is_complete(given.structs, at) {
+        return Ok(class_of(classes, number));
+    }
+    let first = note_first(firsts, title, number);
+    if origin_of(given.origins, at).tag.is_none() {
+        return Ok(class_of(classes, number));
+    }
+    Ok(incomplete_class(whole_at(wholes, title), first, number))
+}
+
+// An incomplete struct is of the class of the complete ones of its tag, if these are all of one.
+fn place_incomplete(alloc: Global, given: &Given, classes: &[u32]) -> Result<Vec<u32>, OutOfMemory>
+    ensures { IfOk result (λ r. r.items ≡ spec.place_incomplete (spec.given_of given.now) classes.now) }
+{
+    let wholes = wholes(alloc, given, classes)?;
     let mut firsts = none_each(alloc, given.count)?;
-    let mut made = classes;
+    let mut made = Vec::with_capacity(alloc, classes.len())?;
     for (at, title) in given.titles.iter().enumerate() {
-        if given.origins[at].tag.is_some() && !is_complete(given.structs, at) {
-            let number = number_of(at)?;
-            let first = firsts[*title].unwrap_or(number);
-            firsts[*title] = Some(first);
-            made[at] = incomplete_class(wholes[*title], first, number);
-        }
+        let class = placed(given, classes, wholes.as_slice(), &mut firsts, *title, at)?;
+        made.push(class)?;
     }
     Ok(made)
 }
@@ -207,7 +287,7 @@ fn round(alloc: Global, given: &Given, classes: &[u32]) -> Result<Vec<u32>, OutO
     ensures { IfOk result (λ r. r.items ≡ spec.round (spec.given_of given.now) classes.now) }
 {
     let made = split(alloc, given, classes)?;
-    place_incomplete(alloc, given, made)
+    place_incomplete(alloc, given, made.as_slice())
 }
 
 fn same_classes(a: &[u32], b: &[u32]) -> bool
@@ -229,7 +309,7 @@ fn settled(alloc: Global, given: &Given) -> Result<Vec<u32>, OutOfMemory>
     ensures { IfOk result (λ r. r.items ≡ spec.settled (spec.given_of given.now)) }
 {
     let first = by_titles(alloc, given)?;
-    let mut classes = place_incomplete(alloc, given, first)?;
+    let mut classes = place_incomplete(alloc, given, first.as_slice())?;
     for _round in 0..given.structs.len() {
         let next = round(alloc, given, classes.as_slice())?;
         if same_classes(classes.as_slice(), next.as_slice()) {

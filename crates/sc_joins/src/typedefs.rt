@@ -1,7 +1,7 @@
 // Types without a tag that two files declare under one name (C11 6.2.7, 1): where the types of a typedef name are alike, the
 // structs at one place of them are one type.
 
-ghost use Rattle.std.specs.Prelude.{◌≡◌, ◌++◌, [], ◌∷◌, length, replicate, Some, None, IfOk, OnOk};
+ghost use Rattle.std.specs.Prelude.{◌≡◌, ◌++◌, [], ◌∷◌, length, replicate, slice_get, slice_index_or, slice_set, Some, None, IfOk, OnOk};
 ghost use Rattle.sc_joins.specs.Typedefs as spec;
 
 use crate::pairs::add_pairs;
@@ -39,6 +39,35 @@ fn no_chains(alloc: Global, count: usize) -> Result<Chains, OutOfMemory>
     })
 }
 
+// Whether the types of two typedefs are alike.
+fn alike_at(classes: &[u32], typedefs: &[Typedef], m: usize, n: usize) -> bool
+    ensures { result ≡ spec.alike_if classes.now (slice_get typedefs.now m) (slice_get typedefs.now n) }
+{
+    match (typedefs.get(m), typedefs.get(n)) {
+        (Some(a), Some(b)) => alike(classes, &a.ctype, &b.ctype),
+        (None, None) | (None, Some(_)) | (Some(_), None) => false,
+    }
+}
+
+// The number to which a table leads.
+fn next_of(next: &[Option<usize>], number: usize) -> Option<usize>
+    ensures { result ≡ slice_index_or next.now number None }
+{
+    match next.get(number) {
+        None => None,
+        Some(other) => *other,
+    }
+}
+
+// Puts a number behind the last on the way that a table leads.
+fn lead_to(next: &mut Vec<Option<usize>>, last: usize, number: usize)
+    ensures { next.new.items ≡ slice_set next.old.items last (Some number) }
+{
+    if let Some(place) = next.get_mut(last) {
+        *place = Some(number);
+    }
+}
+
 // The first that is alike to one, of those that the table leads to from one on; where there is none, that one is put at its
 // end.
 fn alike_behind(
@@ -53,18 +82,28 @@ fn alike_behind(
 {
     let mut other = first;
     for _differing in 0..typedefs.len() {
-        if alike(classes, &typedefs[other].ctype, &typedefs[at].ctype) {
+        if alike_at(classes, typedefs, other, at) {
             return other;
         }
-        match next[other] {
+        match next_of(next.as_slice(), other) {
             None => {
-                next[other] = Some(at);
+                lead_to(next, other, at);
                 return at;
             }
             Some(behind) => other = behind,
         }
     }
     at
+}
+
+// The number of a typedef's name.
+fn name_at(typedefs: &[Typedef], at: usize) -> u32
+    ensures { result ≡ spec.name_at typedefs.now at }
+{
+    match typedefs.get(at) {
+        None => 0,
+        Some(one) => one.name.at,
+    }
 }
 
 // The first of the same name whose type is alike.
@@ -74,9 +113,10 @@ fn first_alike(
     typedefs: &[Typedef],
     at: usize,
 ) -> Result<usize, OutOfMemory> {
-    match chains.firsts.get(&typedefs[at].name.at).copied() {
+    let name = name_at(typedefs, at);
+    match chains.firsts.get(&name).copied() {
         None => {
-            chains.firsts.insert(typedefs[at].name.at, at)?;
+            chains.firsts.insert(name, at)?;
             Ok(at)
         }
         Some(first) => Ok(alike_behind(classes, typedefs, &mut chains.next, first, at)),
@@ -118,6 +158,22 @@ fn firsts_alike(
     Ok(firsts)
 }
 
+// Adds the structs at one place of the types of two typedefs.
+fn add_pairs_at(
+    pairs: &mut Vec<(u32, u32)>,
+    typedefs: &[Typedef],
+    m: usize,
+    n: usize,
+) -> Result<(), OutOfMemory>
+    ensures { OnOk result (pairs.new.items
+        ≡ pairs.old.items ++ spec.pairs_if (slice_get typedefs.now m) (slice_get typedefs.now n)) }
+{
+    match (typedefs.get(m), typedefs.get(n)) {
+        (Some(a), Some(b)) => add_pairs(pairs, &a.ctype, &b.ctype),
+        (None, None) | (None, Some(_)) | (Some(_), None) => Ok(()),
+    }
+}
+
 /// Adds the structs that typedef names of two files join.
 pub fn add_pairs_of_typedefs(
     alloc: Global,
@@ -130,7 +186,7 @@ pub fn add_pairs_of_typedefs(
     let firsts = firsts_alike(alloc, classes, typedefs)?;
     for (at, first) in firsts.iter().enumerate() {
         if *first != at {
-            add_pairs(pairs, &typedefs[*first].ctype, &typedefs[at].ctype)?;
+            add_pairs_at(pairs, typedefs, *first, at)?;
         }
     }
     Ok(())
