@@ -19,4 +19,4 @@ pub use ended::{Ended, ended_structs};
 pub use files::{begin_types, end_types};
 pub use records::combined_records;
 pub use types::renumbered;
-pub use wholes::{Wholes, wholes};
+pub use wholes::{Wholes, whole_structs};

@@ -112,7 +112,7 @@ fn add(
 
 // By the number of its first declaration the composite type of each variable; none at the other declarations, and where not
 // all are compatible.
-fn composites(alloc: Global, records: &[Record]) -> Result<Vec<Option<CType>>, OutOfMemory>
+fn composite_types(alloc: Global, records: &[Record]) -> Result<Vec<Option<CType>>, OutOfMemory>
     ensures { IfOk result (λ r. r.items ≡ spec.composites records.now) }
 {
     let local = LocalNames::of(alloc, records)?;
@@ -154,7 +154,7 @@ pub fn combined_records(
     ensures { IfOk result (λ r. r ≡ spec.combined_records joined.now records) }
 {
     let records = renumbered_records(alloc, joined, records)?;
-    let types = composites(alloc, records.as_slice())?;
+    let types = composite_types(alloc, records.as_slice())?;
     let mut made = List::from_vec(Vec::with_capacity(alloc, records.len())?);
     for (declared, t) in records.into_vec().into_iter().zip(types.into_iter()) {
         made.push(record_with(declared, t))?;

@@ -182,7 +182,7 @@ fn nobody_each(alloc: Global, count: usize) -> Result<Vec<Completing>, OutOfMemo
 }
 
 // Which files complete each struct.
-fn completing(
+fn completing_each(
     alloc: Global,
     joined: &[u32],
     origins: &[Origin],
@@ -232,7 +232,7 @@ fn own_lists(alloc: Global, completing: &[Completing]) -> Result<Vec<List<u32>>,
 }
 
 /// The structs of a program, where these are those behind the first walk.
-pub fn wholes(
+pub fn whole_structs(
     alloc: Global,
     w: Widths,
     joined: &[u32],
@@ -241,7 +241,7 @@ pub fn wholes(
 ) -> Result<Wholes, OutOfMemory>
     ensures { IfOk result (λ r. r.structs ≡ spec.wholes w joined.now structs) }
 {
-    let completing = completing(alloc, joined, origins, structs.as_slice())?;
+    let completing = completing_each(alloc, joined, origins, structs.as_slice())?;
     let own = own_lists(alloc, completing.as_slice())?;
     let mut table = together(alloc, joined, structs)?;
     settle_extents(w, &mut table);

@@ -13,7 +13,7 @@ use crate::first::First;
 use crate::walks::{Met, begun_walk};
 use file_tables::FileTables;
 use joined_types::{
-    Ended, Wholes, begin_types, combined_records, end_types, ended_structs, wholes,
+    Ended, Wholes, begin_types, combined_records, end_types, ended_structs, whole_structs,
 };
 use sc_base::{List, OutOfMemory, Skip};
 use sc_declare::GlobalNumbers;
@@ -91,7 +91,7 @@ fn over_all(alloc: Global, w: Widths, first: First, bodies: &[Bodied]) -> Result
         structs.as_slice(),
         typedefs.as_slice(),
     )?;
-    let Wholes { structs, own } = wholes(
+    let Wholes { structs, own } = whole_structs(
         alloc,
         w,
         joined.as_slice(),
