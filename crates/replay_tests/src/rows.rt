@@ -1,6 +1,7 @@
 // Whole replays over files and sinks in memory, each held to the text, the line and the status that were worked out from
 // the definitions.
 
+use crate::json_runs::JSON_RUNS;
 use crate::refusals::REFUSALS;
 use crate::runs::RUNS;
 use run_top::{Status, run_main};
@@ -78,6 +79,14 @@ fn is_as_worked_out(alloc: Global, row: &Row) -> Result<bool, OutOfMemory> {
 #[test]
 fn each_choice_has_its_run(rt: HostRuntime) -> Result<(), Fail> {
     for row in &RUNS {
+        assert!(rt; is_as_worked_out(rt.alloc(), row)?, "{}", row.name);
+    }
+    Ok(())
+}
+
+#[test]
+fn each_run_has_its_json(rt: HostRuntime) -> Result<(), Fail> {
+    for row in &JSON_RUNS {
         assert!(rt; is_as_worked_out(rt.alloc(), row)?, "{}", row.name);
     }
     Ok(())

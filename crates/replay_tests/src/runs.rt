@@ -8,7 +8,8 @@ pub const DOUBLE: &str = "\
 typedef struct{int v;}spinlock_t;
 void f(_Bool c,spinlock_t*l){spin_lock(l);if(c)spin_lock(l);}";
 
-const DIVIDE: &str = "int f(int a,int b){return a/b;}";
+/// A quotient.
+pub const DIVIDE: &str = "int f(int a,int b){return a/b;}";
 
 pub static RUNS: [Row; 10] = [
     Row {
