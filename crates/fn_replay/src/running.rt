@@ -43,7 +43,7 @@ fn location_text(alloc: Global, names: &Texts, outcome: Outcome) -> Result<Vec<u
 }
 
 // A run of the function at hand, in this form.
-#[tactic(auto, unfolding(layout_base::specs::Seen::ground_of, sc_gather::specs::Seen::source_of))]
+#[tactic(auto, unfolding(layout_base::specs::Seen::ground_of, sc_gather::specs::Seen::source_of, sc_world::specs::Programs::source_by))]
 fn in_form<'p, 'm, 'f>(
     alloc: Global,
     form: Form<'_>,

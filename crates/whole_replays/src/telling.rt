@@ -96,8 +96,8 @@ fn of_function(
 }
 
 /// What a replay says of the trees of all files: the run of the first function of that name on the choice that the digits
-/// spell, in the form that is asked for, however it ends; or the first reason why there is none. The verdicts that the function needs
-/// are made on the calling thread, and it always returns.
+/// spell, in the form that is asked for, however it ends; or the first reason why there is none. The verdicts that the
+/// function needs are made on the calling thread, and it always returns.
 ///
 /// # Errors
 ///
