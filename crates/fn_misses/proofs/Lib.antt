@@ -1,0 +1,5 @@
+mod Steps
+mod Telling
+mod Turning
+mod Whole
+mod InTurn
