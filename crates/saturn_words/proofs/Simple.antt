@@ -3,7 +3,7 @@ use Rattle.std.proofs.Common.{◌≡◌, true, refl, List}
 use Rattle.std.specs.Borrow.{Bor}
 use Rattle.clap.specs.Words.{Text, is_simple, is_simple_and_free}
 use Rattle.clap.proofs.OnLiterals.{clap_on_literals}
-use Rattle.saturn_words.specs.Commands.{check_command, run_command, bench_command, AreModels, AreFormats, IsCheck}
+use Rattle.saturn_words.specs.Commands.{check_command, run_command, prove_command, bench_command, AreModels, AreFormats, IsCheck}
 
 -- by these words of its options it is a command of `saturn_check`
 pub is_check : (models formats : Bor (List (Bor Text))) → AreModels models → AreFormats formats → IsCheck (check_command models formats)
@@ -24,6 +24,14 @@ run_is_free models = refl
 pub run_is_plain : (models : Bor (List (Bor Text))) → is_simple (run_command models) ≡ true
 unfolding clap_on_literals run_command
 run_is_plain models = refl
+
+pub prove_is_free : (models : Bor (List (Bor Text))) → is_simple_and_free (prove_command models) ≡ true
+unfolding clap_on_literals prove_command
+prove_is_free models = refl
+
+pub prove_is_plain : (models : Bor (List (Bor Text))) → is_simple (prove_command models) ≡ true
+unfolding clap_on_literals prove_command
+prove_is_plain models = refl
 
 pub bench_is_free : is_simple_and_free bench_command ≡ true
 unfolding clap_on_literals bench_command

@@ -67,6 +67,10 @@ run_command models =
     command (codes "saturn_run")
     (options models (needed_option (codes "function") ∷ needed_option (codes "choice") ∷ files_argument ∷ []))
 
+-- `saturn_prove [--depth D] [--reach R] [--model M] [--machine FILE] --function NAME FILE ..`
+unfoldable pub prove_command : Bor (List (Bor Text)) → App
+prove_command models = command (codes "saturn_prove") (options models (needed_option (codes "function") ∷ files_argument ∷ []))
+
 -- `saturn_bench [--jobs J] N SEED`
 unfoldable pub bench_command : App
 bench_command =
@@ -101,6 +105,9 @@ IsCheck command =
 
 abbrev pub IsRun : App → Type 0
 IsRun command = (models : Bor (List (Bor Text))) × AreModels models × (command ≡ run_command models)
+
+abbrev pub IsProve : App → Type 0
+IsProve command = (models : Bor (List (Bor Text))) × AreModels models × (command ≡ prove_command models)
 
 abbrev pub IsBench : App → Type 0
 IsBench command = command ≡ bench_command

@@ -16,6 +16,7 @@ use Rattle.saturn_words.specs.declared.asked.CheckWords.{CheckWords}
 use Rattle.saturn_words.specs.declared.asked.Format.{Format}
 use Rattle.saturn_words.specs.declared.asked.Format.TheVariants as form
 use Rattle.saturn_words.specs.declared.asked.Options.{Options}
+use Rattle.saturn_words.specs.declared.asked.ProveWords.{ProveWords}
 use Rattle.saturn_words.specs.declared.asked.RunWords.{RunWords}
 use Rattle.saturn_words.specs.declared.words.NoWords.{NoWords}
 use Rattle.saturn_words.specs.declared.words.NoWords.TheVariants.{Help, Bad, Memory}
@@ -56,6 +57,10 @@ pub record HaveRun (rows : List Row) (asked : RunWords) : Type 0 where
   pub options : HaveOptions rows asked.options
   pub function : Some asked.function.now ≡ first_of (codes "function") rows
   pub choice : Some asked.choice.now ≡ first_of (codes "choice") rows
+
+pub record HaveProve (rows : List Row) (asked : ProveWords) : Type 0 where
+  pub options : HaveOptions rows asked.options
+  pub function : Some asked.function.now ≡ first_of (codes "function") rows
 
 pub record HaveBench (rows : List Row) (asked : BenchWords) : Type 0 where
   pub functions : asked.functions ≡ number_or 1 (codes "N") rows

@@ -2,7 +2,7 @@
 
 ghost use Rattle.std.specs.Prelude.{◌≡◌, ◌≤◌, IfSome, Some, codes, map, option_map};
 ghost use Rattle.clap.specs.Words.{first_of, found_of, rows_of, all_of};
-ghost use Rattle.saturn_words.specs.Words.{number_or, widths_of, format_of, HaveOptions, HaveCheck, HaveRun, HaveBench};
+ghost use Rattle.saturn_words.specs.Words.{number_or, widths_of, format_of, HaveOptions, HaveCheck, HaveRun, HaveProve, HaveBench};
 
 use clap::ArgMatches;
 use sc_tree::ctype::Widths;
@@ -50,6 +50,14 @@ pub struct RunWords<'a> {
     pub function: &'a str,
     /// The choice, in hexadecimal digits.
     pub choice: &'a str,
+}
+
+/// What the words of `saturn_prove` ask for.
+#[derive(Debug, Drop)]
+pub struct ProveWords<'a> {
+    pub options: Options<'a>,
+    /// The name of the function whose certificate is wanted.
+    pub function: &'a str,
 }
 
 /// What the words of `saturn_bench` ask for.
@@ -171,6 +179,15 @@ pub fn run_of<'a>(alloc: Global, matches: &ArgMatches<'a>) -> Option<RunWords<'a
         function,
         choice,
     })
+}
+
+/// What was found for the arguments of `saturn_prove`. None where memory is refused.
+pub fn prove_of<'a>(alloc: Global, matches: &ArgMatches<'a>) -> Option<ProveWords<'a>>
+    ensures { IfSome result (HaveProve (rows_of (found_of matches.now))) }
+{
+    let options = options_of(alloc, matches)?;
+    let function = matches.get_str("function")?;
+    Some(ProveWords { options, function })
 }
 
 /// What was found for the arguments of `saturn_bench`.

@@ -5,7 +5,7 @@ ghost use Rattle.std.specs.Prelude.{◌≡◌, [], IfOk, false};
 ghost use Rattle.clap.specs.Words.{app_of, rule_of};
 ghost use Rattle.saturn_words.specs.Commands.{text_option, needed_option, number_option, word_option};
 ghost use Rattle.saturn_words.specs.Commands.{number_argument, files_argument};
-ghost use Rattle.saturn_words.specs.Commands.{command, options, check_command, run_command, bench_command};
+ghost use Rattle.saturn_words.specs.Commands.{command, options, check_command, run_command, prove_command, bench_command};
 
 use clap::builder::ValueParser;
 use clap::{Arg, ArgAction, Command};
@@ -179,6 +179,30 @@ pub fn run_command<'a>(alloc: Global, models: &'a [&'a str]) -> Result<Command<'
             alloc,
             "choice",
             "the choice that it is run on, in hexadecimal digits",
+        ))?
+        .arg(files_argument(alloc))
+}
+
+const PROVE_END: &str = "Status:
+  0  the certificate was written, or help was asked for
+  2  the files or the function are refused, for the reason in the line on standard error
+  3  the words are not of the form
+  4  a file could not be read
+  5  not all bytes could be written
+  6  memory was refused, and nothing was written
+
+Example:
+  saturn_prove --function open_device driver.c > open_device.cert";
+
+/// The command of `saturn_prove`.
+pub fn prove_command<'a>(alloc: Global, models: &'a [&'a str]) -> Result<Command<'a>, AllocError>
+    ensures { IfOk result (λ made. app_of made ≡ prove_command models.entry) }
+{
+    with_options(alloc, "saturn_prove", models, PROVE_END)?
+        .arg(needed_option(
+            alloc,
+            "function",
+            "the name of the function whose certificate is written",
         ))?
         .arg(files_argument(alloc))
 }

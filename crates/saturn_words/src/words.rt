@@ -3,11 +3,13 @@
 ghost use Rattle.std.specs.Prelude.{◌≡◌, ◌≢◌, ◌⊎◌, ℕ, List, IfOk, IfErr, IsTrue, false, map, string_bytes};
 ghost use Rattle.clap.specs.Words.{App, Row, HasKind};
 ghost use Rattle.clap.specs.declared.error.kind.ErrorKind.TheVariants.{DisplayHelp, DisplayVersion};
-ghost use Rattle.saturn_words.specs.Commands.{IsCheck, IsRun, IsBench};
-ghost use Rattle.saturn_words.specs.Words.{faults, AskForNothing, Give, HaveBench, HaveCheck, HaveRun};
+ghost use Rattle.saturn_words.specs.Commands.{IsCheck, IsRun, IsProve, IsBench};
+ghost use Rattle.saturn_words.specs.Words.{faults, AskForNothing, Give, HaveBench, HaveCheck, HaveProve, HaveRun};
 
-use crate::asked::{BenchWords, CheckWords, RunWords, bench_of, check_of, run_of};
-use crate::commands::{bench_command, check_command, run_command};
+use crate::asked::{
+    BenchWords, CheckWords, ProveWords, RunWords, bench_of, check_of, prove_of, run_of,
+};
+use crate::commands::{bench_command, check_command, prove_command, run_command};
 use clap::Error;
 use clap::error::ErrorKind;
 use std::alloc::Global;
@@ -90,6 +92,26 @@ pub fn run_words<'a>(alloc: Global, words: &'a [String]) -> Result<RunWords<'a>,
     };
     match command.try_get_matches_from(words) {
         Ok(matches) => match run_of(alloc, &matches) {
+            Some(asked) => Ok(asked),
+            None => Err(NoWords::Memory),
+        },
+        Err(error) => Err(no_words(alloc, &error)),
+    }
+}
+
+/// What the words of `saturn_prove` ask for; the first word is the program's name.
+pub fn prove_words<'a>(alloc: Global, words: &'a [String]) -> Result<ProveWords<'a>, NoWords>
+    ensures asked { IfOk result (λ asked. (command : App) × IsProve command
+        × (rows : List Row) × Give command (map string_bytes words.entry.now) rows × HaveProve rows asked) }
+    ensures nothing { IfErr result (λ why. (command : App) × IsProve command
+        × AskForNothing command (map string_bytes words.entry.now) why) }
+{
+    let command = match prove_command(alloc, MODELS.as_slice()) {
+        Ok(command) => command,
+        Err(_) => return Err(NoWords::Memory),
+    };
+    match command.try_get_matches_from(words) {
+        Ok(matches) => match prove_of(alloc, &matches) {
             Some(asked) => Ok(asked),
             None => Err(NoWords::Memory),
         },

@@ -11,5 +11,8 @@ mod spared;
 mod telling;
 mod told;
 
+pub use named::function_named;
+pub use needed::needed_verdicts;
+pub use spared::callees;
 pub use telling::{Asked, tell};
 pub use told::Told;

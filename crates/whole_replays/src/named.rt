@@ -13,7 +13,7 @@ fn has_name(program: &Program, name: &[u8], function: &Function) -> bool
 }
 
 /// The number of the first function of that name.
-pub(crate) fn function_named(program: &Program, name: &[u8]) -> Option<usize>
+pub fn function_named(program: &Program, name: &[u8]) -> Option<usize>
     ensures first { result ≡ spec.function_named program.now name.now }
     ensures inside { IfSome result (λ f. f < length program.now.functions) }
 {

@@ -75,7 +75,7 @@ fn verdicts_of(
 }
 
 /// The verdicts of the kept callees of a function, ascending. No function is analysed that they do not need.
-pub(crate) fn needed_verdicts(
+pub fn needed_verdicts(
     analysis: Analysis<'_>,
     function: u32,
 ) -> Result<Vec<Verdict>, OutOfMemory>

@@ -32,7 +32,7 @@ fn is_some_spared(spared: &[bool], functions: &[u32]) -> bool
 }
 
 /// The kept callees of a function; none of one that is not there.
-pub(crate) fn callees(plan: &Plan, function: usize) -> &[u32]
+pub fn callees(plan: &Plan, function: usize) -> &[u32]
     ensures { result.now ≡ callees plan.now.callees function }
 {
     match plan.callees.as_slice().get(function) {

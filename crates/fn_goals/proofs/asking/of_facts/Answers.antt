@@ -14,4 +14,4 @@ goal_of-requires-clause-gate c = c.in_ok-gate.ensures.ok.below
 pub returns-in-Ok : goal.returns-in-Ok
 returns-in-Ok c =
     goal_of_facts c.args.facts.old c.args.claim.now.texts (verdict.Done c.args.claim.now.summary.now c.args.claim.now.reports.now) _ _ _ c.requires.texts
-    c.requires.ready.texts c.goal_of.ensures.inputs c.in_ok-gate.ensures.ok c.goal_of.ensures.goal
+    c.requires.ready.texts c.in-Ok.ensures.inputs c.in_ok-gate.ensures.ok c.in-Ok.ensures.goal

@@ -1,0 +1,112 @@
+// The call of `saturn_prove`.
+
+ghost use Rattle.std.specs.Prelude.{◌≡◌, ◌≢◌, ℕ, List, map, string_bytes, codes, IfOk};
+ghost use Rattle.sc_input.specs.Input.{Outside};
+ghost use Rattle.saturn_top.specs.Said.{HasWholeMachine};
+ghost use Rattle.top_answers.specs.Promises.{around, change, Promises};
+ghost use Rattle.top_answers.specs.Seen.{seen};
+ghost use Rattle.prove_top.specs.Proofs.{IsToldDue, IsDue, IsFound, AskNothing, wording};
+
+use crate::lines::answer_of;
+use fsm_spec::whole_machines;
+use saturn_top::Sources;
+use saturn_words::{NoWords, ProveWords, prove_words};
+use sc_base::{Files, OutOfMemory, Sink};
+use sc_input::{Input, read_input};
+use std::alloc::Global;
+use top_answers::{Answer, Status, give, refused};
+use whole_proofs::{Asked, tell};
+
+// What is due for the input.
+fn answer_for(alloc: Global, asked: &ProveWords, input: Input) -> Result<Answer, OutOfMemory>
+    requires whole { HasWholeMachine input.machine }
+    ensures { IfOk result (λ answer. IsToldDue (codes "saturn_prove") asked.now input (seen answer)) }
+{
+    let Input {
+        names,
+        files,
+        units,
+        machine,
+        ..
+    } = input;
+    let options = &asked.options;
+    let sources = Sources {
+        names,
+        files,
+        units: units.as_slice(),
+        widths: options.widths,
+        machine,
+    };
+    let name = asked.function.as_bytes();
+    let wanted = Asked {
+        name,
+        depth: options.depth,
+        reach: options.reach,
+    };
+    let told = tell(alloc, sources, wanted)?;
+    answer_of(alloc, b"saturn_prove", name, told)
+}
+
+// What is due for the files that these words name.
+fn find<F: Files>(alloc: Global, asked: &ProveWords, files: &mut F) -> Result<Answer, OutOfMemory>
+    ensures { IfOk result (λ answer. IsFound asked.now (around (F.held files.old) (F.firm files.old) (F.faults files.old) (F.faults files.new)) (seen answer)) }
+{
+    whole_machines();
+    let options = &asked.options;
+    match read_input(alloc, files, options.machine, options.files.as_slice()) {
+        Ok(input) => answer_for(alloc, asked, input),
+        Err(why) => refused(alloc, b"saturn_prove", why),
+    }
+}
+
+// What is due where the words ask for nothing.
+fn unasked(why: NoWords) -> Result<Answer, OutOfMemory>
+    ensures { IfOk result (λ answer. (words : List (List ℕ)) (outside : Outside) → AskNothing words why → IsDue words outside (seen answer)) }
+{
+    match why {
+        NoWords::Help(text) => Ok(Answer::Output(Status::Helped, text.into_bytes())),
+        NoWords::Bad(text) => Ok(Answer::Errors(Status::BadWords, text.into_bytes())),
+        NoWords::Memory => Err(OutOfMemory),
+    }
+}
+
+// What is due for these words.
+fn answer<F: Files>(
+    alloc: Global,
+    words: &Vec<String>,
+    files: &mut F,
+) -> Result<Answer, OutOfMemory>
+    ensures { IfOk result (λ answer. IsDue (map string_bytes words.now.items) (around (F.held files.old) (F.firm files.old) (F.faults files.old) (F.faults files.new)) (seen answer)) }
+{
+    match prove_words(alloc, words.as_slice()) {
+        Ok(asked) => find(alloc, &asked, files),
+        Err(why) => unasked(why),
+    }
+}
+
+/// Writes the certificate of one function of the files: the first one of that name in the order of the program. `words` are the program's name
+/// and the words of `saturn_prove`. It works on the calling thread, and always returns.
+///
+/// The text, or that of help, goes to `out`; the line that says why there is none goes to `err`. Either is made whole before its first byte is
+/// written. The status of a certificate is `Clean`.
+pub fn prove_main<F: Files, O: Sink, E: Sink>(
+    alloc: Global,
+    words: &Vec<String>,
+    files: &mut F,
+    out: &mut O,
+    err: &mut E,
+) -> Status
+    ensures promises { Promises
+        (IsDue (map string_bytes words.now.items) (around (F.held files.old) (F.firm files.old) (F.faults files.old) (F.faults files.new)))
+        (wording (map string_bytes words.now.items))
+        (around (F.held files.old) (F.firm files.old) (F.faults files.old) (F.faults files.new))
+        (change (O.faults out.old) (O.faults out.new) (O.taken out.old) (O.taken out.new))
+        (change (E.faults err.old) (E.faults err.new) (E.taken err.old) (E.taken err.new))
+        result }
+    ensures never_reports { result ≢ Status.Reports }
+{
+    match answer(alloc, words, files) {
+        Ok(answer) => give(&answer, out, err),
+        Err(_) => Status::Memory,
+    }
+}
