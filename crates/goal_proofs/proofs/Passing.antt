@@ -27,7 +27,7 @@ module _ (test : List Bool → Bool) (g : Parts) (goal : IsGoal test g) where
   filled_is : (c : List Bool) → length c ≡ g.inputs → all_true (at (goal.filled c)) g.clauses ≡ test c
   filled_is c long =
       let f = at (goal.filled c) in
-      split_at f ∙ (ap (λ (b : Bool). b && lit_true f goal.last) (goal.satisfies c long).2 ∙ goal.tells c long)
+      split_at f ∙ (ap (λ (b : Bool). b && lit_true f goal.last) (goal.satisfies c long).1.1 ∙ goal.tells c long)
 
   pub refuted : ((f : ℕ → Bool) → all_true f g.clauses ≡ false) → NonePasses g.inputs test
   refuted none c long = sym (filled_is c long) ∙ none (at (goal.filled c))
