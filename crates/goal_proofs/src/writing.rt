@@ -30,6 +30,7 @@ fn put_first_line(inputs: usize, out: &mut Vec<u8>) -> Result<(), OutOfMemory>
 
 /// The text of a goal with the steps of a certificate: a line that says how many bits a choice has, and then the clauses and the steps as DRAT
 /// has them.
+#[tactic(auto, unfolding(crate::specs::Text::proof_text))]
 pub fn proof_text(alloc: Global, goal: &Goal, steps: &[Step]) -> Result<Vec<u8>, OutOfMemory>
     requires below { ClausesBelow goal.now.vars goal.now.clauses }
     requires steps { All (StepBelow goal.now.vars) steps.now }
