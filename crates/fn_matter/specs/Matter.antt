@@ -1,8 +1,8 @@
 -- The matter of a function: all that definitions read of it but the verdicts of its kept callees. It has these parts, in this
 -- order: its typed body or why that is skipped; its name, place, parameters, result and locals; the structs and the globals,
 -- with their numbers, to which these lead, or to which the bodies and the signatures of the functions lead that it reaches
--- over kept edges; for each call by name the number, the signature and the file of the body that it means, and whether the
--- edge is kept; the widths.
+-- over kept edges; for each body that it calls by name the number, the signature and the file, and whether the edge is kept;
+-- the widths. Which call means which body is told by the typed body, where each call has the number.
 use Rattle.std.specs.Prelude.{ℕ, nat_eq, Bool, false, Option, Some, None, List, [], ◌∷◌, ◌++◌, length, map, filter, slice_index_or}
 use Rattle.std.specs.List.{list_any, flat_map, range_with_len}
 use Rattle.sc_base.specs.declared.pos.Pos.{Pos}
@@ -20,8 +20,8 @@ use Rattle.sc_typed.specs.declared.program.FieldDef.{FieldDef}
 use Rattle.sc_typed.specs.declared.program.StructDef.{StructDef}
 use Rattle.sc_typed.specs.declared.program.TBody.{TBody}
 use Rattle.sc_typed.specs.declared.program.TBody.TheVariants as body
-use Rattle.plan_core.specs.Graph.{reaches}
-use Rattle.program_verdicts.specs.CallGraph.{functions, own_source, plan, in_stm}
+use Rattle.plan_core.specs.Graph.{reaches, cut_callees}
+use Rattle.program_verdicts.specs.CallGraph.{functions, plan, rows}
 use Rattle.program_verdicts.specs.Verdicts.{kept_of}
 use Rattle.fn_matter.specs.Words.{Tree, node, none, more, trees, leaf, words}
 use Rattle.fn_matter.specs.Numbers.{widths_number, flag, optional, name_if, pos, skip_numbers}
@@ -117,8 +117,9 @@ module _ (p : Program) where
         kept = list_any (nat_eq g) (kept_of p f);
       }
 
+  -- the bodies that are called, each once: those over kept edges, and then the others, both ascending
   abbrev pub calls_of : ℕ → List ℕ
-  calls_of f = in_stm (own_source p f) (own_source p f).body
+  calls_of f = kept_of p f ++ cut_callees (rows p) f
 
   abbrev pub parts_of : ℕ → Parts
   parts_of f =

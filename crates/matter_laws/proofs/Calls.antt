@@ -1,7 +1,7 @@
 -- What the calls of a matter say: the signatures of the kept callees, and which callees are kept.
 use Rattle.std.proofs.Common.{◌≡◌, ℕ, zero, suc, ◌+◌, ◌<◌, Bool, true, false, ◌&&◌, List, [], ◌∷◌, length, map, refl, sym, ap, subst, ◌∙◌, nat_eq, arith}
-use Rattle.std.proofs.lemmas.Bool.{and_parts, eq-eqb, eqb-true, false≢true}
-use Rattle.std.proofs.lemmas.List.FromFn.{get_or-map-range_with_len}
+use Rattle.std.proofs.lemmas.Bool.{and_parts, eq-eqb, eqb-true, false≢true, or_left}
+use Rattle.std.proofs.lemmas.List.Folds.{list_any-append}
 use Rattle.std.specs.Prelude.{◌||◌, not, filter, slice_index_or, if◌then◌else◌}
 use Rattle.std.specs.List.{list_any, range_with_len}
 use Rattle.sc_tree.specs.declared.ctype.CType.{CType-F}
@@ -14,8 +14,8 @@ use Rattle.sc_world.specs.Tree.{Ty, Void}
 use Rattle.sc_world.specs.Source.{Signature, no_signature}
 use Rattle.sc_world.specs.View.{type, type_step, signature_step}
 use Rattle.sc_world.specs.Programs.{signature}
-use Rattle.plan_core.specs.Graph.{calls, is_cut}
-use Rattle.program_verdicts.specs.CallGraph.{functions, calls_body, row, rows}
+use Rattle.plan_core.specs.Graph.{calls, cut_callees, is_cut}
+use Rattle.program_verdicts.specs.CallGraph.{rows}
 use Rattle.program_verdicts.specs.Verdicts.{kept_of}
 use Rattle.source_laws.specs.Named.{signature_of}
 use Rattle.fn_matter.specs.Matter.{CallPart, call_part, calls_of, function, no_function}
@@ -66,17 +66,10 @@ module _ (p : Program) (f : ℕ) where
       ]) refl h
 
   module _ (low : f < length p.functions) where
-    row_read : slice_index_or (rows p) f [] ≡ row p f
-    row_read = get_or-map-range_with_len (row p) 0 (length p.functions) f f [] low (omega arith)
-
     -- a callee whose edge is kept is called
     pub kept_called : (n : ℕ) → list_any (nat_eq n) (kept_of p f) ≡ true → list_any (nat_eq n) (calls_of p f) ≡ true
     kept_called n h =
-        let both = and_parts (calls (rows p) f n) (not (is_cut (rows p) f n))
-        (passes (λ g. calls (rows p) f g && not (is_cut (rows p) f g)) (range_with_len 0 (length (rows p))) n h) in
-        let in_row : list_any (nat_eq n) (row p f) ≡ true =
-        let P : List ℕ → Type 0 = λ gs. list_any (nat_eq n) gs ≡ true in subst P row_read both.0 in
-        passes (calls_body (calls_of p f)) (functions p) n in_row
+        list_any-append (nat_eq n) (kept_of p f) (cut_callees (rows p) f) ∙ or_left (list_any (nat_eq n) (kept_of p f)) (list_any (nat_eq n) (cut_callees (rows p) f)) h
 
     -- the signature of a kept callee
     pub signature_told : (n : ℕ) → list_any (nat_eq n) (kept_of p f) ≡ true → signature_of p n ≡ told (map (call_part p f) (calls_of p f)) n
