@@ -1,3 +1,4 @@
 pub mod Named
 pub mod Closed
 pub mod Sets
+pub mod Told

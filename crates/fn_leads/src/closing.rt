@@ -1,11 +1,12 @@
 // What marked numbers lead to.
 
-ghost use Rattle.std.specs.Prelude.{◌≡◌, ℕ, List as Items, false, replicate, filter, length, IfOk, OnOk};
+ghost use Rattle.std.specs.Prelude.{◌≡◌, ℕ, List as Items, [], ◌∷◌, false, replicate, filter, length, IfOk, OnOk};
 ghost use Rattle.std.specs.List.{range_with_len};
 ghost use Rattle.fn_leads.specs.Closing as spec;
 ghost use Rattle.fn_leads.specs.Marks.{marked};
 
 use crate::marks::set_marks;
+use crate::types::mark;
 use plan_core::laws::reaching;
 use sc_base::{List, OutOfMemory};
 use std::alloc::Global;
@@ -19,16 +20,14 @@ fn is_set(marks: &[bool], number: usize) -> bool
     }
 }
 
-// Marks a number that is not marked yet, and puts it among those whose rows are to be marked. One that has no mark is
-// passed over.
+// Marks a number, and puts it among those whose rows are to be marked, where it is not marked yet.
 fn take(marks: &mut [bool], todo: &mut Vec<u32>, number: u32) -> Result<(), OutOfMemory>
     ensures { OnOk result (marks.new ≡ marked marks.old (number ∷ [])) }
 {
-    let at = number as usize;
-    if at < marks.len() && !marks[at] {
-        marks[at] = true;
+    if !is_set(marks, number as usize) {
         todo.push(number)?;
     }
+    mark(marks, number);
     Ok(())
 }
 

@@ -1,11 +1,9 @@
 // What one function leads to.
 
-ghost use Rattle.std.specs.Prelude.{◌≡◌, ◌<◌, ℕ, false, length, filter, IfOk, replicate};
+ghost use Rattle.std.specs.Prelude.{◌≡◌, ◌<◌, length, filter, IfOk};
 ghost use Rattle.plan_core.specs.Graph.{functions, reaches};
-ghost use Rattle.program_verdicts.specs.CallGraph.{plan};
-ghost use Rattle.fn_matter.specs.Matter.{function, globals_led, reached, structs_led, structs_named};
+ghost use Rattle.program_verdicts.specs.CallGraph as graph;
 ghost use Rattle.fn_leads.specs.Led as spec;
-ghost use Rattle.fn_leads.specs.Marks.{marked, mark_in_variables, no_marks};
 
 use crate::closing::closure;
 use crate::leads::{Leads, Led};
@@ -79,7 +77,7 @@ pub fn led(
     f: u32,
 ) -> Result<Led, OutOfMemory>
     requires inside { f < length program.now.functions }
-    requires plan { plan.now ≡ plan program.now }
+    requires plan { plan.now ≡ graph.plan program.now }
     requires leads { leads.now ≡ spec.leads_of program.now }
     ensures { IfOk result (λ led. led ≡ spec.led_of program.now f) }
 {

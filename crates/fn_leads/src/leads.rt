@@ -97,7 +97,7 @@ fn struct_names(alloc: Global, program: &Program) -> Result<List<List<u32>>, Out
 /// # Errors
 ///
 /// `OutOfMemory` where memory is refused.
-pub fn leads(alloc: Global, program: &Program) -> Result<Leads, OutOfMemory>
+pub fn leads_of(alloc: Global, program: &Program) -> Result<Leads, OutOfMemory>
     ensures { IfOk result (λ all. all ≡ spec.leads_of program.now) }
 {
     let functions = function_names(alloc, program)?;

@@ -14,4 +14,4 @@ mod statements;
 mod types;
 
 pub use leading::led;
-pub use leads::{Leads, Led, leads};
+pub use leads::{Leads, Led, leads_of};

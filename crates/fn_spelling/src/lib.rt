@@ -9,5 +9,7 @@ mod statements;
 mod types;
 mod writing;
 
+pub use numbers::flag;
 pub use statements::statement;
 pub use types::ctype;
+pub use writing::{end, node, part};

@@ -100,7 +100,8 @@ pub(crate) fn opaque_number(x: OpaqueKind) -> u64
     }
 }
 
-pub(crate) fn flag(x: bool) -> u64
+/// The number of a flag.
+pub fn flag(x: bool) -> u64
     ensures { result ≡ spec.flag x }
 {
     if x { 1 } else { 0 }

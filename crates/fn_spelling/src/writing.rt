@@ -6,8 +6,12 @@ ghost use Rattle.fn_matter.specs.Numbers as spec;
 
 use sc_base::OutOfMemory;
 
-// The kind of a node and its numbers. Its parts come behind.
-pub(crate) fn node(out: &mut Vec<u64>, kind: u64, numbers: &[u64]) -> Result<(), OutOfMemory>
+/// Writes the kind of a node and its numbers. Its parts come behind.
+///
+/// # Errors
+///
+/// `OutOfMemory` where memory is refused.
+pub fn node(out: &mut Vec<u64>, kind: u64, numbers: &[u64]) -> Result<(), OutOfMemory>
     ensures { OnOk result (out.new.items ≡ begun kind numbers.now out.old.items) }
 {
     out.push(kind)?;
@@ -16,16 +20,24 @@ pub(crate) fn node(out: &mut Vec<u64>, kind: u64, numbers: &[u64]) -> Result<(),
     Ok(())
 }
 
-// In front of a part.
-pub(crate) fn part(out: &mut Vec<u64>) -> Result<(), OutOfMemory>
+/// Writes what stands in front of a part.
+///
+/// # Errors
+///
+/// `OutOfMemory` where memory is refused.
+pub fn part(out: &mut Vec<u64>) -> Result<(), OutOfMemory>
     ensures { OnOk result (out.new.items ≡ marked out.old.items) }
 {
     out.push(1)?;
     Ok(())
 }
 
-// Behind the last part.
-pub(crate) fn end(out: &mut Vec<u64>) -> Result<(), OutOfMemory>
+/// Writes what stands behind the last part.
+///
+/// # Errors
+///
+/// `OutOfMemory` where memory is refused.
+pub fn end(out: &mut Vec<u64>) -> Result<(), OutOfMemory>
     ensures { OnOk result (out.new.items ≡ ended out.old.items) }
 {
     out.push(0)?;

@@ -1,0 +1,6 @@
+-- What is marked so far was led to.
+use Rattle.fn_leads.specs.Closing.{IsSpread}
+use Rattle.fn_leads.proofs.closing.spread.Given as goal
+
+abbrev pub invariant-loop-_turn : goal.invariant-loop-_turn
+invariant-loop-_turn l = IsSpread l.rows l.fn.marks l.marks
