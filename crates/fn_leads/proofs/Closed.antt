@@ -50,7 +50,7 @@ module _ (rows : List (List ℕ)) where
     kept = λ n h. then.kept n (first.kept n h);
     led = λ m h.
         let w = then.led m h in
-        let v = first.led w.0 w.1.0 in (v.0, v.1.0, reach_join rows v.0 w.0 m v.1.1 w.1.1);
+        let v = first.led w.0 w.1 in (v.0, v.1, reach_join rows v.0 w.0 m v.2 w.2);
   }
 
   -- one more of the row of a number that is marked
@@ -98,7 +98,8 @@ defaults (x ∷ xs) (suc i) d e low = defaults xs i d e (omega (arith, low))
 module _ (rows : List (List ℕ)) (m : List Bool) (closed : closed_from m 0 rows ≡ true) where
   next : (n k : ℕ) → is_set m n ≡ true → Contains (callees rows n) k → k < length m → is_set m k ≡ true
   next n k there has low =
-      let all = closed_at m rows 0 n closed there in
+      let P : ℕ → Type 0 = λ j. is_set m j ≡ true in
+      let all = closed_at m rows 0 n closed (subst P (let e : n ≡ 0 + n = omega arith in e) there) in
       let here = all_tell (λ j. get_or m j true) (callees rows n) has.0 k all has.1 in
       defaults m k false true low ∙ subst (λ j. get_or m j true ≡ true) has.2 here
 
@@ -118,12 +119,12 @@ any_here p (x ∷ ns) n h e =
     (λ rest. or_right (p x) (list_any p ns) (any_here p ns n rest e))
     (or_cases (nat_eq n x) (among ns n) h)
 
-any_tells : (p : ℕ → Bool) (ns : List ℕ) → list_any p ns ≡ true → (n : ℕ) × ((among ns n ≡ true) × (p n ≡ true))
+any_tells : (p : ℕ → Bool) (ns : List ℕ) → list_any p ns ≡ true → (n : ℕ) × (among ns n ≡ true) × (p n ≡ true)
 any_tells p [] h = absurd (false≢true h)
 any_tells p (x ∷ ns) h =
     ⊎_elim
     (λ here. (x, or_left (nat_eq x x) (among ns x) (eq-eqb x x refl), here))
-    (λ rest. let w = any_tells p ns rest in (w.0, or_right (nat_eq w.0 x) (among ns w.0) w.1.0, w.1.1))
+    (λ rest. let w = any_tells p ns rest in (w.0, or_right (nat_eq w.0 x) (among ns w.0) w.1, w.2))
     (or_cases (p x) (list_any p ns) h)
 
 -- The test for reaching is reaching by walks.
@@ -144,17 +145,17 @@ module _ (law : Law) (rows : List (List ℕ)) (ns : List ℕ) (m : List Bool) wh
       together (is_set m k) (led_by rows ns k)
       (λ h.
       let w = is.spread.led k h in
-      let start : w.0 < count = subst (λ j. w.0 < j) (length_fresh ns count) (inside_set before w.0 w.1.0) in
-      any_here (λ n. reaches rows n k) ns w.0 (sym (get_fresh ns count w.0 start) ∙ w.1.0) ((law rows w.0 k).1 w.1.1))
+      let start : w.0 < count = subst (λ j. w.0 < j) (length_fresh ns count) (inside_set before w.0 w.1) in
+      any_here (λ n. reaches rows n k) ns w.0 (sym (get_fresh ns count w.0 start) ∙ w.1) ((law rows w.0 k).1 w.2))
       (λ h.
       let w = any_tells (λ n. reaches rows n k) ns h in
-      let first : w.0 < count → is_set m w.0 ≡ true = λ start. is.spread.kept w.0 (get_fresh ns count w.0 start ∙ w.1.0) in
+      let first : w.0 < count → is_set m w.0 ≡ true = λ start. is.spread.kept w.0 (get_fresh ns count w.0 start ∙ w.1) in
       ⊎_elim
       (λ same.
       let P : ℕ → Type 0 = λ j. is_set m j ≡ true in
       subst P same (first (subst (λ j. j < count) (sym same) inside)))
       (λ walk. walked rows m is.closed many w.0 k (first (start_inside rows w.0 k walk)) walk low)
-      ((law rows w.0 k).0 w.1.1))
+      ((law rows w.0 k).0 w.2))
       ∙ sym (get_or-map-range_with_len (led_by rows ns) 0 count k k false inside (omega arith)))
 
   pub closure_is : IsClosure rows before m → set_from 0 m ≡ filter (led_by rows ns) (range_with_len 0 (length rows))

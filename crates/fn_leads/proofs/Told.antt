@@ -8,8 +8,8 @@ use Rattle.std.proofs.lemmas.List.Folds.{list_any_at}
 use Rattle.std.proofs.lemmas.Map.Views.{Contains-from_any}
 use Rattle.std.proofs.lemmas.List.FromFn.{length-map-range_with_len, length-range_with_len, get_or-range_with_len}
 use Rattle.std.proofs.lemmas.List.Elements.{All-filter}
-use Rattle.plan_core.specs.Graph.{callees, Walk, one, more, Reaches, reaches}
-use Rattle.program_verdicts.specs.CallGraph.{functions, plan, rows}
+use Rattle.plan_core.specs.Graph.{callees, kept_callees, Walk, one, more, Reaches, reaches}
+use Rattle.program_verdicts.specs.CallGraph.{functions, plan, row, rows}
 use Rattle.sc_typed.specs.declared.program.Program.{Program}
 use Rattle.sc_typed.specs.declared.program.Function.{Function}
 use Rattle.sc_typed.specs.declared.program.StructDef.{StructDef}
@@ -30,7 +30,8 @@ all_below n k d below =
 
 -- the functions that one reaches
 pub all_rows : (p : Program) → length (plan p).callees ≡ length p.functions
-all_rows p = length-map-range_with_len _ 0 (length (rows p)) ∙ length-map-range_with_len _ 0 (length p.functions)
+all_rows p =
+    length-map-range_with_len (kept_callees (rows p)) 0 (length (rows p)) ∙ length-map-range_with_len (row p) 0 (length p.functions)
 
 pub alone : (rows : List (List ℕ)) (f n : ℕ) → filter (led_by rows (f ∷ [])) (range_with_len 0 n) ≡ filter (reaches rows f) (range_with_len 0 n)
 alone rows f n = filter_same (led_by rows (f ∷ [])) (reaches rows f) 0 n (λ k _. sym (or_false (reaches rows f k)))

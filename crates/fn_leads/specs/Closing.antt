@@ -10,7 +10,7 @@ is_set marks n = slice_index_or marks n false
 pub record IsSpread (rows : List (List ℕ)) (before after : List Bool) : Type 0 where
   pub same : length after ≡ length before
   pub kept : (n : ℕ) → is_set before n ≡ true → is_set after n ≡ true
-  pub led : (m : ℕ) → is_set after m ≡ true → (n : ℕ) × ((is_set before n ≡ true) × Reaches rows n m)
+  pub led : (m : ℕ) → is_set after m ≡ true → (n : ℕ) × (is_set before n ≡ true) × Reaches rows n m
 
 -- whether all of a row are marked; a number that has no mark is passed over
 abbrev pub row_marked : List Bool → List ℕ → Bool

@@ -109,9 +109,6 @@ module _ (p : Program) (f : ℕ) where
         let inside : f < length (rows p) = subst (λ n. f < n) (sym all_rows) low in
         get_or-map-range_with_len (kept_callees (rows p)) 0 (length (rows p)) f f [] inside (omega arith)
 
-    edge : ℕ → ℕ → Edge
-    edge c g = record { caller = c; callee = g }
-
     of_one : (c : ℕ) (gs : List ℕ) (es : List Edge) → callees_among f (map (λ (g : ℕ). record { caller = c; callee = g }) gs ++ es)
         ≡ (if nat_eq c f then gs ++ callees_among f es else callees_among f es)
     of_one c [] es = sym (elim (nat_eq c f) as (λ b. (if b then callees_among f es else callees_among f es) ≡ callees_among f es) [

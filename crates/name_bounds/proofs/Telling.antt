@@ -41,6 +41,22 @@ both b c p q = (
   λ h. and_from b c (p.1 h.0) (q.1 h.1),
 )
 
+three : {P Q R : Type 0} (b c d : Bool) → Tells b P → Tells c Q → Tells d R → Tells (b && (c && d)) (P × Q × R)
+three b c d p q r = (
+  λ h.
+      let first = and_parts b (c && d) h in
+      let rest = and_parts c d first.1 in (p.0 first.0, q.0 rest.0, r.0 rest.1),
+  λ h. and_from b (c && d) (p.1 h.0) (and_from c d (q.1 h.1) (r.1 h.2)),
+)
+
+four : {P Q R S : Type 0} (b c d e : Bool) → Tells b P → Tells c Q → Tells d R → Tells e S → Tells (b && (c && (d && e))) (P × Q × R × S)
+four b c d e p q r s = (
+  λ h.
+      let first = and_parts b (c && (d && e)) h in
+      let then = (three c d e q r s).0 first.1 in (p.0 first.0, then.0, then.1, then.2),
+  λ h. and_from b (c && (d && e)) (p.1 h.0) ((three c d e q r s).1 (h.1, h.2, h.3)),
+)
+
 always : Tells true (Unit {0})
 always = (λ _. tt, λ _. refl)
 
@@ -96,7 +112,7 @@ module _ (count : ℕ) where
     what_layer : (y : What-F SW SE) (t : Ty) (p : Place) → TellBoth (what_tested (bare_what y)) (what_shown (bare_what y) t p)
     what_layer (What-F.Comma a b) t p = (always, two a b)
     what_layer (What-F.Assign o works a b) t p = (always, two a b)
-    what_layer (What-F.Cond a b c) t p = (always, both (test_of a.0) (test_of b.0 && test_of c.0) a.1.1 (two b c))
+    what_layer (What-F.Cond a b c) t p = (always, three (test_of a.0) (test_of b.0) (test_of c.0) a.1.1 b.1.1 c.1.1)
     what_layer (What-F.Binary o a b) t p = (always, two a b)
     what_layer (What-F.Cast a) t p = (always, a.1.1)
     what_layer (What-F.Unary o a) t p = (always, a.1.1)
@@ -107,8 +123,7 @@ module _ (count : ℕ) where
     what_layer (What-F.Index a b) t p = (always, two a b)
     what_layer (What-F.Call f es) t p = (
       always,
-      both (exp_below count f.0).called (test_of f.0 && all_call (map (exp_below count) (map (λ (e : SE). e.0) es))) f.1.0
-          (both (test_of f.0) (all_call (map (exp_below count) (map (λ (e : SE). e.0) es))) f.1.1 (each es)),
+      three (exp_below count f.0).called (test_of f.0) (all_call (map (exp_below count) (map (λ (e : SE). e.0) es))) f.1.0 f.1.1 (each es),
     )
     what_layer (What-F.Field a s n arrow) t p = (always, a.1.1)
     what_layer (What-F.Param n) t p = (always, always)
@@ -196,13 +211,12 @@ module _ (count : ℕ) where
     stm_layer (TStmt-F.Expr e p) = exp_if_tells e
     stm_layer (TStmt-F.If e x None p) = exp_and e x
     stm_layer (TStmt-F.If e x (Some y) p) =
-        both (test_of e) (stm_below count x.0 && stm_below count y.0) (exp_tells e) (both (stm_below count x.0) (stm_below count y.0) x.1 y.1)
+        three (test_of e) (stm_below count x.0) (stm_below count y.0) (exp_tells e) x.1 y.1
     stm_layer (TStmt-F.While e x p) = exp_and e x
     stm_layer (TStmt-F.Do x e p) = both (stm_below count x.0) (test_of e) x.1 (exp_tells e)
     stm_layer (TStmt-F.For f c n x p) =
-        both (start_below count f) (exp_if_below count c && (exp_if_below count n && stm_below count x.0)) (start_tells f)
-        (both (exp_if_below count c) (exp_if_below count n && stm_below count x.0) (exp_if_tells c)
-        (both (exp_if_below count n) (stm_below count x.0) (exp_if_tells n) x.1))
+        four (start_below count f) (exp_if_below count c) (exp_if_below count n) (stm_below count x.0) (start_tells f) (exp_if_tells c)
+        (exp_if_tells n) x.1
     stm_layer (TStmt-F.Switch e xs p end) =
         both (test_of e) (all_true count (map (stm_below count) (map (λ (e : SM). e.0) xs))) (exp_tells e) (each_stm xs)
     stm_layer (TStmt-F.Case n e p) = exp_tells e
@@ -249,11 +263,11 @@ module _ (count : ℕ) where
 -- the tests of a program's tables, and of a function
 pub tables_tell : (count : ℕ) (p : Program) → Tells (tables_below count p) ((0 < count) × StructsBelow count (structs_of p) × AllBelow count (map (λ (g : Global). g.name) p.globals))
 tables_tell count p =
-    both (nat_lt 0 count) (structs_below count p.structs && globals_below count p.globals) ((λ h. omega (arith, h), λ h. omega (arith, h)))
-    (both (structs_below count p.structs) (globals_below count p.globals) (structs_tell count p.structs) (globals_tell count p.globals))
+    three (nat_lt 0 count) (structs_below count p.structs) (globals_below count p.globals) (λ h. omega (arith, h), λ h. omega (arith, h))
+    (structs_tell count p.structs) (globals_tell count p.globals)
 
 pub function_tells : (count : ℕ) (f : Function) (p : Program) → Tells (function_below count f)
     (StatementCallsBelow count (body_of (structs_of p) f.body) × AllBelow count (names_of f.params) × AllBelow count (names_of f.locals))
 function_tells count f p =
-    both (body_below count f.body) (variables_below count f.params && variables_below count f.locals) (body_tells count (structs_of p) f.body)
-    (both (variables_below count f.params) (variables_below count f.locals) (variables_tell count f.params) (variables_tell count f.locals))
+    three (body_below count f.body) (variables_below count f.params) (variables_below count f.locals) (body_tells count (structs_of p) f.body)
+    (variables_tell count f.params) (variables_tell count f.locals)

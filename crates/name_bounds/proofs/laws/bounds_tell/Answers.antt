@@ -13,10 +13,10 @@ returns c count p f =
           record {
             some = a.0;
             calls = b.0;
-            members = a.1.0;
-            params_below = b.1.0;
-            globals_below = a.1.1;
-            locals_below = b.1.1;
+            members = a.1;
+            params_below = b.1;
+            globals_below = a.2;
+            locals_below = b.2;
           },
       λ n. (t.1 (n.some, n.members, n.globals_below), u.1 (n.calls, n.params_below, n.locals_below)),
     )
