@@ -45,11 +45,11 @@ module _ (rows : List (List ℕ)) where
   spread_none m = record { same = refl; kept = λ n h. h; led = λ n h. (n, h, inl refl) }
 
   pub spread_on : (a b c : List Bool) → IsSpread rows a b → IsSpread rows b c → IsSpread rows a c
-  spread_on a b c first then = record {
-    same = then.same ∙ first.same;
-    kept = λ n h. then.kept n (first.kept n h);
+  spread_on a b c first later = record {
+    same = later.same ∙ first.same;
+    kept = λ n h. later.kept n (first.kept n h);
     led = λ m h.
-        let w = then.led m h in
+        let w = later.led m h in
         let v = first.led w.0 w.1 in (v.0, v.1, reach_join rows v.0 w.0 m v.2 w.2);
   }
 

@@ -15,7 +15,7 @@ together true c f g = sym (f refl)
 together false true f g = g refl
 together false false f g = refl
 
-or_false : (a : Bool) → a ≡ (a || false)
+pub or_false : (a : Bool) → a ≡ (a || false)
 or_false true = refl
 or_false false = refl
 
@@ -154,7 +154,8 @@ filter_same t k a (suc n) e =
 pub ascending_below : (n : ℕ) (gs : List ℕ) (k : ℕ) → among (ascending n gs) k ≡ true → k < n
 ascending_below n gs k h =
     let P : List ℕ → Type 0 = λ xs. among xs k ≡ true in
-    below 0 n k (within (among gs) (range_with_len 0 n) k (subst P (ascending_is n gs) h))
+    let low = below 0 n k (within (among gs) (range_with_len 0 n) k (subst P (ascending_is n gs) h)) in
+    omega (arith, low)
 
 pub ascending_among : (n : ℕ) (gs : List ℕ) (k : ℕ) → among (ascending n gs) k ≡ true → among gs k ≡ true
 ascending_among n gs k h =
@@ -164,7 +165,7 @@ ascending_among n gs k h =
 pub among_ascending : (n : ℕ) (gs : List ℕ) (k : ℕ) → k < n → among gs k ≡ true → among (ascending n gs) k ≡ true
 among_ascending n gs k low h =
     let P : List ℕ → Type 0 = λ xs. among xs k ≡ true in
-    subst P (sym (ascending_is n gs)) (passing (among gs) (range_with_len 0 n) k (in_range 0 n k (omega arith) low) h)
+    subst P (sym (ascending_is n gs)) (passing (among gs) (range_with_len 0 n) k (in_range 0 n k (omega arith) (omega (arith, low))) h)
 
 -- marks that are set by them are those that are set by the list
 pub same_marks : (n : ℕ) (gs : List ℕ) (m : List Bool) → length m ≡ n → marked m (ascending n gs) ≡ marked m gs

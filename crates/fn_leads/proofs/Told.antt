@@ -215,4 +215,4 @@ module _ (p : Program) where
     pub structs_are : (f : ℕ) → filter (led_by told (structs_named p f)) (range_with_len 0 (length p.structs)) ≡ structs_led p f
     structs_are f =
         filter_same (led_by told (structs_named p f)) (is_led p (structs_named p f)) 0 (length p.structs)
-        (λ k low. led_same (structs_named p f) k low)
+        (λ k low. led_same (structs_named p f) k (omega (arith, low)))

@@ -53,7 +53,7 @@ four : {P Q R S : Type 0} (b c d e : Bool) → Tells b P → Tells c Q → Tells
 four b c d e p q r s = (
   λ h.
       let first = and_parts b (c && (d && e)) h in
-      let then = (three c d e q r s).0 first.1 in (p.0 first.0, then.0, then.1, then.2),
+      let rest = (three c d e q r s).0 first.1 in (p.0 first.0, rest.0, rest.1, rest.2),
   λ h. and_from b (c && (d && e)) (p.1 h.0) ((three c d e q r s).1 (h.1, h.2, h.3)),
 )
 

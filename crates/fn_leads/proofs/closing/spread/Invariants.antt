@@ -2,5 +2,5 @@
 use Rattle.fn_leads.specs.Closing.{IsSpread}
 use Rattle.fn_leads.proofs.closing.spread.Given as goal
 
-abbrev pub invariant-loop-_turn : goal.invariant-loop-_turn
-invariant-loop-_turn l = IsSpread l.rows l.fn.marks l.marks
+abbrev pub invariant-loop-turn : goal.invariant-loop-turn
+invariant-loop-turn l = IsSpread l.rows l.fn.marks l.marks
