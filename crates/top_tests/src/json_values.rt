@@ -3,7 +3,7 @@
 use crate::rows::Row;
 use saturn_top::Status;
 
-pub static JSON: [Row; 10] = [
+pub static JSON: [Row; 11] = [
     Row {
         name: "lock taken at exit",
         words: &["saturn_check", "--format", "json", "a.c"],
@@ -20,16 +20,17 @@ void f(_Bool c,spinlock_t*l){spin_lock(l);}",
 \"source\":\"a.c\"}],\"notes\":[],\"functions\":[{\"name\":\"f\",\"place\":{\"file\":\"a.c\",\
 \"line\":2,\"column\":6,\"source\":{\"file\":\"a.c\",\"line\":2}},\"in_header\":false,\
 \"skipped\":null,\"entry\":[{\"name\":\"c\",\"type\":\"_Bool\"},{\"name\":\"l\",\
-\"type\":\"pointer\"}],\"bits\":2,\"items\":[{\"item\":\"end\",\"rows\":[{\"entry\":[false,true],\
-\"before\":null,\"result\":\"none\",\"after\":null},{\"entry\":[true,true],\"before\":null,\
-\"result\":\"none\",\"after\":null}]},{\"item\":\"state\",\"path\":{\"text\":\"*l\",\
-\"root\":{\"kind\":\"parameter\",\"number\":1,\"name\":\"l\"},\"steps\":[\"target\"]},\
-\"rows\":[{\"entry\":[false,true],\"before\":{\"state\":\"U\"},\"result\":\"none\",\
-\"after\":{\"state\":\"L\"}},{\"entry\":[false,true],\"before\":{\"state\":\"L\"},\
-\"result\":\"none\",\"after\":\"error\"},{\"entry\":[true,true],\"before\":{\"state\":\"U\"},\
-\"result\":\"none\",\"after\":{\"state\":\"L\"}},{\"entry\":[true,true],\
-\"before\":{\"state\":\"L\"},\"result\":\"none\",\"after\":\"error\"}]}],\"writes\":[],\
-\"reports\":[]}],\"totals\":{\"functions\":1,\"skipped\":0,\"rows\":6,\"reports\":0}}",
+\"type\":\"pointer\"}],\"bits\":2,\"items\":[{\"item\":\"end\",\"rows\":[{\"entry\":[false,\
+true],\"before\":null,\"result\":\"none\",\"after\":null},{\"entry\":[true,true],\
+\"before\":null,\"result\":\"none\",\"after\":null}]},{\"item\":\"state\",\
+\"path\":{\"text\":\"*l\",\"root\":{\"kind\":\"parameter\",\"number\":1,\"name\":\"l\"},\
+\"steps\":[\"target\"]},\"rows\":[{\"entry\":[false,true],\"before\":{\"state\":\"U\"},\
+\"result\":\"none\",\"after\":{\"state\":\"L\"}},{\"entry\":[false,true],\
+\"before\":{\"state\":\"L\"},\"result\":\"none\",\"after\":\"error\"},{\"entry\":[true,true],\
+\"before\":{\"state\":\"U\"},\"result\":\"none\",\"after\":{\"state\":\"L\"}},{\"entry\":[true,\
+true],\"before\":{\"state\":\"L\"},\"result\":\"none\",\"after\":\"error\"}]}],\"writes\":[],\
+\"reports\":[],\"passed_over\":[]}],\"totals\":{\"functions\":1,\"skipped\":0,\"rows\":6,\
+\"reports\":0}}",
         err: "",
     },
     Row {
@@ -48,32 +49,32 @@ void f(_Bool c,spinlock_t*l){spin_lock(l);if(c)spin_lock(l);}",
 \"source\":\"a.c\"}],\"notes\":[],\"functions\":[{\"name\":\"f\",\"place\":{\"file\":\"a.c\",\
 \"line\":2,\"column\":6,\"source\":{\"file\":\"a.c\",\"line\":2}},\"in_header\":false,\
 \"skipped\":null,\"entry\":[{\"name\":\"c\",\"type\":\"_Bool\"},{\"name\":\"l\",\
-\"type\":\"pointer\"}],\"bits\":2,\"items\":[{\"item\":\"end\",\"rows\":[{\"entry\":[false,true],\
-\"before\":null,\"result\":\"none\",\"after\":null}]},{\"item\":\"state\",\"path\":{\"text\":\"*l\",\
-\"root\":{\"kind\":\"parameter\",\"number\":1,\"name\":\"l\"},\"steps\":[\"target\"]},\
-\"rows\":[{\"entry\":[false,true],\"before\":{\"state\":\"U\"},\"result\":\"none\",\
-\"after\":{\"state\":\"L\"}},{\"entry\":[false,true],\"before\":{\"state\":\"L\"},\
-\"result\":\"none\",\"after\":\"error\"},{\"entry\":[true,true],\"before\":{\"state\":\"U\"},\
-\"result\":\"none\",\"after\":\"error\"},{\"entry\":[true,true],\"before\":{\"state\":\"L\"},\
-\"result\":\"none\",\"after\":\"error\"}]}],\"writes\":[],\"reports\":[{\"kind\":\"double\",\
+\"type\":\"pointer\"}],\"bits\":2,\"items\":[{\"item\":\"end\",\"rows\":[{\"entry\":[false,\
+true],\"before\":null,\"result\":\"none\",\"after\":null}]},{\"item\":\"state\",\
 \"path\":{\"text\":\"*l\",\"root\":{\"kind\":\"parameter\",\"number\":1,\"name\":\"l\"},\
-\"steps\":[\"target\"]},\"runs\":[{\"choice\":\"c\",\"location\":\"*l\",\
-\"events\":[{\"place\":{\"file\":\"a.c\",\"line\":2,\"column\":30,\"source\":{\"file\":\"a.c\",\
-\"line\":2}},\"kind\":\"call\",\"callee\":\"spin_lock\"},{\"place\":{\"file\":\"a.c\",\"line\":2,\
-\"column\":43,\"source\":{\"file\":\"a.c\",\"line\":2}},\"kind\":\"if\",\"holds\":true},\
-{\"place\":{\"file\":\"a.c\",\"line\":2,\"column\":48,\"source\":{\"file\":\"a.c\",\"line\":2}},\
-\"kind\":\"call\",\"callee\":\"spin_lock\"},{\"place\":{\"file\":\"a.c\",\"line\":2,\"column\":48,\
-\"source\":{\"file\":\"a.c\",\"line\":2}},\"kind\":\"error\"}],\
-\"says\":[{\"kind\":\"cell\",\"location\":\"c\",\"value\":{\"number\":\"1\"}},\
-{\"kind\":\"cell\",\"location\":\"l\",\"value\":{\"object\":\"*l\"}},{\"kind\":\"state\",\
-\"location\":\"*l\",\"value\":{\"state\":\"U\"}}]},{\"choice\":\"e\",\
+\"steps\":[\"target\"]},\"rows\":[{\"entry\":[false,true],\"before\":{\"state\":\"U\"},\
+\"result\":\"none\",\"after\":{\"state\":\"L\"}},{\"entry\":[false,true],\
+\"before\":{\"state\":\"L\"},\"result\":\"none\",\"after\":\"error\"},{\"entry\":[true,true],\
+\"before\":{\"state\":\"U\"},\"result\":\"none\",\"after\":\"error\"},{\"entry\":[true,true],\
+\"before\":{\"state\":\"L\"},\"result\":\"none\",\"after\":\"error\"}]}],\"writes\":[],\
+\"reports\":[{\"kind\":\"double\",\"path\":{\"text\":\"*l\",\"root\":{\"kind\":\"parameter\",\
+\"number\":1,\"name\":\"l\"},\"steps\":[\"target\"]},\"runs\":[{\"choice\":\"c\",\
 \"location\":\"*l\",\"events\":[{\"place\":{\"file\":\"a.c\",\"line\":2,\"column\":30,\
 \"source\":{\"file\":\"a.c\",\"line\":2}},\"kind\":\"call\",\"callee\":\"spin_lock\"},\
-{\"place\":{\"file\":\"a.c\",\"line\":2,\"column\":30,\"source\":{\"file\":\"a.c\",\"line\":2}},\
-\"kind\":\"error\"}],\
+{\"place\":{\"file\":\"a.c\",\"line\":2,\"column\":43,\"source\":{\"file\":\"a.c\",\"line\":2}},\
+\"kind\":\"if\",\"holds\":true},{\"place\":{\"file\":\"a.c\",\"line\":2,\"column\":48,\
+\"source\":{\"file\":\"a.c\",\"line\":2}},\"kind\":\"call\",\"callee\":\"spin_lock\"},\
+{\"place\":{\"file\":\"a.c\",\"line\":2,\"column\":48,\"source\":{\"file\":\"a.c\",\"line\":2}},\
+\"kind\":\"error\"}],\"says\":[{\"kind\":\"cell\",\"location\":\"c\",\
+\"value\":{\"number\":\"1\"}},{\"kind\":\"cell\",\"location\":\"l\",\
+\"value\":{\"object\":\"*l\"}},{\"kind\":\"state\",\"location\":\"*l\",\
+\"value\":{\"state\":\"U\"}}]},{\"choice\":\"e\",\"location\":\"*l\",\
+\"events\":[{\"place\":{\"file\":\"a.c\",\"line\":2,\"column\":30,\"source\":{\"file\":\"a.c\",\
+\"line\":2}},\"kind\":\"call\",\"callee\":\"spin_lock\"},{\"place\":{\"file\":\"a.c\",\
+\"line\":2,\"column\":30,\"source\":{\"file\":\"a.c\",\"line\":2}},\"kind\":\"error\"}],\
 \"says\":[{\"kind\":\"cell\",\"location\":\"c\",\"value\":{\"number\":\"1\"}},\
 {\"kind\":\"cell\",\"location\":\"l\",\"value\":{\"object\":\"*l\"}},{\"kind\":\"state\",\
-\"location\":\"*l\",\"value\":{\"state\":\"L\"}}]}]}]}],\
+\"location\":\"*l\",\"value\":{\"state\":\"L\"}}]}]}],\"passed_over\":[]}],\
 \"totals\":{\"functions\":1,\"skipped\":0,\"rows\":5,\"reports\":1}}",
         err: "",
     },
@@ -90,17 +91,18 @@ void f(_Bool c,spinlock_t*l){spin_lock(l);if(c)spin_lock(l);}",
 \"skipped\":null,\"entry\":[{\"name\":\"c\",\"type\":\"_Bool\"}],\"bits\":1,\
 \"items\":[{\"item\":\"end\",\"rows\":[{\"entry\":[false],\"before\":null,\"result\":\"none\",\
 \"after\":null},{\"entry\":[true],\"before\":null,\"result\":\"none\",\"after\":null}]}],\
-\"writes\":[],\"reports\":[{\"kind\":\"leak\",\"place\":{\"file\":\"a.c\",\"line\":1,\"column\":24,\
-\"source\":{\"file\":\"a.c\",\"line\":1}},\"runs\":[{\"choice\":\"400\",\"location\":\"\",\
-\"events\":[{\"place\":{\"file\":\"a.c\",\"line\":1,\"column\":24,\"source\":{\"file\":\"a.c\",\
-\"line\":1}},\"kind\":\"call\",\"callee\":\"kmalloc\"},{\"place\":{\"file\":\"a.c\",\"line\":1,\
-\"column\":37,\"source\":{\"file\":\"a.c\",\"line\":1}},\"kind\":\"if\",\"holds\":false},\
-{\"place\":{\"file\":\"a.c\",\"line\":1,\"column\":51,\"source\":{\"file\":\"a.c\",\"line\":1}},\
-\"kind\":\"end\"}],\"says\":[{\"kind\":\"cell\",\"location\":\"c\",\"value\":{\"number\":\"0\"}},\
-{\"kind\":\"cell\",\"location\":\"call@1:24\",\"value\":{\"number\":\"0\"}},{\"kind\":\"call\",\
-\"place\":{\"file\":\"a.c\",\"line\":1,\"column\":24,\"source\":{\"file\":\"a.c\",\"line\":1}},\
-\"turn\":0,\"value\":{\"object\":\"call@1:24\"}}]}]}]}],\
-\"totals\":{\"functions\":1,\"skipped\":0,\"rows\":2,\"reports\":1}}",
+\"writes\":[],\"reports\":[{\"kind\":\"leak\",\"place\":{\"file\":\"a.c\",\"line\":1,\
+\"column\":24,\"source\":{\"file\":\"a.c\",\"line\":1}},\"runs\":[{\"choice\":\"400\",\
+\"location\":\"\",\"events\":[{\"place\":{\"file\":\"a.c\",\"line\":1,\"column\":24,\
+\"source\":{\"file\":\"a.c\",\"line\":1}},\"kind\":\"call\",\"callee\":\"kmalloc\"},\
+{\"place\":{\"file\":\"a.c\",\"line\":1,\"column\":37,\"source\":{\"file\":\"a.c\",\"line\":1}},\
+\"kind\":\"if\",\"holds\":false},{\"place\":{\"file\":\"a.c\",\"line\":1,\"column\":51,\
+\"source\":{\"file\":\"a.c\",\"line\":1}},\"kind\":\"end\"}],\"says\":[{\"kind\":\"cell\",\
+\"location\":\"c\",\"value\":{\"number\":\"0\"}},{\"kind\":\"cell\",\"location\":\"call@1:24\",\
+\"value\":{\"number\":\"0\"}},{\"kind\":\"call\",\"place\":{\"file\":\"a.c\",\"line\":1,\
+\"column\":24,\"source\":{\"file\":\"a.c\",\"line\":1}},\"turn\":0,\
+\"value\":{\"object\":\"call@1:24\"}}]}]}],\"passed_over\":[]}],\"totals\":{\"functions\":1,\
+\"skipped\":0,\"rows\":2,\"reports\":1}}",
         err: "",
     },
     Row {
@@ -127,21 +129,22 @@ void f(spinlock_t*l,int c){int n;do{t(l,&n);}while(c==-2);}",
 \"result\":\"none\",\"after\":{\"state\":\"L\"}},{\"entry\":[true,true],\
 \"before\":{\"state\":\"L\"},\"result\":\"none\",\"after\":\"error\"}]}],\
 \"writes\":[{\"path\":{\"text\":\"*n\",\"root\":{\"kind\":\"parameter\",\"number\":1,\
-\"name\":\"n\"},\"steps\":[\"target\"]},\"width\":32}],\"reports\":[]},{\"name\":\"f\",\
-\"place\":{\"file\":\"a.c\",\"line\":3,\"column\":6,\"source\":{\"file\":\"a.c\",\"line\":3}},\
-\"in_header\":false,\"skipped\":null,\"entry\":[{\"name\":\"l\",\"type\":\"pointer\"},\
-{\"name\":\"c\",\"type\":\"int\"}],\"bits\":2,\"items\":[{\"item\":\"end\",\
-\"rows\":[{\"entry\":[true,false],\"before\":null,\"result\":\"none\",\"after\":null},\
-{\"entry\":[true,true],\"before\":null,\"result\":\"none\",\"after\":null}]},\
-{\"item\":\"state\",\"path\":{\"text\":\"*l\",\"root\":{\"kind\":\"parameter\",\"number\":0,\
-\"name\":\"l\"},\"steps\":[\"target\"]},\"rows\":[{\"entry\":[true,false],\
-\"before\":{\"state\":\"U\"},\"result\":\"none\",\"after\":{\"state\":\"L\"}},{\"entry\":[true,\
-false],\"before\":{\"state\":\"L\"},\"result\":\"none\",\"after\":\"error\"},{\"entry\":[true,\
-true],\"before\":{\"state\":\"U\"},\"result\":\"none\",\"after\":{\"state\":\"L\"}},\
-{\"entry\":[true,true],\"before\":{\"state\":\"U\"},\"result\":\"none\",\"after\":\"error\"},\
-{\"entry\":[true,true],\"before\":{\"state\":\"L\"},\"result\":\"none\",\"after\":\"error\"}]}],\
-\"writes\":[],\"reports\":[{\"kind\":\"double\",\"path\":{\"text\":\"*l\",\
+\"name\":\"n\"},\"steps\":[\"target\"]},\"width\":32}],\"reports\":[],\"passed_over\":[]},\
+{\"name\":\"f\",\"place\":{\"file\":\"a.c\",\"line\":3,\"column\":6,\
+\"source\":{\"file\":\"a.c\",\"line\":3}},\"in_header\":false,\"skipped\":null,\
+\"entry\":[{\"name\":\"l\",\"type\":\"pointer\"},{\"name\":\"c\",\"type\":\"int\"}],\"bits\":2,\
+\"items\":[{\"item\":\"end\",\"rows\":[{\"entry\":[true,false],\"before\":null,\
+\"result\":\"none\",\"after\":null},{\"entry\":[true,true],\"before\":null,\"result\":\"none\",\
+\"after\":null}]},{\"item\":\"state\",\"path\":{\"text\":\"*l\",\
 \"root\":{\"kind\":\"parameter\",\"number\":0,\"name\":\"l\"},\"steps\":[\"target\"]},\
+\"rows\":[{\"entry\":[true,false],\"before\":{\"state\":\"U\"},\"result\":\"none\",\
+\"after\":{\"state\":\"L\"}},{\"entry\":[true,false],\"before\":{\"state\":\"L\"},\
+\"result\":\"none\",\"after\":\"error\"},{\"entry\":[true,true],\"before\":{\"state\":\"U\"},\
+\"result\":\"none\",\"after\":{\"state\":\"L\"}},{\"entry\":[true,true],\
+\"before\":{\"state\":\"U\"},\"result\":\"none\",\"after\":\"error\"},{\"entry\":[true,true],\
+\"before\":{\"state\":\"L\"},\"result\":\"none\",\"after\":\"error\"}]}],\"writes\":[],\
+\"reports\":[{\"kind\":\"double\",\"path\":{\"text\":\"*l\",\"root\":{\"kind\":\"parameter\",\
+\"number\":0,\"name\":\"l\"},\"steps\":[\"target\"]},\
 \"runs\":[{\"choice\":\"ffffffff100000000800000000\",\"location\":\"*l\",\
 \"events\":[{\"place\":{\"file\":\"a.c\",\"line\":3,\"column\":37,\"source\":{\"file\":\"a.c\",\
 \"line\":3}},\"kind\":\"call\",\"callee\":\"t\"},{\"place\":{\"file\":\"a.c\",\"line\":3,\
@@ -183,8 +186,8 @@ true],\"before\":{\"state\":\"U\"},\"result\":\"none\",\"after\":{\"state\":\"L\
 {\"kind\":\"write\",\"place\":{\"file\":\"a.c\",\"line\":3,\"column\":37,\
 \"source\":{\"file\":\"a.c\",\"line\":3}},\"turn\":1,\"path\":{\"text\":\"*n\",\
 \"root\":{\"kind\":\"parameter\",\"number\":1,\"name\":\"n\"},\"steps\":[\"target\"]},\
-\"value\":{\"number\":\"0\"}}]}]}]}],\"totals\":{\"functions\":2,\"skipped\":0,\"rows\":10,\
-\"reports\":1}}",
+\"value\":{\"number\":\"0\"}}]}]}],\"passed_over\":[]}],\"totals\":{\"functions\":2,\
+\"skipped\":0,\"rows\":10,\"reports\":1}}",
         err: "",
     },
     Row {
@@ -201,7 +204,7 @@ true],\"before\":{\"state\":\"U\"},\"result\":\"none\",\"after\":{\"state\":\"L\
 \"items\":[{\"item\":\"end\",\"rows\":[{\"entry\":[false],\"before\":null,\"result\":\"none\",\
 \"after\":null},{\"entry\":[true],\"before\":null,\"result\":\"none\",\"after\":null}]},\
 {\"item\":\"object\",\"parameter\":0,\"name\":\"p\",\"rows\":[{\"entry\":[true],\"before\":null,\
-\"result\":\"none\",\"after\":\"freed\"}]}],\"writes\":[],\"reports\":[]}],\
+\"result\":\"none\",\"after\":\"freed\"}]}],\"writes\":[],\"reports\":[],\"passed_over\":[]}],\
 \"totals\":{\"functions\":1,\"skipped\":0,\"rows\":3,\"reports\":0}}",
         err: "",
     },
@@ -217,10 +220,11 @@ true],\"before\":{\"state\":\"U\"},\"result\":\"none\",\"after\":{\"state\":\"L\
 \"line\":1,\"column\":6,\"source\":{\"file\":\"a.c\",\"line\":1}},\"in_header\":false,\
 \"skipped\":null,\"entry\":[{\"name\":\"n\",\"type\":\"int\"}],\"bits\":1,\
 \"items\":[{\"item\":\"end\",\"rows\":[{\"entry\":[false],\"before\":null,\"result\":\"zero\",\
-\"after\":\"null\"},{\"entry\":[false],\"before\":null,\"result\":\"nonzero\",\"after\":\"fresh\"},\
-{\"entry\":[true],\"before\":null,\"result\":\"zero\",\"after\":\"null\"},{\"entry\":[true],\
-\"before\":null,\"result\":\"nonzero\",\"after\":\"fresh\"}]}],\"writes\":[],\"reports\":[]}],\
-\"totals\":{\"functions\":1,\"skipped\":0,\"rows\":4,\"reports\":0}}",
+\"after\":\"null\"},{\"entry\":[false],\"before\":null,\"result\":\"nonzero\",\
+\"after\":\"fresh\"},{\"entry\":[true],\"before\":null,\"result\":\"zero\",\"after\":\"null\"},\
+{\"entry\":[true],\"before\":null,\"result\":\"nonzero\",\"after\":\"fresh\"}]}],\"writes\":[],\
+\"reports\":[],\"passed_over\":[]}],\"totals\":{\"functions\":1,\"skipped\":0,\"rows\":4,\
+\"reports\":0}}",
         err: "",
     },
     Row {
@@ -248,11 +252,12 @@ true],\"before\":{\"state\":\"U\"},\"result\":\"none\",\"after\":{\"state\":\"L\
 \"type\":\"_Bool\"}],\"bits\":2,\"items\":[{\"item\":\"end\",\"rows\":[{\"entry\":[false,false],\
 \"before\":null,\"result\":\"none\",\"after\":null},{\"entry\":[true,false],\"before\":null,\
 \"result\":\"none\",\"after\":null},{\"entry\":[true,true],\"before\":null,\"result\":\"none\",\
-\"after\":null}]},{\"item\":\"pointer\",\"parameter\":0,\"name\":\"o\",\"rows\":[{\"entry\":[true,\
-false],\"before\":null,\"result\":\"none\",\"after\":\"same\"},{\"entry\":[true,true],\
-\"before\":null,\"result\":\"none\",\"after\":\"null\"}]}],\"writes\":[{\"path\":{\"text\":\"*o\",\
-\"root\":{\"kind\":\"parameter\",\"number\":0,\"name\":\"o\"},\"steps\":[\"target\"]},\"width\":0}],\
-\"reports\":[]}],\"totals\":{\"functions\":1,\"skipped\":0,\"rows\":5,\"reports\":0}}",
+\"after\":null}]},{\"item\":\"pointer\",\"parameter\":0,\"name\":\"o\",\
+\"rows\":[{\"entry\":[true,false],\"before\":null,\"result\":\"none\",\"after\":\"same\"},\
+{\"entry\":[true,true],\"before\":null,\"result\":\"none\",\"after\":\"null\"}]}],\
+\"writes\":[{\"path\":{\"text\":\"*o\",\"root\":{\"kind\":\"parameter\",\"number\":0,\
+\"name\":\"o\"},\"steps\":[\"target\"]},\"width\":0}],\"reports\":[],\"passed_over\":[]}],\
+\"totals\":{\"functions\":1,\"skipped\":0,\"rows\":5,\"reports\":0}}",
         err: "",
     },
     Row {
@@ -281,13 +286,42 @@ foo bar;
 \"entry\":[{\"name\":\"l\",\"type\":\"pointer\"}],\"bits\":1,\"items\":[{\"item\":\"end\",\
 \"rows\":[{\"entry\":[true],\"before\":null,\"result\":\"none\",\"after\":null}]},\
 {\"item\":\"state\",\"path\":{\"text\":\"*l\",\"root\":{\"kind\":\"parameter\",\"number\":0,\
-\"name\":\"l\"},\"steps\":[\"target\"]},\"rows\":[{\"entry\":[true],\"before\":{\"state\":\"U\"},\
-\"result\":\"none\",\"after\":{\"state\":\"L\"}},{\"entry\":[true],\"before\":{\"state\":\"L\"},\
-\"result\":\"none\",\"after\":\"error\"}]}],\"writes\":[],\"reports\":[]},{\"name\":\"h\",\
-\"place\":{\"file\":\"a.c\",\"line\":6,\"column\":6,\"source\":{\"file\":\"src/\\\"a\\\".c\",\
-\"line\":9}},\"in_header\":false,\"skipped\":{\"reason\":\"unsupported\",\"kind\":\"float\",\
-\"place\":{\"file\":\"a.c\",\"line\":6,\"column\":23,\"source\":{\"file\":\"src/\\\"a\\\".c\",\
-\"line\":9}}}}],\"totals\":{\"functions\":2,\"skipped\":1,\"rows\":3,\"reports\":0}}",
+\"name\":\"l\"},\"steps\":[\"target\"]},\"rows\":[{\"entry\":[true],\
+\"before\":{\"state\":\"U\"},\"result\":\"none\",\"after\":{\"state\":\"L\"}},{\"entry\":[true],\
+\"before\":{\"state\":\"L\"},\"result\":\"none\",\"after\":\"error\"}]}],\"writes\":[],\
+\"reports\":[],\"passed_over\":[]},{\"name\":\"h\",\"place\":{\"file\":\"a.c\",\"line\":6,\
+\"column\":6,\"source\":{\"file\":\"src/\\\"a\\\".c\",\"line\":9}},\"in_header\":false,\
+\"skipped\":{\"reason\":\"unsupported\",\"kind\":\"float\",\"place\":{\"file\":\"a.c\",\
+\"line\":6,\"column\":23,\"source\":{\"file\":\"src/\\\"a\\\".c\",\"line\":9}}}}],\
+\"totals\":{\"functions\":2,\"skipped\":1,\"rows\":3,\"reports\":0}}",
+        err: "",
+    },
+    Row {
+        name: "a call of a body that is passed over",
+        words: &["saturn_check", "--format", "json", "a.c"],
+        files: &[(
+            "a.c",
+            "\
+void g(char*q){double x;x=0;}
+void h(char*p){g(p);}",
+        )],
+        status: Status::Clean,
+        out: "\
+{\"format\":\"nalvegop verdicts\",\"version\":1,\"options\":{\"depth\":2,\"reach\":2,\
+\"model\":\"ilp32\",\"machine\":\"lock\",\"states\":[\"U\",\"L\"]},\"files\":[{\"name\":\"a.c\",\
+\"source\":\"a.c\"}],\"notes\":[],\"functions\":[{\"name\":\"g\",\"place\":{\"file\":\"a.c\",\
+\"line\":1,\"column\":6,\"source\":{\"file\":\"a.c\",\"line\":1}},\"in_header\":false,\
+\"skipped\":{\"reason\":\"unsupported\",\"kind\":\"float\",\"place\":{\"file\":\"a.c\",\
+\"line\":1,\"column\":23,\"source\":{\"file\":\"a.c\",\"line\":1}}}},{\"name\":\"h\",\
+\"place\":{\"file\":\"a.c\",\"line\":2,\"column\":6,\"source\":{\"file\":\"a.c\",\"line\":2}},\
+\"in_header\":false,\"skipped\":null,\"entry\":[{\"name\":\"p\",\"type\":\"pointer\"}],\
+\"bits\":1,\"items\":[{\"item\":\"end\",\"rows\":[{\"entry\":[false],\"before\":null,\
+\"result\":\"none\",\"after\":null},{\"entry\":[true],\"before\":null,\"result\":\"none\",\
+\"after\":null}]},{\"item\":\"object\",\"parameter\":0,\"name\":\"p\",\
+\"rows\":[{\"entry\":[true],\"before\":null,\"result\":\"none\",\"after\":\"escaped\"}]}],\
+\"writes\":[],\"reports\":[],\"passed_over\":[{\"name\":\"g\",\"place\":{\"file\":\"a.c\",\
+\"line\":1,\"column\":6,\"source\":{\"file\":\"a.c\",\"line\":1}}}]}],\
+\"totals\":{\"functions\":2,\"skipped\":1,\"rows\":3,\"reports\":0}}",
         err: "",
     },
     Row {

@@ -1,7 +1,7 @@
 -- How deep the values nest: no deeper than texts are read.
-use Rattle.std.proofs.Common.{◌≡◌, ◌≤◌, ℕ, zero, suc, ◌+◌, ◌/◌, ◌%◌, max, nat_eq, Bool, Option, Some, None, Result, Ok, Err, List, [], ◌∷◌, ◌++◌, map, refl, arith}
+use Rattle.std.proofs.Common.{◌≡◌, ◌≤◌, ℕ, zero, suc, ◌+◌, ◌/◌, ◌%◌, max, nat_eq, Bool, true, false, Option, Some, None, Result, Ok, Err, List, [], ◌∷◌, ◌++◌, map, refl, arith}
 use Rattle.std.specs.Prelude.{length, slice_get, sum_by, codes}
-use Rattle.std.specs.List.{range_with_len}
+use Rattle.std.specs.List.{flat_map, range_with_len}
 use Rattle.fsm_spec.specs.declared.table.MachineSpec.{MachineSpec}
 use Rattle.sc_base.specs.declared.pos.NameId.{NameId}
 use Rattle.sc_base.specs.declared.pos.Pos.{Pos}
@@ -47,6 +47,7 @@ use Rattle.choice_words.specs.declared.sayings.Word.{Word}
 use Rattle.choice_words.specs.declared.sayings.Word.TheVariants as word
 use Rattle.choice_words.specs.declared.subjects.Subject.{Subject}
 use Rattle.choice_words.specs.declared.subjects.Subject.TheVariants as subject
+use Rattle.plan_core.specs.Graph.{callees}
 use Rattle.program_verdicts.specs.Verdicts.{texts}
 use Rattle.sc_world.specs.Layout.{Layout}
 use Rattle.sc_world.specs.Paths.{Texts, site_of}
@@ -56,7 +57,8 @@ use Rattle.report_text.specs.Checks.{skipped_in, rows_in, reports_in}
 use Rattle.report_text.specs.Functions.{entry_params}
 use Rattle.json_places.specs.Arrays.{array_by}
 use Rattle.json_places.specs.Places.{source_value, source_at, place_value}
-use Rattle.verdict_json.specs.Tellings.{Says, says_by, says_of, says_with, source_among}
+use Rattle.verdict_json.specs.Tellings.{Says, says_by, says_of, says_with, source_among, verdict_at}
+use Rattle.verdict_json.specs.PassedOver.{callee_value, is_passed, passed_at, passed_if, passed_over}
 use Rattle.verdict_json.specs.Reasons.{limit_value, grammar_value, kind_value, skip_value}
 use Rattle.json_places.specs.Paths.{rooted_value, field_value, element_value, step_value, root_value, path_value}
 use Rattle.verdict_json.specs.Rows.{bits_values, entry_value, named_state, state_value, row_value, rows_value, end_value, location_value, parameter_item, value_of_item, item_value, write_value}
@@ -279,32 +281,61 @@ parameter_depth : (p : Program) (q : Param) → depth (parameter_value p q) ≤ 
 unfolding parameter_value
 parameter_depth p q = omega arith
 
-verdict_depth : (p : Program) (marks : List (List Mark)) (says : Says) → IsShallow says → (f : Function) (v : Verdict)
-    → members_depth (verdict_members p marks says f v) ≤ 9
-unfolding summary_members skipped_members done_members
-verdict_depth p marks says shallow f (verdict.Skipped s) = omega (arith, skip_depth p marks s)
-verdict_depth p marks says shallow f (verdict.Done s reports) =
-    omega (
-      arith,
-      by_depth (parameter_value p) 1 (parameter_depth p) (entry_params f.params),
-      by_depth (item_value p f.params s.bits) 4 (λ x. item_depth p f.params s.bits x.item x.rows) s.items,
-      by_depth (write_value p f.params) 4 (write_depth p f.params) s.writes,
-      by_depth (report_value p marks says f.pos.file f.params) 8 (report_depth p marks says shallow f.pos.file f.params) reports,
-    )
+-- values that nest no deeper than this
+abbrev AreShallow : List Json → Type 0
+AreShallow vs = items_depth (items_of vs) ≤ 3
 
-function_depth : (p : Program) (marks : List (List Mark)) (says : Says) → IsShallow says → (f : Function) (v : Verdict)
-    → depth (function_value p marks says f v) ≤ 10
-unfolding function_value
-function_depth p marks says shallow f v = omega (arith, place_depth p marks f.pos, verdict_depth p marks says shallow f v)
+joined_depth : (xs ys : List Json) → AreShallow xs → AreShallow ys → AreShallow (xs ++ ys)
+joined_depth [] ys few more = more
+joined_depth (x ∷ xs) ys few more = omega (arith, few, joined_depth xs ys (omega (arith, few)) more)
 
-module _ (p : Program) (marks : List (List Mark)) (says : ℕ → Function → Says) (shallow : (n : ℕ) (f : Function) → IsShallow (says n f)) where
-  each_function_depth : (n : ℕ) (fs : List Function) (vs : List Verdict) → items_depth (items_of (functions_values p marks says n fs vs)) ≤ 10
+callee_depth : (p : Program) (marks : List (List Mark)) (g : Function) → depth (callee_value p marks g) ≤ 3
+unfolding callee_value
+callee_depth p marks g = omega (arith, place_depth p marks g.pos)
+
+passed_if_depth : (p : Program) (marks : List (List Mark)) (passed : Bool) (g : Option Function) → AreShallow (passed_if p marks passed g)
+passed_if_depth p marks true (Some g) = omega (arith, callee_depth p marks g)
+passed_if_depth p marks true None = omega arith
+passed_if_depth p marks false g = omega arith
+
+module _ (p : Program) (marks : List (List Mark)) (vs : List Verdict) where
+  each_passed_depth : (gs : List ℕ) → AreShallow (flat_map (passed_at p marks vs) gs)
+  each_passed_depth [] = omega arith
+  each_passed_depth (g ∷ gs) =
+      joined_depth (passed_at p marks vs g) (flat_map (passed_at p marks vs) gs)
+      (passed_if_depth p marks (is_passed (verdict_at vs g)) (slice_get p.functions g)) (each_passed_depth gs)
+
+  passed_depth : (kept : List (List ℕ)) (n : ℕ) → AreShallow (passed_over p marks kept vs n)
+  unfolding passed_over
+  passed_depth kept n = each_passed_depth (callees kept n)
+
+module _ (p : Program) (marks : List (List Mark)) (says : Says) (shallow : IsShallow says) (passed : List Json) (flat : AreShallow passed) where
+  verdict_depth : (f : Function) (v : Verdict) → members_depth (verdict_members p marks says passed f v) ≤ 9
+  unfolding summary_members skipped_members done_members
+  verdict_depth f (verdict.Skipped s) = omega (arith, skip_depth p marks s)
+  verdict_depth f (verdict.Done s reports) =
+      omega (
+        arith,
+        by_depth (parameter_value p) 1 (parameter_depth p) (entry_params f.params),
+        by_depth (item_value p f.params s.bits) 4 (λ x. item_depth p f.params s.bits x.item x.rows) s.items,
+        by_depth (write_value p f.params) 4 (write_depth p f.params) s.writes,
+        by_depth (report_value p marks says f.pos.file f.params) 8 (report_depth p marks says shallow f.pos.file f.params) reports,
+        flat,
+      )
+
+  function_depth : (f : Function) (v : Verdict) → depth (function_value p marks says passed f v) ≤ 10
+  unfolding function_value
+  function_depth f v = omega (arith, place_depth p marks f.pos, verdict_depth f v)
+
+module _ (p : Program) (marks : List (List Mark)) (says : ℕ → Function → Says) (shallow : (n : ℕ) (f : Function) → IsShallow (says n f))
+    (passed : ℕ → List Json) (flat : (n : ℕ) → AreShallow (passed n)) where
+  each_function_depth : (n : ℕ) (fs : List Function) (vs : List Verdict) → items_depth (items_of (functions_values p marks says passed n fs vs)) ≤ 10
   each_function_depth n [] vs = omega arith
   each_function_depth n (f ∷ fs) [] = omega arith
   each_function_depth n (f ∷ fs) (v ∷ vs) =
-      omega (arith, function_depth p marks (says n f) (shallow n f) f v, each_function_depth (n + 1) fs vs)
+      omega (arith, function_depth p marks (says n f) (shallow n f) (passed n) (flat n) f v, each_function_depth (n + 1) fs vs)
 
-  functions_depth : (fs : List Function) (vs : List Verdict) → depth (functions_value p marks says fs vs) ≤ 11
+  functions_depth : (fs : List Function) (vs : List Verdict) → depth (functions_value p marks says passed fs vs) ≤ 11
   unfolding functions_value
   functions_depth fs vs = omega (arith, each_function_depth 0 fs vs)
 
@@ -322,13 +353,14 @@ unfolding totals_value
 totals_depth a b c d = omega arith
 
 found_depth : (p : Program) (marks : List (List Mark)) (says : ℕ → Function → Says) → ((n : ℕ) (f : Function) → IsShallow (says n f))
-    → (vs : List Verdict) → members_depth (found_members p marks says vs) ≤ 11
+    → (passed : ℕ → List Json) → ((n : ℕ) → AreShallow (passed n)) → (vs : List Verdict)
+    → members_depth (found_members p marks says passed vs) ≤ 11
 unfolding found_members
-found_depth p marks says shallow vs =
+found_depth p marks says shallow passed flat vs =
     omega (
       arith,
       by_depth (skip_value p marks) 3 (skip_depth p marks) p.notes,
-      functions_depth p marks says shallow p.functions vs,
+      functions_depth p marks says shallow passed flat p.functions vs,
       totals_depth (length vs) (sum_by skipped_in vs) (sum_by rows_in vs) (sum_by reports_in vs),
     )
 
@@ -342,5 +374,5 @@ check_depth p marks d r kept vs =
       by_depth (file_value p marks) 1 (file_depth p marks) (range_with_len 0 (length p.files)),
       found_depth p marks (says_of p marks d r kept vs)
           (λ n f. told_depth p marks (source_among p marks d r kept vs n) (texts p f) (places (source_among p marks d r kept vs n)))
-          vs,
+          (passed_over p marks kept vs) (passed_depth p marks vs kept) vs,
     )

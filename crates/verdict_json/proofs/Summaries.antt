@@ -1,11 +1,11 @@
 -- The tokens of the last members of a function that is not skipped.
 use Rattle.std.proofs.Common.{◌≡◌, List, [], ◌∷◌, ◌++◌, refl, sym, ap, ◌∙◌, append_assoc}
 use Rattle.std.specs.Prelude.{codes}
-use Rattle.json.specs.Token.{Token, end_object, key}
+use Rattle.json.specs.Token.{Token, key}
 use Rattle.json.specs.Token as token
-use Rattle.json.specs.Json.{Members, no_members}
+use Rattle.json.specs.Json.{Json, Members, no_members}
 use Rattle.json.specs.Tree.{json_tokens, members_tokens}
-use Rattle.json_text.specs.Values.{count_value, with}
+use Rattle.json_text.specs.Values.{array_of, count_value, with}
 use Rattle.line_marks.specs.declared.marks.Mark.{Mark}
 use Rattle.sum_rows.specs.declared.report.Report.{Report}
 use Rattle.sum_rows.specs.declared.row.Summary.{Summary}
@@ -25,13 +25,15 @@ summary_then : (p : Program) (params : List Param) (s : Summary) (more : Members
 unfolding summary_members summary_tokens
 summary_then p params s more = simp (append_assoc) refl
 
-pub done_tokens : (p : Program) (marks : List (List Mark)) (says : Says) (f : Function) (s : Summary) (reports : List Report)
-    → members_tokens (done_members p marks says f s reports)
+pub done_tokens : (p : Program) (marks : List (List Mark)) (says : Says) (passed : List Json) (f : Function) (s : Summary) (reports : List Report)
+    → members_tokens (done_members p marks says passed f s reports)
     ≡ key (codes "skipped")
     ∷ (token.null
     ∷ (summary_tokens p f.params s
-    ++ (key (codes "reports") ∷ (json_tokens (array_by (report_value p marks says f.pos.file f.params) reports) ++ end_object ∷ []))))
+    ++ (key (codes "reports") ∷ (json_tokens (array_by (report_value p marks says f.pos.file f.params) reports)
+    ++ members_tokens (with (codes "passed_over") (array_of passed) no_members)))))
 unfolding done_members
-done_tokens p marks says f s reports =
+done_tokens p marks says passed f s reports =
     ap (λ ts. key (codes "skipped") ∷ (token.null ∷ ts))
-    (summary_then p f.params s (with (codes "reports") (array_by (report_value p marks says f.pos.file f.params) reports) no_members))
+    (summary_then p f.params s (with (codes "reports") (array_by (report_value p marks says f.pos.file f.params) reports)
+    (with (codes "passed_over") (array_of passed) no_members)))

@@ -17,6 +17,7 @@ use Rattle.report_text.specs.Rows.{machine_word, machine_state}
 use Rattle.report_text.specs.Checks.{skipped_in, rows_in, reports_in}
 use Rattle.json_places.specs.Arrays.{array_by}
 use Rattle.json_places.specs.Places.{main_source}
+use Rattle.verdict_json.specs.PassedOver.{passed_over}
 use Rattle.verdict_json.specs.Reasons.{skip_value}
 use Rattle.verdict_json.specs.Tellings.{Says, says_of}
 use Rattle.verdict_json.specs.Functions.{function_value}
@@ -59,21 +60,22 @@ module _ (p : Program) (marks : List (List Mark)) where
   file_value k =
       object (with (codes "name") (string (file_text p k)) (with (codes "source") (text_value (main_source p marks k)) no_members))
 
-  -- Each function with its verdict, the first of them having the number n, and what the choices of each say. A function or a
-  -- verdict without the other is left out, as in the text.
-  abbrev pub functions_values : (says : ℕ → Function → Says) → (n : ℕ) → List Function → List Verdict → List Json
-  functions_values says n [] vs = []
-  functions_values says n (f ∷ fs) [] = []
-  functions_values says n (f ∷ fs) (v ∷ vs) = function_value p marks (says n f) f v ∷ functions_values says (n + 1) fs vs
+  -- Each function with its verdict, the first of them having the number n, what the choices of each say, and the values of the
+  -- bodies that it calls and that are passed over. A function or a verdict without the other is left out, as in the text.
+  abbrev pub functions_values : (says : ℕ → Function → Says) → (passed : ℕ → List Json) → (n : ℕ) → List Function → List Verdict → List Json
+  functions_values says passed n [] vs = []
+  functions_values says passed n (f ∷ fs) [] = []
+  functions_values says passed n (f ∷ fs) (v ∷ vs) =
+      function_value p marks (says n f) (passed n) f v ∷ functions_values says passed (n + 1) fs vs
 
-  unfoldable pub functions_value : (says : ℕ → Function → Says) → List Function → List Verdict → Json
-  functions_value says fs vs = array_of (functions_values says 0 fs vs)
+  unfoldable pub functions_value : (says : ℕ → Function → Says) → (passed : ℕ → List Json) → List Function → List Verdict → Json
+  functions_value says passed fs vs = array_of (functions_values says passed 0 fs vs)
 
   -- what is found out
-  unfoldable pub found_members : (says : ℕ → Function → Says) → List Verdict → Members
-  found_members says vs =
+  unfoldable pub found_members : (says : ℕ → Function → Says) → (passed : ℕ → List Json) → List Verdict → Members
+  found_members says passed vs =
       with (codes "notes") (array_by (skip_value p marks) p.notes)
-      (with (codes "functions") (functions_value says p.functions vs) (with (codes "totals") (totals_of vs) no_members))
+      (with (codes "functions") (functions_value says passed p.functions vs) (with (codes "totals") (totals_of vs) no_members))
 
   -- The whole value. There is one verdict for each function, and one row of kept callees.
   unfoldable pub check_value : (depth reach : ℕ) → (kept : List (List ℕ)) → List Verdict → Json
@@ -82,7 +84,7 @@ module _ (p : Program) (marks : List (List Mark)) where
       (with (codes "version") (count_value 1)
       (with (codes "options") (options_value p depth reach)
       (with (codes "files") (array_by file_value (range_with_len 0 (length p.files)))
-      (found_members (says_of p marks depth reach kept vs) vs)))))
+      (found_members (says_of p marks depth reach kept vs) (passed_over p marks kept vs) vs)))))
 
 -- The tokens of the form and its number, with the opening bracket.
 abbrev pub first_tokens : List Token

@@ -3,7 +3,7 @@ use Rattle.std.specs.Prelude.{ℕ, ◌+◌, nat_lt, ◌&&◌, List, [], ◌∷�
 use Rattle.json.specs.Token.{Token, key}
 use Rattle.json.specs.Json.{Json, null, boolean, string, object, Members, no_members}
 use Rattle.json.specs.Tree.{json_tokens}
-use Rattle.json_text.specs.Values.{count_value, with}
+use Rattle.json_text.specs.Values.{array_of, count_value, with}
 use Rattle.sc_base.specs.declared.skip.Skip.{Skip}
 use Rattle.line_marks.specs.declared.marks.Mark.{Mark}
 use Rattle.sum_rows.specs.declared.row.Summary.{Summary}
@@ -75,22 +75,22 @@ module _ (p : Program) (marks : List (List Mark)) where
   abbrev pub reports_value : Says → Function → List Report → Json
   reports_value says f reports = array_by (report_value p marks says f.pos.file f.params) reports
 
-  -- of such a function
-  unfoldable pub done_members : Says → Function → Summary → List Report → Members
-  done_members says f s reports =
+  -- of such a function, with the values of the bodies that it calls and that are passed over
+  unfoldable pub done_members : Says → (passed : List Json) → Function → Summary → List Report → Members
+  done_members says passed f s reports =
       with (codes "skipped") null
       (summary_members p f.params s
-      (with (codes "reports") (reports_value says f reports) no_members))
+      (with (codes "reports") (reports_value says f reports) (with (codes "passed_over") (array_of passed) no_members)))
 
-  abbrev pub verdict_members : Says → Function → Verdict → Members
-  verdict_members says f (verdict.Skipped skip) = skipped_members skip
-  verdict_members says f (verdict.Done s reports) = done_members says f s reports
+  abbrev pub verdict_members : Says → (passed : List Json) → Function → Verdict → Members
+  verdict_members says passed f (verdict.Skipped skip) = skipped_members skip
+  verdict_members says passed f (verdict.Done s reports) = done_members says passed f s reports
 
-  unfoldable pub function_value : Says → Function → Verdict → Json
-  function_value says f v =
+  unfoldable pub function_value : Says → (passed : List Json) → Function → Verdict → Json
+  function_value says passed f v =
       object (with (codes "name") (string (name_text p f.name))
       (with (codes "place") (place_value p marks f.pos)
-      (with (codes "in_header") (boolean (is_in_header p marks f.pos)) (verdict_members says f v))))
+      (with (codes "in_header") (boolean (is_in_header p marks f.pos)) (verdict_members says passed f v))))
 
 -- The tokens of the summary's members.
 

@@ -9,6 +9,7 @@ ghost use Rattle.json.specs.Print.{print};
 ghost use Rattle.json.specs.Tree.{json_tokens, members_tokens};
 ghost use Rattle.json_places.specs.Arrays.{array_by};
 ghost use Rattle.verdict_json.specs.Checks as spec;
+ghost use Rattle.verdict_json.specs.PassedOver.{passed_among};
 ghost use Rattle.verdict_json.specs.Tellings.{says_among};
 
 use crate::functions::put_function;
@@ -147,7 +148,7 @@ fn put_each_function(
     functions: &[Function],
 ) -> Result<(), OutOfMemory>
     ensures { OnOk result (text.new ≡ text.old
-        ++ flat_map json_tokens (spec.functions_values all.now.check.now.program.now all.now.check.now.marks.now (says_among all.now)
+        ++ flat_map json_tokens (spec.functions_values all.now.check.now.program.now all.now.check.now.marks.now (says_among all.now) (passed_among all.now)
         0 functions.now (map arc_value all.now.verdicts.now))) }
 {
     let mut rest = all.verdicts;
@@ -166,7 +167,7 @@ fn put_each_function(
 // The same in brackets.
 fn put_functions(text: &mut JsonText, all: &All, functions: &[Function]) -> Result<(), OutOfMemory>
     ensures { OnOk result (text.new ≡ text.old
-        ++ json_tokens (spec.functions_value all.now.check.now.program.now all.now.check.now.marks.now (says_among all.now)
+        ++ json_tokens (spec.functions_value all.now.check.now.program.now all.now.check.now.marks.now (says_among all.now) (passed_among all.now)
         functions.now (map arc_value all.now.verdicts.now))) }
 {
     text.begin_array()?;
@@ -200,7 +201,7 @@ fn put_totals_of(text: &mut JsonText, verdicts: &[Arc<Verdict>]) -> Result<(), O
 // What is found out, and the closing bracket.
 fn end_found(text: &mut JsonText, all: &All) -> Result<(), OutOfMemory>
     ensures { OnOk result (text.new ≡ text.old
-        ++ members_tokens (spec.found_members all.now.check.now.program.now all.now.check.now.marks.now (says_among all.now)
+        ++ members_tokens (spec.found_members all.now.check.now.program.now all.now.check.now.marks.now (says_among all.now) (passed_among all.now)
         (map arc_value all.now.verdicts.now))) }
 {
     let program = all.check.program;

@@ -1,13 +1,16 @@
 // A function with its verdict.
 
-ghost use Rattle.std.specs.Prelude.{◌≡◌, ◌≤◌, ◌∷◌, ◌++◌, List, OnOk, IfOk};
+ghost use Rattle.std.specs.Prelude.{◌≡◌, ◌≤◌, ◌∷◌, ◌++◌, List, OnOk, IfOk, codes};
 ghost use Rattle.std.specs.List.{flat_map};
 ghost use Rattle.json.specs.Tree.{json_tokens, members_tokens};
 ghost use Rattle.report_text.specs.Functions.{entry_params};
 ghost use Rattle.sc_typed.specs.declared.program.Param.{Param as Params};
 ghost use Rattle.sc_world.specs.View.{type};
 ghost use Rattle.json_places.specs.Arrays.{array_by};
+ghost use Rattle.json.specs.Json.{no_members};
+ghost use Rattle.json_text.specs.Values.{array_of, with};
 ghost use Rattle.verdict_json.specs.Functions as spec;
+ghost use Rattle.verdict_json.specs.PassedOver.{passed_among};
 ghost use Rattle.verdict_json.specs.Tellings.{says_among, says_by, says_with};
 ghost use Rattle.layout_base.specs.Seen as laid;
 ghost use Rattle.program_verdicts.specs.Verdicts.{texts};
@@ -15,6 +18,7 @@ ghost use Rattle.sc_gather.specs.Seen.{source_of};
 ghost use Rattle.sc_world.specs.Places as laying;
 ghost use Rattle.sc_world.specs.Programs.{source};
 
+use crate::passed_over::put_passed_over;
 use crate::reasons::put_skip;
 use crate::reports::put_reports;
 use crate::rows::{put_items, put_writes};
@@ -330,6 +334,17 @@ fn put_reports_of(
     Ok(())
 }
 
+// The bodies that it calls and that are passed over, and the closing bracket.
+fn end_passed(text: &mut JsonText, all: &All, number: u32) -> Result<(), OutOfMemory>
+    ensures { OnOk result (text.new ≡ text.old
+        ++ members_tokens (with (codes "passed_over") (array_of (passed_among all.now number)) no_members)) }
+{
+    text.key("passed_over")?;
+    put_passed_over(text, all, number)?;
+    text.end_object()?;
+    Ok(())
+}
+
 // The last members of a function that is not skipped, and the closing bracket.
 fn end_done(
     text: &mut JsonText,
@@ -341,14 +356,14 @@ fn end_done(
 ) -> Result<(), OutOfMemory>
     ensures { OnOk result (text.new ≡ text.old
         ++ members_tokens (spec.done_members all.now.check.now.program.now all.now.check.now.marks.now
-        (says_among all.now number function.now) function.now summary.now reports.now)) }
+        (says_among all.now number function.now) (passed_among all.now number) function.now summary.now reports.now)) }
 {
     text.key("skipped")?;
     text.null()?;
     put_summary(text, all.check, function.params.as_slice(), summary)?;
     text.key("reports")?;
     put_reports_of(text, all, number, function, reports)?;
-    text.end_object()?;
+    end_passed(text, all, number)?;
     Ok(())
 }
 
@@ -361,7 +376,7 @@ fn end_verdict(
 ) -> Result<(), OutOfMemory>
     ensures { OnOk result (text.new ≡ text.old
         ++ members_tokens (spec.verdict_members all.now.check.now.program.now all.now.check.now.marks.now
-        (says_among all.now number function.now) function.now verdict.now)) }
+        (says_among all.now number function.now) (passed_among all.now number) function.now verdict.now)) }
 {
     match verdict {
         Verdict::Skipped(skip) => end_skipped(text, all.check, *skip),
@@ -386,7 +401,7 @@ pub(crate) fn put_function(
 ) -> Result<(), OutOfMemory>
     ensures { OnOk result (text.new ≡ text.old
         ++ json_tokens (spec.function_value all.now.check.now.program.now all.now.check.now.marks.now
-        (says_among all.now number function.now) function.now verdict.now)) }
+        (says_among all.now number function.now) (passed_among all.now number) function.now verdict.now)) }
 {
     let check = all.check;
     text.begin_object()?;

@@ -1,10 +1,11 @@
 use Rattle.std.proofs.Common.{refl, append_assoc}
 use Rattle.verdict_json.specs.Checks.{check_value}
+use Rattle.verdict_json.specs.PassedOver.{passed_among}
 use Rattle.verdict_json.specs.Tellings.{says_among}
 use Rattle.verdict_json.proofs.checks.put_check.Goals as goal
 
 pub returns : goal.returns
-unfolding check_value says_among
+unfolding check_value says_among passed_among
 returns c =
     simp (
       append_assoc,
