@@ -103,6 +103,15 @@ fn copies_of(alloc: Global, steps: &[Step]) -> Result<Vec<Step>, OutOfMemory> {
     Ok(copies)
 }
 
+/// The steps that the solver logs, if it finds no model.
+fn logged(alloc: Global, solver: &mut Cdcl) -> Result<Option<Vec<Step>>, OutOfMemory> {
+    let mut log = Log::new(alloc);
+    match solver.solve_logged(&[], &mut log)? {
+        Answer::Model => Ok(None),
+        Answer::NoModel => Ok(Some(copies_of(alloc, log.steps())?)),
+    }
+}
+
 /// The certificate that the solver logs, if it finds no model.
 pub fn refutation(
     rt: &impl Abort,
@@ -111,10 +120,15 @@ pub fn refutation(
 ) -> Result<Option<Vec<Step>>, OutOfMemory> {
     assert!(rt; clauses_below(formula.vars, formula.clauses.clauses()));
     let mut solver = with_variables(alloc, formula.vars)?;
-    add_clauses(&mut solver, formula.clauses.clauses())?;
-    let mut log = Log::new(alloc);
-    match solver.solve_logged(&[], &mut log)? {
-        Answer::Model => Ok(None),
-        Answer::NoModel => Ok(Some(copies_of(alloc, log.steps())?)),
+    match add_clauses(&mut solver, formula.clauses.clauses()) {
+        Err(fault) => {
+            drop(solver);
+            Err(fault)
+        }
+        Ok(()) => {
+            let steps = logged(alloc, &mut solver);
+            drop(solver);
+            steps
+        }
     }
 }
