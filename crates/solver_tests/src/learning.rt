@@ -6,8 +6,6 @@ use crate::literals::{all_below, negative, positive};
 use sat_base::{Answer, Lit, Log, OutOfMemory, Solver, Step};
 use sat_cdcl::Cdcl;
 use std::alloc::Global;
-use std::process::Abort;
-use std::test::Fail;
 
 /// A solver of so many variables, and no clause.
 fn with_variables(alloc: Global, count: usize) -> Result<Cdcl, OutOfMemory>
@@ -33,24 +31,35 @@ impl Large {
         Ok(Large { cdcl })
     }
 
-    fn add(&mut self, rt: &impl Abort, clause: &[Lit]) -> Result<(), OutOfMemory> {
-        assert!(rt; all_below(clause, 64));
-        self.cdcl.add(clause)
+    /// Adds a clause over the variables; whether it is one.
+    fn add(&mut self, clause: &[Lit]) -> Result<bool, OutOfMemory> {
+        if !all_below(clause, 64) {
+            return Ok(false);
+        }
+        self.cdcl.add(clause)?;
+        Ok(true)
     }
 
-    fn ask(&mut self, rt: &impl Abort, assumed: &[Lit]) -> Result<Answer, OutOfMemory> {
-        assert!(rt; all_below(assumed, 64));
-        self.cdcl.solve(assumed)
+    /// The answer under assumptions over the variables; none under others.
+    fn ask(&mut self, assumed: &[Lit]) -> Result<Option<Answer>, OutOfMemory> {
+        if !all_below(assumed, 64) {
+            return Ok(None);
+        }
+        let answer = self.cdcl.solve(assumed)?;
+        Ok(Some(answer))
     }
 
+    /// The same, with a log.
     fn ask_logged(
         &mut self,
-        rt: &impl Abort,
         assumed: &[Lit],
         log: &mut Log,
-    ) -> Result<Answer, OutOfMemory> {
-        assert!(rt; all_below(assumed, 64));
-        self.cdcl.solve_logged(assumed, log)
+    ) -> Result<Option<Answer>, OutOfMemory> {
+        if !all_below(assumed, 64) {
+            return Ok(None);
+        }
+        let answer = self.cdcl.solve_logged(assumed, log)?;
+        Ok(Some(answer))
     }
 
     /// The value of a variable in the model, if there is one.
@@ -72,42 +81,36 @@ fn ends_empty(log: &Log) -> bool {
     }
 }
 
-#[test]
-fn assumptions_hold_for_one_question(rt: HostRuntime) -> Result<(), Fail> {
-    let mut solver = Large::new(rt.alloc())?;
-    solver.add(&rt, &[positive(0), positive(1)])?;
-    solver.add(&rt, &[negative(0)])?;
-    let without = solver.ask(&rt, &[negative(1)])?;
-    assert_eq!(rt; without, Answer::NoModel);
+/// Of two variables one holds, and the first does not: so the second does, in a model and not under an assumption.
+fn second_holds(solver: &mut Large) -> Result<bool, OutOfMemory> {
+    let added = solver.add(&[positive(0), positive(1)])? && solver.add(&[negative(0)])?;
+    let without = solver.ask(&[negative(1)])?;
     let value = solver.value_of(1)?;
-    assert_eq!(rt; value, Some(true));
-    Ok(())
+    Ok(added && without == Some(Answer::NoModel) && value == Some(true))
 }
 
-#[test]
-fn an_empty_clause_answers_at_once(rt: HostRuntime) -> Result<(), Fail> {
-    let mut solver = Large::new(rt.alloc())?;
-    let free = solver.ask(&rt, &[])?;
-    assert_eq!(rt; free, Answer::Model);
-    solver.add(&rt, &[])?;
-    let with = solver.ask(&rt, &[positive(0)])?;
-    assert_eq!(rt; with, Answer::NoModel);
-    Ok(())
+/// With the empty clause there is no model.
+fn empty_clause_answers(solver: &mut Large) -> Result<bool, OutOfMemory> {
+    let free = solver.ask(&[])?;
+    let added = solver.add(&[])?;
+    let with = solver.ask(&[positive(0)])?;
+    Ok(free == Some(Answer::Model) && added && with == Some(Answer::NoModel))
 }
 
-#[test]
-fn a_refutation_leaves_a_log(rt: HostRuntime) -> Result<(), Fail> {
-    let mut solver = Large::new(rt.alloc())?;
-    solver.add(&rt, &[positive(0), positive(1)])?;
-    solver.add(&rt, &[positive(0), negative(1)])?;
-    let mut log = Log::new(rt.alloc());
-    let answer = solver.ask_logged(&rt, &[negative(0)], &mut log)?;
-    assert_eq!(rt; answer, Answer::NoModel);
-    assert!(rt; ends_empty(&log));
-    let opposed = solver.ask_logged(&rt, &[positive(2), negative(2)], &mut log)?;
-    assert_eq!(rt; opposed, Answer::NoModel);
-    assert_eq!(rt; log.steps().len(), 1);
-    Ok(())
+/// What is refuted under an assumption ends the log; opposite assumptions add nothing to it.
+fn refutation_is_logged(solver: &mut Large, log: &mut Log) -> Result<bool, OutOfMemory> {
+    let added = solver.add(&[positive(0), positive(1)])?
+        && solver.add(&[positive(0), negative(1)])?;
+    let answer = solver.ask_logged(&[negative(0)], log)?;
+    let ends = ends_empty(log);
+    let opposed = solver.ask_logged(&[positive(2), negative(2)], log)?;
+    Ok(
+        added
+            && answer == Some(Answer::NoModel)
+            && ends
+            && opposed == Some(Answer::NoModel)
+            && log.steps().len() == 1,
+    )
 }
 
 /// The positive literals of seven variables from this one on.
@@ -126,31 +129,66 @@ fn seven_from(var: usize) -> [Lit; 7]
 }
 
 /// One of eight pigeons sits in one of seven holes, but in none with an earlier one.
-fn add_pigeon(rt: &impl Abort, solver: &mut Large, pigeon: usize) -> Result<(), OutOfMemory>
+fn add_pigeon(solver: &mut Large, pigeon: usize) -> Result<bool, OutOfMemory>
     requires { pigeon < 8 }
 {
-    solver.add(rt, &seven_from(7 * pigeon))?;
+    let mut added = solver.add(&seven_from(7 * pigeon))?;
     for earlier in 0..pigeon {
         for hole in 0..7 {
-            solver.add(
-                rt,
-                &[negative(7 * pigeon + hole), negative(7 * earlier + hole)],
-            )?;
+            let apart = [negative(7 * pigeon + hole), negative(7 * earlier + hole)];
+            added = solver.add(&apart)? && added;
         }
     }
-    Ok(())
+    Ok(added)
 }
 
 /// More than a thousand conflicts, so that learnt clauses are deleted and their numbers used again.
-#[test]
-fn eight_pigeons_do_not_fit_into_seven_holes(rt: HostRuntime) -> Result<(), Fail> {
-    let mut solver = Large::new(rt.alloc())?;
+fn pigeons_are_refuted(solver: &mut Large, log: &mut Log) -> Result<bool, OutOfMemory> {
+    let mut added = true;
     for pigeon in 0..8 {
-        add_pigeon(&rt, &mut solver, pigeon)?;
+        added = add_pigeon(solver, pigeon)? && added;
     }
-    let mut log = Log::new(rt.alloc());
-    let answer = solver.ask_logged(&rt, &[], &mut log)?;
-    assert_eq!(rt; answer, Answer::NoModel);
-    assert!(rt; log.steps().len() > 1000 && ends_empty(&log));
-    Ok(())
+    let answer = solver.ask_logged(&[], log)?;
+    Ok(added && answer == Some(Answer::NoModel) && log.steps().len() > 1000 && ends_empty(log))
+}
+
+/// What is asked of a new solver.
+#[derive(Clone, Copy)]
+enum Question {
+    Second,
+    Empty,
+    Logged,
+    Pigeons,
+}
+
+/// Whether a new solver answers as it should.
+fn is_answered(alloc: Global, question: Question) -> Result<bool, OutOfMemory> {
+    let mut log = Log::new(alloc);
+    let mut solver = Large::new(alloc)?;
+    match question {
+        Question::Second => second_holds(&mut solver),
+        Question::Empty => empty_clause_answers(&mut solver),
+        Question::Logged => refutation_is_logged(&mut solver, &mut log),
+        Question::Pigeons => pigeons_are_refuted(&mut solver, &mut log),
+    }
+}
+
+#[test]
+fn assumptions_hold_for_one_question(rt: HostRuntime) {
+    assert!(rt; is_answered(rt.alloc(), Question::Second) == Ok(true));
+}
+
+#[test]
+fn an_empty_clause_answers_at_once(rt: HostRuntime) {
+    assert!(rt; is_answered(rt.alloc(), Question::Empty) == Ok(true));
+}
+
+#[test]
+fn a_refutation_leaves_a_log(rt: HostRuntime) {
+    assert!(rt; is_answered(rt.alloc(), Question::Logged) == Ok(true));
+}
+
+#[test]
+fn eight_pigeons_do_not_fit_into_seven_holes(rt: HostRuntime) {
+    assert!(rt; is_answered(rt.alloc(), Question::Pigeons) == Ok(true));
 }
