@@ -4,6 +4,7 @@ ghost use Rattle.std.specs.Prelude.{◌≡◌, ◌<◌, ◌≤◌, ℕ, List, If
 ghost use Rattle.std.specs.List.{list_any};
 ghost use Rattle.std.specs.Arc.{arc_value};
 ghost use Rattle.line_marks.specs.declared.marks.Mark.{Mark};
+ghost use Rattle.text_calls.specs.declared.texts.TextCalls.{TextCalls as Calls};
 ghost use Rattle.whole_checks.specs.Typed.{Sources as Trees};
 ghost use Rattle.whole_checks.specs.Planned.{Says};
 ghost use Rattle.whole_checks.specs.Said.{HasWholeMachine, has_report, Whole};
@@ -18,6 +19,7 @@ use std::alloc::Global;
 use std::sync::{Arc, Wait};
 use std::thread::Threads;
 use sum_rows::Verdict;
+use text_calls::TextCalls;
 use verdict_json::{Check, check_json};
 use whole_checks::{Analysis, NoPlan, Said, planned, verdicts_alone, verdicts_by};
 use work_pool::Gate;
@@ -35,20 +37,21 @@ fn with_verdicts(
     check: &Check,
     plan: &Plan,
     verdicts: RowList<Verdict>,
+    calls: &[TextCalls],
 ) -> Result<Said, OutOfMemory>
     ensures { IfOk result (λ s. seen.said s
-        ≡ Whole (json_with check.now.program.now check.now.marks.now check.now.depth check.now.reach plan.now.callees
+        ≡ Whole (json_with check.now.program.now check.now.marks.now calls.now check.now.depth check.now.reach plan.now.callees
         (map arc_value verdicts.list.items)) (list_any has_report (map arc_value verdicts.list.items))) }
 {
     let reported = any_report(verdicts.list.as_slice())?;
-    let bytes = check_json(check, plan, &verdicts)?;
+    let bytes = check_json(check, plan, &verdicts, calls)?;
     Ok(Said::Whole(bytes, reported))
 }
 
 // What is said where there is no plan: the same as in text.
 fn unplanned(why: NoPlan) -> Result<Said, OutOfMemory>
-    ensures { IfOk result (λ x. (s : Trees) (marks : List (List Mark)) (depth reach : ℕ) → Says s why
-        → seen.said x ≡ json_said s marks depth reach) }
+    ensures { IfOk result (λ x. (s : Trees) (marks : List (List Mark)) (calls : List Calls) (depth reach : ℕ) → Says s why
+        → seen.said x ≡ json_said s marks calls depth reach) }
 {
     match why {
         NoPlan::Twice(name) => Ok(Said::Twice(name)),
@@ -71,9 +74,13 @@ pub fn say_json(
 ) -> Result<Said, OutOfMemory>
     requires whole { HasWholeMachine files.sources.machine }
     ensures { IfOk result (λ s. seen.said s
-        ≡ json_said (seen.sources files.entry.sources) files.entry.marks.now depth reach) }
+        ≡ json_said (seen.sources files.entry.sources) files.entry.marks.now files.entry.calls.now depth reach) }
 {
-    let MarkedSources { sources, marks } = files;
+    let MarkedSources {
+        sources,
+        marks,
+        calls,
+    } = files;
     let (program, plan) = match planned(alloc, sources) {
         Ok(planned) => planned,
         Err(why) => return unplanned(why),
@@ -93,7 +100,7 @@ pub fn say_json(
         depth,
         reach,
     };
-    with_verdicts(&check, &plan, verdicts)
+    with_verdicts(&check, &plan, verdicts, calls)
 }
 
 /// The same, where `jobs` workers make the verdicts; the calling thread is one of them. What is said does not depend
@@ -114,9 +121,13 @@ pub fn say_json_by<R: Threads + Wait + Sync, G: Gate + Sync>(
     requires whole { HasWholeMachine files.sources.machine }
     requires jobs { (0 < jobs) × (jobs ≤ 64) }
     ensures { IfOk result (λ s. seen.said s
-        ≡ json_said (seen.sources files.entry.sources) files.entry.marks.now depth reach) }
+        ≡ json_said (seen.sources files.entry.sources) files.entry.marks.now files.entry.calls.now depth reach) }
 {
-    let MarkedSources { sources, marks } = files;
+    let MarkedSources {
+        sources,
+        marks,
+        calls,
+    } = files;
     let (program, plan) = match planned(alloc, sources) {
         Ok(planned) => planned,
         Err(why) => return unplanned(why),
@@ -136,5 +147,5 @@ pub fn say_json_by<R: Threads + Wait + Sync, G: Gate + Sync>(
         depth,
         reach,
     };
-    with_verdicts(&check, &plan, verdicts)
+    with_verdicts(&check, &plan, verdicts, calls)
 }

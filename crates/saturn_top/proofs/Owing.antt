@@ -28,7 +28,7 @@ module _ (words : List (List ℕ)) (outside : Outside) where
       by_refusal (wording words) outside (machine_of asked.options) (files_of asked.options) (λ name one. (asked, ask, one)) (codes "saturn_check") why due
       refuses is
   owing_found asked ask due (read input is) =
-      owing_said (said_as asked.format (sources_of asked.options input) input.marks asked.options.depth asked.options.reach)
+      owing_said (said_as asked.format (sources_of asked.options input) input.marks input.calls asked.options.depth asked.options.reach)
 
   pub owing : (due : Due) → IsDue words outside due → Owed (wording words) outside due
   owing due (helped bytes asked) = help bytes asked

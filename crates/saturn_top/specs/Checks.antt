@@ -8,6 +8,7 @@ use Rattle.sc_input.specs.declared.input.Input.{Input}
 use Rattle.sc_input.specs.declared.refusal.Refusal.{Refusal}
 use Rattle.sc_input.specs.Input.{Outside, IsInput, Refuse}
 use Rattle.line_marks.specs.declared.marks.Mark.{Mark}
+use Rattle.text_calls.specs.declared.texts.TextCalls.{TextCalls}
 use Rattle.json_checks.specs.Typed.{Sources}
 use Rattle.saturn_words.specs.declared.asked.Options.{Options}
 use Rattle.saturn_words.specs.declared.asked.CheckWords.{CheckWords}
@@ -41,10 +42,10 @@ abbrev pub sources_of : Options → Input → Sources
 sources_of options input =
     record { names = input.names; files = input.files; units = input.units; widths = options.widths; machine = input.machine }
 
--- what is said of the trees of the files, with their line markers, in the form that the words name
-abbrev pub said_as : Format → Sources → List (List Mark) → (depth reach : ℕ) → Said
-said_as form.Text s marks depth reach = said s depth reach
-said_as form.Json s marks depth reach = json_said s marks depth reach
+-- what is said of the trees of the files, with their line markers and what their texts call, in the form that the words name
+abbrev pub said_as : Format → Sources → List (List Mark) → List TextCalls → (depth reach : ℕ) → Said
+said_as form.Text s marks calls depth reach = said s depth reach
+said_as form.Json s marks calls depth reach = json_said s marks calls depth reach
 
 -- the file of the machine of states, if the words name one, and the files
 abbrev pub machine_of : Options → Option (List ℕ)
@@ -59,7 +60,7 @@ pub data IsFound (options : Options) (format : Format) (outside : Outside) : Due
       → due_of_refusal (codes "saturn_check") why ≡ Some due → IsFound options format outside due
   read : (input : Input) → IsInput outside.held (machine_of options) (files_of options) input
       → IsFound options format outside
-      (due_of_said (codes "saturn_check") (said_as format (sources_of options input) input.marks options.depth options.reach))
+      (due_of_said (codes "saturn_check") (said_as format (sources_of options input) input.marks input.calls options.depth options.reach))
 
 -- ---- the words
 

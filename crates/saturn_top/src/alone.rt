@@ -15,6 +15,7 @@ use saturn_words::{Format, Options, check_words};
 use sc_base::{Files, OutOfMemory, Sink};
 use sc_input::{Input, read_input};
 use std::alloc::Global;
+use text_calls::TextCalls;
 use top_answers::{Answer, Status, give, refused};
 
 // What is said of these trees in this form.
@@ -24,14 +25,19 @@ fn say_as(
     format: Format,
     sources: Sources<'_>,
     marks: &[LineMarks],
+    calls: &[TextCalls],
 ) -> Result<Said, OutOfMemory>
     requires whole { HasWholeMachine sources.machine }
-    ensures { IfOk result (λ s. checked.said s ≡ said_as format (checked.sources sources.entry) marks.now options.now.depth options.now.reach) }
+    ensures { IfOk result (λ s. checked.said s ≡ said_as format (checked.sources sources.entry) marks.now calls.now options.now.depth options.now.reach) }
 {
     match format {
         Format::Text => say(alloc, sources, options.depth, options.reach),
         Format::Json => {
-            let files = MarkedSources { sources, marks };
+            let files = MarkedSources {
+                sources,
+                marks,
+                calls,
+            };
             say_json(alloc, files, options.depth, options.reach)
         }
     }
@@ -46,13 +52,14 @@ fn answer_for(
 ) -> Result<Answer, OutOfMemory>
     requires whole { HasWholeMachine input.machine }
     ensures { IfOk result (λ answer. seen answer ≡ due_of_said (codes "saturn_check")
-        (said_as format (sources_of options.now input) input.marks options.now.depth options.now.reach)) }
+        (said_as format (sources_of options.now input) input.marks input.calls options.now.depth options.now.reach)) }
 {
     let Input {
         names,
         files,
         units,
         marks,
+        calls,
         machine,
         ..
     } = input;
@@ -63,7 +70,14 @@ fn answer_for(
         widths: options.widths,
         machine,
     };
-    let said = say_as(alloc, options, format, sources, marks.as_slice())?;
+    let said = say_as(
+        alloc,
+        options,
+        format,
+        sources,
+        marks.as_slice(),
+        calls.as_slice(),
+    )?;
     answer_of(alloc, b"saturn_check", said)
 }
 

@@ -18,6 +18,7 @@ use sc_input::{Input, read_input};
 use std::alloc::Global;
 use std::sync::Wait;
 use std::thread::Threads;
+use text_calls::TextCalls;
 use top_answers::{Answer, Status, give, refused};
 use work_pool::Gate;
 
@@ -28,18 +29,23 @@ fn say_as<R: Threads + Wait + Sync, G: Gate + Sync>(
     asked: &CheckWords,
     sources: Sources<'_>,
     marks: &[LineMarks],
+    calls: &[TextCalls],
     gate: &G,
 ) -> Result<Said, OutOfMemory>
     requires whole { HasWholeMachine sources.machine }
     requires jobs { (0 < asked.now.jobs) × (asked.now.jobs ≤ 64) }
     ensures { IfOk result (λ s. checked.said s
-        ≡ said_as asked.now.format (checked.sources sources.entry) marks.now asked.now.options.depth asked.now.options.reach) }
+        ≡ said_as asked.now.format (checked.sources sources.entry) marks.now calls.now asked.now.options.depth asked.now.options.reach) }
 {
     let (depth, reach) = (asked.options.depth, asked.options.reach);
     match asked.format {
         Format::Text => say_by(rt, alloc, sources, depth, reach, asked.jobs, gate),
         Format::Json => {
-            let files = MarkedSources { sources, marks };
+            let files = MarkedSources {
+                sources,
+                marks,
+                calls,
+            };
             say_json_by(rt, alloc, files, depth, reach, asked.jobs, gate)
         }
     }
@@ -56,13 +62,14 @@ fn answer_for<R: Threads + Wait + Sync, G: Gate + Sync>(
     requires whole { HasWholeMachine input.machine }
     requires jobs { (0 < asked.now.jobs) × (asked.now.jobs ≤ 64) }
     ensures { IfOk result (λ answer. seen answer ≡ due_of_said (codes "saturn_check")
-        (said_as asked.now.format (sources_of asked.now.options input) input.marks asked.now.options.depth asked.now.options.reach)) }
+        (said_as asked.now.format (sources_of asked.now.options input) input.marks input.calls asked.now.options.depth asked.now.options.reach)) }
 {
     let Input {
         names,
         files,
         units,
         marks,
+        calls,
         machine,
         ..
     } = input;
@@ -73,7 +80,15 @@ fn answer_for<R: Threads + Wait + Sync, G: Gate + Sync>(
         widths: asked.options.widths,
         machine,
     };
-    let said = say_as(rt, alloc, asked, sources, marks.as_slice(), gate)?;
+    let said = say_as(
+        rt,
+        alloc,
+        asked,
+        sources,
+        marks.as_slice(),
+        calls.as_slice(),
+        gate,
+    )?;
     answer_of(alloc, b"saturn_check", said)
 }
 

@@ -12,10 +12,13 @@ use Rattle.sc_base.specs.Names.{place_of, with_text}
 use Rattle.sc_lexer.specs.Answer.{Grow}
 use Rattle.sc_lexer.specs.Naming.{names_after}
 use Rattle.sc_tree.specs.declared.token.Token.{Token}
+use Rattle.sc_tree.specs.declared.token.Tokens.{Tokens}
 use Rattle.sc_tree.specs.declared.unit.Unit.{Unit as FileUnit}
 use Rattle.sc_tree.specs.Lexed.{lexed, Lexemes}
 use Rattle.sc_tree.specs.Lexed as lex
 use Rattle.sc_tree.specs.Units.{AllFit}
+use Rattle.text_calls.specs.declared.texts.TextCalls.{TextCalls}
+use Rattle.text_calls.specs.Texts.{text_calls}
 use Rattle.sc_input.specs.declared.input.Input.{Input}
 use Rattle.sc_input.specs.declared.input.Reading.{Reading}
 use Rattle.sc_input.specs.declared.refusal.Refusal.{Refusal}
@@ -63,25 +66,34 @@ pub record IsTooLarge (held : Option (List (List ℕ × List ℕ))) (used : ℕ)
 
 -- ---- one file
 
--- the tree of a file with this number, where names have these places
-pub record IsTree (names : List (List ℕ)) (file : ℕ) (bytes : List ℕ) (unit : FileUnit) : Type 0 where
+-- the tree of a file with this number, where names have these places, and what its text calls
+pub record IsTree (names : List (List ℕ)) (file : ℕ) (bytes : List ℕ) (unit : FileUnit) (calls : TextCalls) : Type 0 where
   pub tokens : List Token
   pub ends : List ℕ
   pub cut : lexed names file bytes ≡ Lexemes tokens ends
   pub numbered : unit.file ≡ file
   pub segments : AllFit [] tokens 0 ends unit.segments
+  pub called : calls ≡ text_calls tokens ends
+
+-- the same of tokens that were read
+pub record IsTreeOf (tokens : Tokens) (unit : FileUnit) (calls : TextCalls) : Type 0 where
+  pub numbered : unit.file ≡ tokens.file
+  pub segments : AllFit [] tokens.list 0 tokens.ends unit.segments
+  pub called : calls ≡ text_calls tokens.list tokens.ends
 
 -- What one more file makes of what was read before it: its name and then its words are names, its bytes count, and its
--- tree and its line markers stand behind the others.
+-- tree, its line markers and what its text calls stand behind the others.
 pub record Adds (held : Option (List (List ℕ × List ℕ))) (name : List ℕ) (before after : Input) : Type 0 where
   pub bytes : List ℕ
   pub unit : FileUnit
+  pub text : TextCalls
   pub fit : Fit held before.used name bytes
   pub names : after.names ≡ names_after (with_text before.names name) bytes
-  pub tree : IsTree after.names (length before.units) bytes unit
+  pub tree : IsTree after.names (length before.units) bytes unit text
   pub files : after.files ≡ before.files ++ (record { at = place_of name before.names } ∷ [])
   pub units : after.units ≡ before.units ++ (unit ∷ [])
   pub marks : after.marks ≡ before.marks ++ (marking.marks bytes ∷ [])
+  pub calls : after.calls ≡ before.calls ++ (text ∷ [])
   pub machine : after.machine ≡ before.machine
   pub used : after.used ≡ before.used + length bytes
 
@@ -94,13 +106,14 @@ so_far reading = record {
   files = reading.files;
   units = reading.units;
   marks = reading.marks;
+  calls = reading.calls;
   machine = reading.machine;
   used = reading.used;
 }
 
 -- what was read before the first file: nothing but the machine
 abbrev pub nothing_but : Option MachineSpec → ℕ → Input
-nothing_but machine used = record { names = []; files = []; units = []; marks = []; machine = machine; used = used }
+nothing_but machine used = record { names = []; files = []; units = []; marks = []; calls = []; machine = machine; used = used }
 
 -- The machine that a file spells, or none where none is named.
 pub data Begins (held : Option (List (List ℕ × List ℕ))) : Option (List ℕ) → Input → Type 0 where

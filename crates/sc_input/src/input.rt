@@ -3,7 +3,8 @@
 ghost use Rattle.std.specs.Prelude.{◌≡◌, ◌<◌, ◌≤◌, ◌+◌, ◌-◌, ◌^◌, IfErr, IfOk, length};
 ghost use Rattle.sc_lexer.specs.Answer.{Grow};
 ghost use Rattle.sc_lexer.specs.Naming.{names_after};
-ghost use Rattle.sc_input.specs.Input.{most_bytes, most_files, so_far, Adds, Fit, IsOpen, IsTree};
+ghost use Rattle.sc_tree.specs.Segments.{Cuts};
+ghost use Rattle.sc_input.specs.Input.{most_bytes, most_files, so_far, Adds, Fit, IsOpen, IsTree, IsTreeOf};
 ghost use Rattle.sc_input.specs.Input.{RefuseBytes, RefuseFile, RefuseTree};
 
 use crate::refusal::Refusal;
@@ -13,8 +14,10 @@ use name_interner::Interner;
 use sc_base::{Files, List, NameId, Names, OutOfMemory};
 use sc_lexer::{LexAnswer, tokens};
 use sc_parse_unit::unit;
+use sc_tree::Tokens;
 use sc_tree::unit::Unit;
 use std::alloc::Global;
+use text_calls::{TextCalls, text_calls};
 use transfer::{ReadError, read_file};
 
 /// So many bytes may stand in all files together.
@@ -31,6 +34,8 @@ pub struct Input {
     pub units: List<Unit>,
     /// The line markers of the files, in order.
     pub marks: List<LineMarks>,
+    /// What the texts of the files call, in order.
+    pub calls: List<TextCalls>,
     /// The machine of states, if one is named.
     pub machine: Option<MachineSpec>,
     /// How many bytes were read.
@@ -48,6 +53,8 @@ pub struct Reading {
     pub units: List<Unit>,
     /// The line markers of the files, in order.
     pub marks: List<LineMarks>,
+    /// What the texts of the files call, in order.
+    pub calls: List<TextCalls>,
     /// The machine of states, if one is named.
     pub machine: Option<MachineSpec>,
     /// How many bytes were read.
@@ -64,6 +71,7 @@ impl Reading {
             files,
             units,
             marks,
+            calls,
             machine,
             used,
         } = self;
@@ -73,6 +81,7 @@ impl Reading {
             files,
             units,
             marks,
+            calls,
             machine,
             used,
         })
@@ -105,25 +114,37 @@ pub fn bytes_within<'a, F: Files>(
     }
 }
 
-// The tree of a file with these bytes.
+// The tree of these tokens, and what their text calls.
+fn of_tokens<'a>(alloc: Global, tokens: &Tokens) -> Result<(Unit, TextCalls), Refusal<'a>>
+    requires cut { Cuts 0 (length tokens.now.list) tokens.now.ends }
+    ensures made { IfOk result (λ made. IsTreeOf tokens.now made.0 made.1) }
+    ensures refused { IfErr result (λ why. why ≡ Refusal.OutOfMemory) }
+{
+    match unit(alloc, tokens) {
+        Ok(unit) => match text_calls(alloc, tokens) {
+            Ok(calls) => Ok((unit, calls)),
+            Err(_) => Err(Refusal::OutOfMemory),
+        },
+        Err(_) => Err(Refusal::OutOfMemory),
+    }
+}
+
+// The tree of a file with these bytes, and what its text calls.
 fn tree<'a>(
     alloc: Global,
     names: &mut Interner,
     file: u32,
     name: &'a str,
     bytes: &[u8],
-) -> Result<Unit, Refusal<'a>>
+) -> Result<(Unit, TextCalls), Refusal<'a>>
     requires { length names.old + length bytes.now < 2 ^ 32 - 1 }
-    ensures tree { IfOk result (IsTree names.new file bytes.now) }
+    ensures tree { IfOk result (λ made. IsTree names.new file bytes.now made.0 made.1) }
     ensures refused { IfErr result (RefuseTree names.new file name.entry.now bytes.now) }
     ensures names { Grow (length bytes.now) names.old names.new }
     ensures named { IfOk result (λ _. names.new ≡ names_after names.old bytes.now) }
 {
     match tokens(alloc, names, file, bytes) {
-        Ok(tokens) => match unit(alloc, &tokens) {
-            Ok(unit) => Ok(unit),
-            Err(_) => Err(Refusal::OutOfMemory),
-        },
+        Ok(tokens) => of_tokens(alloc, &tokens),
         Err(LexAnswer::Lexical(pos)) => Err(Refusal::Lexical(name, pos)),
         Err(LexAnswer::Unbalanced(pos)) => Err(Refusal::Unbalanced(name, pos)),
         Err(LexAnswer::OutOfMemory) => Err(Refusal::OutOfMemory),
@@ -151,21 +172,24 @@ pub fn with_file<'a, F: Files>(
         files: mut ids,
         mut units,
         mut marks,
+        mut calls,
         machine,
         used,
     } = reading;
     let id = names.intern(name)?;
     let bytes = bytes_within(alloc, files, used, name)?;
-    let unit = tree(alloc, &mut names, units.len() as u32, name, &bytes)?;
+    let (unit, file_calls) = tree(alloc, &mut names, units.len() as u32, name, &bytes)?;
     let file_marks = LineMarks::read(alloc, &bytes)?;
     ids.push(id)?;
     units.push(unit)?;
     marks.push(file_marks)?;
+    calls.push(file_calls)?;
     Ok(Reading {
         names,
         files: ids,
         units,
         marks,
+        calls,
         machine,
         used: used + bytes.len(),
     })

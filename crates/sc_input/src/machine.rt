@@ -19,6 +19,7 @@ fn nothing_but(alloc: Global, machine: Option<MachineSpec>, used: usize) -> Read
         files: List::new(alloc),
         units: List::new(alloc),
         marks: List::new(alloc),
+        calls: List::new(alloc),
         machine,
         used,
     }

@@ -302,7 +302,7 @@ foo bar;
         files: &[(
             "a.c",
             "\
-void g(char*q){double x;x=0;}
+void g(char*q){double x;x=0;kfree(q);spin_unlock(q);}
 void h(char*p){g(p);}",
         )],
         status: Status::Clean,
@@ -320,8 +320,9 @@ void h(char*p){g(p);}",
 \"after\":null}]},{\"item\":\"object\",\"parameter\":0,\"name\":\"p\",\
 \"rows\":[{\"entry\":[true],\"before\":null,\"result\":\"none\",\"after\":\"escaped\"}]}],\
 \"writes\":[],\"reports\":[],\"passed_over\":[{\"name\":\"g\",\"place\":{\"file\":\"a.c\",\
-\"line\":1,\"column\":6,\"source\":{\"file\":\"a.c\",\"line\":1}}}]}],\
-\"totals\":{\"functions\":2,\"skipped\":1,\"rows\":3,\"reports\":0}}",
+\"line\":1,\"column\":6,\"source\":{\"file\":\"a.c\",\"line\":1}},\"operates\":true,\
+\"allocates\":false,\"releases\":true}]}],\"totals\":{\"functions\":2,\"skipped\":1,\"rows\":3,\
+\"reports\":0}}",
         err: "",
     },
     Row {

@@ -37,6 +37,9 @@ use Rattle.sc_base.specs.declared.skip.LimitKind.{LimitKind}
 use Rattle.sc_typed.specs.declared.program.Function.{Function}
 use Rattle.sc_typed.specs.declared.program.Param.{Param}
 use Rattle.sc_typed.specs.declared.program.Program.{Program}
+use Rattle.callee_json.specs.Bodies.{Bodies}
+use Rattle.callee_json.specs.Callees.{callee_value, deeds}
+use Rattle.text_calls.specs.declared.texts.TextCalls.{TextCalls}
 use Rattle.choice_json.specs.Speakers.{Speaker, speaker}
 use Rattle.choice_json.specs.Words.{under, word_value, value_member}
 use Rattle.choice_json.specs.Calls.{items_if, writes_if, call_members, params_of, summary_of, parameter_members, state_members, item_members, item_if, write_if, item_at, write_at}
@@ -58,7 +61,7 @@ use Rattle.report_text.specs.Functions.{entry_params}
 use Rattle.json_places.specs.Arrays.{array_by}
 use Rattle.json_places.specs.Places.{source_value, source_at, place_value}
 use Rattle.verdict_json.specs.Tellings.{Says, says_by, says_of, says_with, source_among, verdict_at}
-use Rattle.verdict_json.specs.PassedOver.{callee_value, is_passed, passed_at, passed_if, passed_over}
+use Rattle.verdict_json.specs.PassedOver.{bodies_in, is_passed, passed_at, passed_if, passed_over}
 use Rattle.verdict_json.specs.Reasons.{limit_value, grammar_value, kind_value, skip_value}
 use Rattle.json_places.specs.Paths.{rooted_value, field_value, element_value, step_value, root_value, path_value}
 use Rattle.verdict_json.specs.Rows.{bits_values, entry_value, named_state, state_value, row_value, rows_value, end_value, location_value, parameter_item, value_of_item, item_value, write_value}
@@ -289,23 +292,24 @@ joined_depth : (xs ys : List Json) → AreShallow xs → AreShallow ys → AreSh
 joined_depth [] ys few more = more
 joined_depth (x ∷ xs) ys few more = omega (arith, few, joined_depth xs ys (omega (arith, few)) more)
 
-callee_depth : (p : Program) (marks : List (List Mark)) (g : Function) → depth (callee_value p marks g) ≤ 3
-unfolding callee_value
-callee_depth p marks g = omega (arith, place_depth p marks g.pos)
+callee_depth : (p : Program) (marks : List (List Mark)) (b : Bodies) (g : Function) → depth (callee_value p marks b g) ≤ 3
+unfolding callee_value deeds
+callee_depth p marks b g = omega (arith, place_depth p marks g.pos)
 
-passed_if_depth : (p : Program) (marks : List (List Mark)) (passed : Bool) (g : Option Function) → AreShallow (passed_if p marks passed g)
-passed_if_depth p marks true (Some g) = omega (arith, callee_depth p marks g)
-passed_if_depth p marks true None = omega arith
-passed_if_depth p marks false g = omega arith
+passed_if_depth : (p : Program) (marks : List (List Mark)) (b : Bodies) (passed : Bool) (g : Option Function)
+    → AreShallow (passed_if p marks b passed g)
+passed_if_depth p marks b true (Some g) = omega (arith, callee_depth p marks b g)
+passed_if_depth p marks b true None = omega arith
+passed_if_depth p marks b false g = omega arith
 
-module _ (p : Program) (marks : List (List Mark)) (vs : List Verdict) where
-  each_passed_depth : (gs : List ℕ) → AreShallow (flat_map (passed_at p marks vs) gs)
+module _ (p : Program) (marks : List (List Mark)) (b : Bodies) (vs : List Verdict) where
+  each_passed_depth : (gs : List ℕ) → AreShallow (flat_map (passed_at p marks b vs) gs)
   each_passed_depth [] = omega arith
   each_passed_depth (g ∷ gs) =
-      joined_depth (passed_at p marks vs g) (flat_map (passed_at p marks vs) gs)
-      (passed_if_depth p marks (is_passed (verdict_at vs g)) (slice_get p.functions g)) (each_passed_depth gs)
+      joined_depth (passed_at p marks b vs g) (flat_map (passed_at p marks b vs) gs)
+      (passed_if_depth p marks b (is_passed (verdict_at vs g)) (slice_get p.functions g)) (each_passed_depth gs)
 
-  passed_depth : (kept : List (List ℕ)) (n : ℕ) → AreShallow (passed_over p marks kept vs n)
+  passed_depth : (kept : List (List ℕ)) (n : ℕ) → AreShallow (passed_over p marks b kept vs n)
   unfolding passed_over
   passed_depth kept n = each_passed_depth (callees kept n)
 
@@ -364,15 +368,15 @@ found_depth p marks says shallow passed flat vs =
       totals_depth (length vs) (sum_by skipped_in vs) (sum_by rows_in vs) (sum_by reports_in vs),
     )
 
-pub check_depth : (p : Program) (marks : List (List Mark)) (d r : ℕ) (kept : List (List ℕ)) (vs : List Verdict)
-    → depth (check_value p marks d r kept vs) ≤ 128
+pub check_depth : (p : Program) (marks : List (List Mark)) (calls : List TextCalls) (d r : ℕ) (kept : List (List ℕ)) (vs : List Verdict)
+    → depth (check_value p marks calls d r kept vs) ≤ 128
 unfolding check_value says_of
-check_depth p marks d r kept vs =
+check_depth p marks calls d r kept vs =
     omega (
       arith,
       options_depth p d r,
       by_depth (file_value p marks) 1 (file_depth p marks) (range_with_len 0 (length p.files)),
       found_depth p marks (says_of p marks d r kept vs)
           (λ n f. told_depth p marks (source_among p marks d r kept vs n) (texts p f) (places (source_among p marks d r kept vs n)))
-          (passed_over p marks kept vs) (passed_depth p marks vs kept) vs,
+          (passed_over p marks (bodies_in p calls) kept vs) (passed_depth p marks (bodies_in p calls) vs kept) vs,
     )

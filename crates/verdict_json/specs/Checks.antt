@@ -12,12 +12,13 @@ use Rattle.sc_tree.specs.declared.ctype.Widths.{Widths}
 use Rattle.sc_tree.specs.declared.ctype.Widths.TheVariants as widths
 use Rattle.sc_typed.specs.declared.program.Program.{Program}
 use Rattle.sc_typed.specs.declared.program.Function.{Function}
+use Rattle.text_calls.specs.declared.texts.TextCalls.{TextCalls}
 use Rattle.report_text.specs.Names.{file_text}
 use Rattle.report_text.specs.Rows.{machine_word, machine_state}
 use Rattle.report_text.specs.Checks.{skipped_in, rows_in, reports_in}
 use Rattle.json_places.specs.Arrays.{array_by}
 use Rattle.json_places.specs.Places.{main_source}
-use Rattle.verdict_json.specs.PassedOver.{passed_over}
+use Rattle.verdict_json.specs.PassedOver.{bodies_in, passed_over}
 use Rattle.verdict_json.specs.Reasons.{skip_value}
 use Rattle.verdict_json.specs.Tellings.{Says, says_of}
 use Rattle.verdict_json.specs.Functions.{function_value}
@@ -77,14 +78,14 @@ module _ (p : Program) (marks : List (List Mark)) where
       with (codes "notes") (array_by (skip_value p marks) p.notes)
       (with (codes "functions") (functions_value says passed p.functions vs) (with (codes "totals") (totals_of vs) no_members))
 
-  -- The whole value. There is one verdict for each function, and one row of kept callees.
-  unfoldable pub check_value : (depth reach : ℕ) → (kept : List (List ℕ)) → List Verdict → Json
-  check_value depth reach kept vs =
+  -- The whole value, where the texts of the files call this. There is one verdict for each function, and one row of kept callees.
+  unfoldable pub check_value : List TextCalls → (depth reach : ℕ) → (kept : List (List ℕ)) → List Verdict → Json
+  check_value calls depth reach kept vs =
       object (with (codes "format") (string (codes "nalvegop verdicts"))
       (with (codes "version") (count_value 1)
       (with (codes "options") (options_value p depth reach)
       (with (codes "files") (array_by file_value (range_with_len 0 (length p.files)))
-      (found_members (says_of p marks depth reach kept vs) (passed_over p marks kept vs) vs)))))
+      (found_members (says_of p marks depth reach kept vs) (passed_over p marks (bodies_in p calls) kept vs) vs)))))
 
 -- The tokens of the form and its number, with the opening bracket.
 abbrev pub first_tokens : List Token

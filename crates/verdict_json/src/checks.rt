@@ -9,13 +9,15 @@ ghost use Rattle.json.specs.Print.{print};
 ghost use Rattle.json.specs.Tree.{json_tokens, members_tokens};
 ghost use Rattle.json_places.specs.Arrays.{array_by};
 ghost use Rattle.verdict_json.specs.Checks as spec;
-ghost use Rattle.verdict_json.specs.PassedOver.{passed_among};
+ghost use Rattle.callee_json.specs.Seen.{bodies_of};
+ghost use Rattle.verdict_json.specs.PassedOver.{bodies_in, passed_among};
 ghost use Rattle.verdict_json.specs.Tellings.{says_among};
 
 use crate::functions::put_function;
 use crate::reasons::put_notes;
 use crate::tellings::All;
-use fsm_spec::MachineSpec;
+use callee_json::Bodies;
+use fsm_spec::{MachineSpec, locks};
 use json_places::{Check, main_source};
 use json_text::JsonText;
 use plan_core::Plan;
@@ -25,6 +27,7 @@ use sc_tree::ctype::Widths;
 use sc_typed::Function;
 use std::sync::Arc;
 use sum_rows::Verdict;
+use text_calls::TextCalls;
 
 fn model_word(widths: Widths) -> &'static str
     ensures { result.now ≡ spec.model_word widths }
@@ -226,9 +229,10 @@ fn begin(text: &mut JsonText) -> Result<(), OutOfMemory>
 }
 
 fn put_check(text: &mut JsonText, all: &All) -> Result<(), OutOfMemory>
+    requires bodies { bodies_of all.now.bodies.now ≡ bodies_in all.now.check.now.program.now all.now.bodies.now.calls.now }
     ensures { OnOk result (text.new ≡ text.old
-        ++ json_tokens (spec.check_value all.now.check.now.program.now all.now.check.now.marks.now all.now.check.now.depth
-        all.now.check.now.reach all.now.plan.now.callees (map arc_value all.now.verdicts.now))) }
+        ++ json_tokens (spec.check_value all.now.check.now.program.now all.now.check.now.marks.now all.now.bodies.now.calls.now
+        all.now.check.now.depth all.now.check.now.reach all.now.plan.now.callees (map arc_value all.now.verdicts.now))) }
 {
     let check = all.check;
     begin(text)?;
@@ -240,8 +244,71 @@ fn put_check(text: &mut JsonText, all: &All) -> Result<(), OutOfMemory>
     Ok(())
 }
 
+// The JSON of a check whose functions have this machine of states.
+fn by_machine(
+    check: &Check,
+    plan: &Plan,
+    verdicts: &RowList<Verdict>,
+    bodies: &Bodies,
+) -> Result<JsonText, OutOfMemory>
+    requires bodies { bodies_of bodies.now ≡ bodies_in check.now.program.now bodies.now.calls.now }
+    ensures { IfOk result (λ text. text ≡ json_tokens (spec.check_value check.now.program.now check.now.marks.now
+        bodies.now.calls.now check.now.depth check.now.reach plan.now.callees (map arc_value verdicts.now.list.items))) }
+{
+    let mut text = JsonText::new(check.alloc);
+    let all = All {
+        check,
+        plan,
+        bodies,
+        verdicts: verdicts.list.as_slice(),
+    };
+    put_check(&mut text, &all)?;
+    Ok(text)
+}
+
+// The same, where the texts of the files call this.
+fn text_of(
+    check: &Check,
+    plan: &Plan,
+    verdicts: &RowList<Verdict>,
+    calls: &[TextCalls],
+) -> Result<JsonText, OutOfMemory>
+    ensures { IfOk result (λ text. text ≡ json_tokens (spec.check_value check.now.program.now check.now.marks.now
+        calls.now check.now.depth check.now.reach plan.now.callees (map arc_value verdicts.now.list.items))) }
+{
+    match &check.program.machine {
+        Some(machine) => by_machine(
+            check,
+            plan,
+            verdicts,
+            &Bodies {
+                machine,
+                tries: false,
+                calls,
+            },
+        ),
+        None => {
+            let machine = match locks(check.alloc) {
+                Ok(machine) => machine,
+                Err(_) => return Err(OutOfMemory),
+            };
+            by_machine(
+                check,
+                plan,
+                verdicts,
+                &Bodies {
+                    machine: &machine,
+                    tries: true,
+                    calls,
+                },
+            )
+        }
+    }
+}
+
 /// The JSON of a whole check: a text (RFC 8259) that is read as the value which is defined. A verdict belongs to the function
-/// at its place in the program, and the plan has the kept callees of each function.
+/// at its place in the program, and the plan has the kept callees of each function. `calls` are what the texts of the files
+/// call, in their order.
 ///
 /// # Errors
 ///
@@ -250,19 +317,14 @@ pub fn check_json(
     check: &Check,
     plan: &Plan,
     verdicts: &RowList<Verdict>,
+    calls: &[TextCalls],
 ) -> Result<Vec<u8>, OutOfMemory>
     ensures bytes { IfOk result (λ bytes. bytes.items ≡ print (json_tokens (spec.check_value check.now.program.now
-        check.now.marks.now check.now.depth check.now.reach plan.now.callees (map arc_value verdicts.now.list.items)))) }
+        check.now.marks.now calls.now check.now.depth check.now.reach plan.now.callees (map arc_value verdicts.now.list.items)))) }
     ensures utf8 { IfOk result (λ bytes. IsUtf8 bytes.items) }
     ensures value { IfOk result (λ bytes. document bytes.items ≡ Some (spec.check_value check.now.program.now
-        check.now.marks.now check.now.depth check.now.reach plan.now.callees (map arc_value verdicts.now.list.items))) }
+        check.now.marks.now calls.now check.now.depth check.now.reach plan.now.callees (map arc_value verdicts.now.list.items))) }
 {
-    let mut text = JsonText::new(check.alloc);
-    let all = All {
-        check,
-        plan,
-        verdicts: verdicts.list.as_slice(),
-    };
-    put_check(&mut text, &all)?;
+    let text = text_of(check, plan, verdicts, calls)?;
     Ok(text.into_bytes())
 }

@@ -3,17 +3,16 @@
 ghost use Rattle.std.specs.Prelude.{◌≡◌, ◌++◌, OnOk, map};
 ghost use Rattle.std.specs.Arc.{arc_value};
 ghost use Rattle.std.specs.List.{flat_map};
+ghost use Rattle.callee_json.specs.Seen.{bodies_of};
 ghost use Rattle.json.specs.Tree.{json_tokens};
 ghost use Rattle.json_text.specs.Values.{array_of};
 ghost use Rattle.verdict_json.specs.PassedOver as spec;
 ghost use Rattle.verdict_json.specs.Tellings.{verdict_at};
 
 use crate::tellings::{All, callees};
-use json_places::{Check, put_place};
+use callee_json::put_callee;
 use json_text::JsonText;
-use report_text::name_text;
 use sc_base::OutOfMemory;
-use sc_typed::Function;
 use std::sync::Arc;
 use sum_rows::Verdict;
 
@@ -27,22 +26,10 @@ fn is_passed(verdicts: &[Arc<Verdict>], function: u32) -> bool
     }
 }
 
-fn put_callee(text: &mut JsonText, check: &Check, callee: &Function) -> Result<(), OutOfMemory>
-    ensures { OnOk result (text.new ≡ text.old
-        ++ json_tokens (spec.callee_value check.now.program.now check.now.marks.now callee.now)) }
-{
-    text.begin_object()?;
-    text.word_member("name", name_text(check.program, callee.name))?;
-    text.key("place")?;
-    put_place(text, check, callee.pos)?;
-    text.end_object()?;
-    Ok(())
-}
-
 // The function with that number, if it is passed over.
 fn put_at(text: &mut JsonText, all: &All, function: u32) -> Result<(), OutOfMemory>
     ensures { OnOk result (text.new ≡ text.old
-        ++ flat_map json_tokens (spec.passed_at all.now.check.now.program.now all.now.check.now.marks.now
+        ++ flat_map json_tokens (spec.passed_at all.now.check.now.program.now all.now.check.now.marks.now (bodies_of all.now.bodies.now)
         (map arc_value all.now.verdicts.now) function)) }
 {
     if !is_passed(all.verdicts, function) {
@@ -55,7 +42,7 @@ fn put_at(text: &mut JsonText, all: &All, function: u32) -> Result<(), OutOfMemo
         .as_slice()
         .get(function as usize)
     {
-        Some(callee) => put_callee(text, all.check, callee),
+        Some(callee) => put_callee(text, all.check, all.bodies, callee),
         None => Ok(()),
     }
 }
@@ -63,7 +50,7 @@ fn put_at(text: &mut JsonText, all: &All, function: u32) -> Result<(), OutOfMemo
 // Those of these functions that are passed over.
 fn put_each(text: &mut JsonText, all: &All, functions: &[u32]) -> Result<(), OutOfMemory>
     ensures { OnOk result (text.new ≡ text.old
-        ++ flat_map json_tokens (flat_map (spec.passed_at all.now.check.now.program.now all.now.check.now.marks.now
+        ++ flat_map json_tokens (flat_map (spec.passed_at all.now.check.now.program.now all.now.check.now.marks.now (bodies_of all.now.bodies.now)
         (map arc_value all.now.verdicts.now)) functions.now)) }
 {
     for function in functions {

@@ -8,6 +8,7 @@ ghost use Rattle.plan_core.specs.Graph as plans;
 ghost use Rattle.program_verdicts.specs.Verdicts as verdicts;
 ghost use Rattle.verdict_json.specs.Tellings as spec;
 
+use callee_json::Bodies;
 use choice_json::put_says;
 use json_places::Check;
 use json_text::JsonText;
@@ -27,11 +28,12 @@ pub struct Telling<'t, 'p, 'm, 'f, 'g> {
     pub names: &'t Texts<'p, 'g>,
 }
 
-/// The whole check: what is read beside the verdicts, the plan of the functions, and the verdicts.
+/// The whole check: what is read beside the verdicts, the plan of the functions, what is read of bodies, and the verdicts.
 #[derive(Clone, Copy)]
 pub(crate) struct All<'a> {
     pub(crate) check: &'a Check<'a>,
     pub(crate) plan: &'a Plan,
+    pub(crate) bodies: &'a Bodies<'a>,
     pub(crate) verdicts: &'a [Arc<Verdict>],
 }
 

@@ -19,5 +19,5 @@ invariant_of-work-clause-whole c =
 pub returns : goal.returns
 returns c =
     IfOk-weaker c.with_verdicts.result _ _
-    (λ x is. is ∙ json_is_said (seen.sources c.args.files.sources) c.in-Ok.planned.0 c.in-Ok.planned.1 c.args.files.marks.now c.args.depth c.args.reach (map arc_value c.in_ok-verdicts.verdicts.list.items) c.in-Ok.ensures.made c.in_ok-verdicts.ensures)
+    (λ x is. is ∙ json_is_said (seen.sources c.args.files.sources) c.in-Ok.planned.0 c.in-Ok.planned.1 c.args.files.marks.now c.args.files.calls.now c.args.depth c.args.reach (map arc_value c.in_ok-verdicts.verdicts.list.items) c.in-Ok.ensures.made c.in_ok-verdicts.ensures)
     c.with_verdicts.ensures

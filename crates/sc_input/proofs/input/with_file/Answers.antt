@@ -25,6 +25,7 @@ returns-clause-room g c =
       files = c.push.new.self;
       units = c.push-2.new.self;
       marks = c.push-3.new.self;
+      calls = c.push-4.new.self;
       machine = c.args.reading.machine;
       used = c.args.reading.used + c.len-2.result;
     } in

@@ -15,4 +15,5 @@ returns c =
       c.in_ok-put_options.ensures,
       c.in_ok-key.ensures,
       c.in_ok-begin.ensures,
+      c.requires.bodies,
     ) refl

@@ -1,6 +1,7 @@
 use Rattle.std.proofs.Common.{◌≡◌, ◌∷◌, ◌++◌, ◌∙◌, ℕ, List, [], ap, map}
 use Rattle.std.specs.Arc.{arc_value}
 use Rattle.std.specs.List.{flat_map}
+use Rattle.callee_json.specs.Seen.{bodies_of}
 use Rattle.json.specs.Token.{begin_array}
 use Rattle.json.specs.Tree.{json_tokens}
 use Rattle.json_places.proofs.Arrays.{list_behind}
@@ -11,7 +12,7 @@ pub returns : goal.returns
 unfolding passed_among passed_over
 returns c =
     let all = c.args.all.now in
-    let values = λ (fs : List ℕ). flat_map (passed_at all.check.now.program.now all.check.now.marks.now (map arc_value all.verdicts.now)) fs in
+    let values = λ (fs : List ℕ). flat_map (passed_at all.check.now.program.now all.check.now.marks.now (bodies_of all.bodies.now) (map arc_value all.verdicts.now)) fs in
     list_behind (passed_among all c.args.number) c.args.text.now _ _
     (c.in_ok-put_each.ensures
     ∙ (ap (λ ts. ts ++ flat_map json_tokens (values c.callees.result.now)) c.in_ok-begin_array.ensures

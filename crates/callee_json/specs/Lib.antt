@@ -1,0 +1,4 @@
+pub mod Deeds
+pub mod Bodies
+pub mod Callees
+pub mod Seen
