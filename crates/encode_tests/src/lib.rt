@@ -12,8 +12,6 @@ mod calls;
 #[cfg(test)]
 mod expressions;
 #[cfg(test)]
-mod generated;
-#[cfg(test)]
 mod generated_locks;
 #[cfg(test)]
 mod generated_machines;

@@ -19,16 +19,35 @@ use verdict_copies::copy;
 /// So many steps behind a pointer have locations.
 const REACH: u32 = 2;
 
+/// How the text of a program with locks begins.
+pub const SPINLOCK: &str = "typedef struct{int v;}spinlock_t;";
+
+/// How the text of a program begins whose machine of states is that of handles.
+pub const HANDLE: &str = "struct h{_Bool x;};";
+
+/// How the text of each generated program begins.
+pub const GENERATED: &str = "typedef struct{int v;}spinlock_t;\
+    struct node{spinlock_t lock;struct node*next;_Bool flag;char*buf;char v;_Bool arr[2];};\
+    struct pair{spinlock_t m;_Bool on;struct pair*up;};struct box{_Bool on;struct box*up;spinlock_t m;};\
+    void ext(void*p);int note(int x);_Bool ask(void);";
+
 /// A program in which each function stands behind its callees, and what an independent program counts of all runs of all its
 /// functions, where loops turn at most once, twice, and three times.
 pub struct Row {
+    /// How many choices there are, on how many of them the function comes to its end, and on how many it ends by an error at a
+    /// location. On all others it is set aside.
+    pub runs: [[u64; 3]; 3],
     pub text: &'static str,
-    pub choices: [u64; 3],
-    /// On how many of them the function comes to its end.
-    pub exits: [u64; 3],
-    /// On how many it ends by an error at a location. On all others it is set aside.
-    pub errors: [u64; 3],
 }
+
+/// Rows: counts of the runs of each program, and its text.
+macro_rules! rows {
+    ($($runs:expr => $text:literal),* $(,)?) => {
+        &[$($crate::programs::Row { runs: $runs, text: $text }),*]
+    };
+}
+
+pub(crate) use rows;
 
 /// Programs over a machine of states that a text spells.
 pub struct Machined {
@@ -145,10 +164,11 @@ fn is_as_told(alloc: Global, program: &Program, machine: &MachineSpec, row: &Row
     requires whole { HasWholeMachine program.now }
 {
     for turns in 0..3 {
+        let [choices, exits, errors] = row.runs[turns];
         let told = Tally {
-            choices: row.choices[turns],
-            exits: row.exits[turns],
-            errors: row.errors[turns],
+            choices,
+            exits,
+            errors,
         };
         if all_functions(alloc, program, machine, turns as u32 + 1) != Some(told) {
             return false;
@@ -158,24 +178,39 @@ fn is_as_told(alloc: Global, program: &Program, machine: &MachineSpec, row: &Row
 }
 
 // The same of its text, with the machine that a text spells.
-fn holds(alloc: Global, spelled: &str, row: &Row) -> bool {
-    match (machine(alloc, spelled), program(alloc, row.text, spelled)) {
+fn text_holds(alloc: Global, spelled: &str, text: &str, row: &Row) -> bool {
+    match (machine(alloc, spelled), program(alloc, text, spelled)) {
         (Some(machine), Some(program)) => is_as_told(alloc, &program, &machine, row),
         _ => false,
     }
 }
 
-/// On every choice of each function of these programs its gates tell its run, the verdict by its gates is the one that trying
-/// every choice gives, and its runs are as the row says. The machine is that of locks where no text spells one.
-pub fn all_hold(rt: &impl Abort, alloc: Global, spelled: &str, rows: &[Row]) {
+// A text that begins so and goes on so.
+fn joined(alloc: Global, start: &str, rest: &str) -> Option<String> {
+    let mut text = String::from_str(alloc, start).ok()?;
+    text.push_str(rest).ok()?;
+    Some(text)
+}
+
+// The same of a row whose text begins so.
+fn holds(alloc: Global, start: &str, spelled: &str, row: &Row) -> bool {
+    match joined(alloc, start, row.text) {
+        Some(text) => text_holds(alloc, spelled, text.as_str(), row),
+        None => false,
+    }
+}
+
+/// On every choice of each function of these programs, whose texts begin so, its gates tell its run, the verdict by its gates is the
+/// one that trying every choice gives, and its runs are as the row says. The machine is that of locks where no text spells one.
+pub fn all_hold(rt: &impl Abort, alloc: Global, start: &str, spelled: &str, rows: &[Row]) {
     for row in rows {
-        assert!(rt; holds(alloc, spelled, row), "{}", row.text);
+        assert!(rt; holds(alloc, start, spelled, row), "{}", row.text);
     }
 }
 
 /// The same of programs over machines of their own.
-pub fn all_hold_over(rt: &impl Abort, alloc: Global, machines: &[Machined]) {
+pub fn all_hold_over(rt: &impl Abort, alloc: Global, start: &str, machines: &[Machined]) {
     for over in machines {
-        all_hold(rt, alloc, over.spelled, over.rows);
+        all_hold(rt, alloc, start, over.spelled, over.rows);
     }
 }
