@@ -1,6 +1,6 @@
 //! Operations of machines of two to eight states. One of three states is among the calls.
 
-use crate::programs::{Machined, all_hold_over, rows};
+use crate::programs::{HANDLE, Machined, all_hold_over, rows};
 
 const SMALL: &[Machined] = &[
     Machined {

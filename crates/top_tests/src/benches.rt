@@ -3,7 +3,7 @@
 // 5, one that locks 3, and one that calls that one and unlocks 3. And generated texts, of few functions and of the most,
 // which all give a program: that none is refused is not proved.
 
-use crate::rows::{Ran, owned, ran};
+use crate::rows::{Ran, owned, written};
 use bench_programs::bench_text;
 use bench_top::{bench_alone, bench_main, generated};
 use saturn_top::Status;
@@ -19,7 +19,7 @@ fn counted(alloc: Global, words: &[&str], room: usize) -> Result<Ran, OutOfMemor
     let mut out = MemSink::new(alloc, room)?;
     let mut err = MemSink::new(alloc, 10_000)?;
     let status = bench_alone(alloc, &words, &mut out, &mut err);
-    ran(alloc, status, &out, &err)
+    written(alloc, status, &out, &err)
 }
 
 // The same with workers.
@@ -32,7 +32,7 @@ fn counted_by<R: Threads + Wait + Sync>(
     let mut out = MemSink::new(alloc, 1000)?;
     let mut err = MemSink::new(alloc, 1000)?;
     let status = bench_main(rt, alloc, &words, &mut out, &mut err, &FreeGate);
-    ran(alloc, status, &out, &err)
+    written(alloc, status, &out, &err)
 }
 
 // The lines of the first three shapes.
@@ -126,7 +126,7 @@ fn has_the_front(alloc: Global, room: usize) -> bool {
 
 #[test]
 fn a_full_sink_has_the_front_of_the_lines(rt: HostRuntime) {
-    for room in 0..THREE.len() + 1 {
+    for room in 0..=THREE.len() {
         assert!(rt; has_the_front(rt.alloc(), room), "room {room}");
     }
 }

@@ -69,7 +69,7 @@ fn has_the_front(alloc: Global, room: usize) -> bool {
 
 #[test]
 fn a_full_sink_has_the_front_of_the_text(rt: HostRuntime) {
-    for room in 0..TEXT.len() + 1 {
+    for room in 0..=TEXT.len() {
         assert!(rt; has_the_front(rt.alloc(), room), "room {room}");
     }
 }

@@ -121,7 +121,7 @@ pub fn held(alloc: Global, files: &[(&str, &str)]) -> Result<Vec<(String, Vec<u8
 }
 
 /// What a run with these sinks has written.
-pub fn ran(
+pub fn written(
     alloc: Global,
     status: Status,
     out: &MemSink,
@@ -156,7 +156,7 @@ pub fn run_on(
         Call::Check => check_alone(alloc, &words, files, &mut out, &mut err),
         Call::Replay => run_main(alloc, &words, files, &mut out, &mut err),
     };
-    ran(alloc, status, &out, &err)
+    written(alloc, status, &out, &err)
 }
 
 /// The same on files of these names and texts, where the calls of these numbers fail and the output has this room.

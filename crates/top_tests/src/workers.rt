@@ -3,7 +3,7 @@
 
 use crate::json_values::JSON;
 use crate::locks::LOCKS;
-use crate::rows::{Ran, Row, held, owned, ran};
+use crate::rows::{Ran, Row, held, owned, written};
 use saturn_top::{Status, check_main};
 use sc_base::{MemFiles, MemSink, OutOfMemory};
 use std::alloc::Global;
@@ -68,7 +68,7 @@ fn run_by<R: Threads + Wait + Sync, G: Gate + Sync>(
     let mut out = MemSink::new(alloc, 10_000)?;
     let mut err = MemSink::new(alloc, 1000)?;
     let status = check_main(rt, alloc, &words, &mut files, &mut out, &mut err, gate);
-    ran(alloc, status, &out, &err)
+    written(alloc, status, &out, &err)
 }
 
 // Whether what is written for this row does not depend on the number of workers.
