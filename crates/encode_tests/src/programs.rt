@@ -83,17 +83,26 @@ fn is_verdict(alloc: Global, here: &Context, verdict: &Verdict) -> bool
     }
 }
 
+// What was found, if the verdict by gates is that by trying every choice.
+fn confirmed(alloc: Global, here: &Context, compared: Compared) -> Option<Compared>
+    requires { HasWholeMachine here.now.program.now }
+{
+    if is_verdict(alloc, here, &compared.verdict) {
+        Some(compared)
+    } else {
+        None
+    }
+}
+
 // Gates and runs of the function at hand agree, and so do the verdicts by gates and by trying every choice.
 fn compared(alloc: Global, here: &Context) -> Option<Compared>
     requires table { IsWhole here.now.machine.now }
     requires whole { HasWholeMachine here.now.program.now }
 {
     let places = laid_out(alloc, here)?;
-    let compared = beside(alloc, here, &places)?;
-    if is_verdict(alloc, here, &compared.verdict) {
-        Some(compared)
-    } else {
-        None
+    match beside(alloc, here, &places) {
+        Some(compared) => confirmed(alloc, here, compared),
+        None => None,
     }
 }
 
@@ -128,7 +137,37 @@ fn function_at(
     compared(alloc, &here)
 }
 
-// The same of all functions: what came of their runs.
+// The same of all functions of the plan: what came of their runs.
+fn all_planned(
+    alloc: Global,
+    program: &Program,
+    machine: &MachineSpec,
+    plan: &Plan,
+    depth: u32,
+) -> Option<Tally>
+    requires table { IsWhole machine.now }
+    requires whole { HasWholeMachine program.now }
+{
+    let count = u32::try_from(plan.len()).ok()?;
+    let mut done = Vec::new(alloc);
+    let mut tally = Tally::none();
+    for number in 0..count {
+        let one = function_at(
+            alloc,
+            program,
+            machine,
+            plan,
+            number,
+            done.as_slice(),
+            depth,
+        )?;
+        tally = tally.with(one.tally);
+        done.push(one.verdict).ok()?;
+    }
+    Some(tally)
+}
+
+// The same of all functions of the program.
 fn all_functions(
     alloc: Global,
     program: &Program,
@@ -138,24 +177,10 @@ fn all_functions(
     requires table { IsWhole machine.now }
     requires whole { HasWholeMachine program.now }
 {
-    let plan = plan(alloc, program).ok()?;
-    let count = u32::try_from(plan.len()).ok()?;
-    let mut done = Vec::new(alloc);
-    let mut tally = Tally::none();
-    for number in 0..count {
-        let one = function_at(
-            alloc,
-            program,
-            machine,
-            &plan,
-            number,
-            done.as_slice(),
-            depth,
-        )?;
-        tally = tally.with(one.tally);
-        done.push(one.verdict).ok()?;
+    match plan(alloc, program) {
+        Ok(plan) => all_planned(alloc, program, machine, &plan, depth),
+        Err(_) => None,
     }
-    Some(tally)
 }
 
 // Whether the runs of a program are as the row says.
@@ -177,11 +202,21 @@ fn is_as_told(alloc: Global, program: &Program, machine: &MachineSpec, row: &Row
     true
 }
 
-// The same of its text, with the machine that a text spells.
+// The same of its text, with this machine.
+fn runs_hold(alloc: Global, spelled: &str, text: &str, machine: &MachineSpec, row: &Row) -> bool
+    requires { IsWhole machine.now }
+{
+    match program(alloc, text, spelled) {
+        Some(program) => is_as_told(alloc, &program, machine, row),
+        None => false,
+    }
+}
+
+// The same with the machine that a text spells.
 fn text_holds(alloc: Global, spelled: &str, text: &str, row: &Row) -> bool {
-    match (machine(alloc, spelled), program(alloc, text, spelled)) {
-        (Some(machine), Some(program)) => is_as_told(alloc, &program, &machine, row),
-        _ => false,
+    match machine(alloc, spelled) {
+        Some(machine) => runs_hold(alloc, spelled, text, &machine, row),
+        None => false,
     }
 }
 
