@@ -7,7 +7,7 @@ use Rattle.saturn_words.proofs.asked.run_of.Goals as goal
 pub returns : goal.returns
 returns c = record {
   options = c.in_ok-options.ensures;
-  format = c.format_of.ensures
+  format = c.format_of-format.ensures
       ∙ ap format_of (c.get_str-3.ensures ∙ first_value-rows (found_of c.args.matches.now) (codes "format"));
   function = c.in_ok-function.ensures ∙ first_value-rows (found_of c.args.matches.now) (codes "function");
   choice = c.in_ok-choice.ensures ∙ first_value-rows (found_of c.args.matches.now) (codes "choice");
