@@ -20,7 +20,7 @@ pub enum Wanted {
 }
 
 /// What was read.
-#[derive(Debug, Drop)]
+#[derive(Drop)]
 pub enum Phrase {
     Expr(Operand),
     Specs(Specified),
@@ -64,21 +64,21 @@ impl Phrase {
 
 /// An expression, and whether it is one that an assignment may stand behind: nothing weaker than
 /// the operators before their operand.
-#[derive(Debug, Drop)]
+#[derive(Drop)]
 pub struct Operand {
     pub tree: Boxed<Expr>,
     pub unary: bool,
 }
 
 /// A declarator, and what it declares.
-#[derive(Debug, Drop)]
+#[derive(Drop)]
 pub struct Declared {
     pub declarator: Boxed<Declarator>,
     pub core: Core,
 }
 
 /// Specifiers and a declarator, and whether it has a name.
-#[derive(Debug, Drop)]
+#[derive(Drop)]
 pub struct Headed {
     pub head: Boxed<Head>,
     pub named: bool,

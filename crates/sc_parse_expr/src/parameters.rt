@@ -15,7 +15,7 @@ use sc_tree::grammar::Naming;
 use std::alloc::Global;
 
 /// The parameters of a function, whether each has a name, and whether `...` stands behind them.
-#[derive(Debug, Drop)]
+#[derive(Drop)]
 pub struct Params {
     /// `None` for empty brackets, and none at all for `void`.
     pub heads: Option<List<Head>>,

@@ -5,7 +5,7 @@ use sc_tree::expr::Head;
 use sc_tree::unit::FileDecl;
 
 /// What a segment spells, before the body of a function is read.
-#[derive(Debug, Drop)]
+#[derive(Drop)]
 pub enum Outline {
     Decl(FileDecl),
     /// The head of a function. Its body is left to read.

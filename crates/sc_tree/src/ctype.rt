@@ -53,7 +53,7 @@ pub enum Widths {
 
 /// A type. Structs and unions go by their number in the program.
 #[cycle(ctype)]
-#[derive(Debug, Drop)]
+#[derive(Drop)]
 pub enum CType {
     Void,
     /// `_Bool`
@@ -71,7 +71,7 @@ pub enum CType {
 
 /// The type of a function.
 #[cycle(ctype)]
-#[derive(Debug, Drop)]
+#[derive(Drop)]
 pub struct Signature {
     pub result: CType,
     /// `None` for empty brackets, which say nothing of the parameters (C11 6.7.6.3).

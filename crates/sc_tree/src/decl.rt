@@ -4,7 +4,7 @@ use crate::expr::{Declarator, Expr, Specs};
 use sc_base::{Boxed, List, NameId, Pos};
 
 /// A declaration: its specifiers, and its declarators in their order.
-#[derive(Debug, Drop)]
+#[derive(Drop)]
 pub struct Decl {
     /// Its first token.
     pub pos: Pos,
@@ -13,7 +13,7 @@ pub struct Decl {
 }
 
 /// A declarator with its initialiser where one is written.
-#[derive(Debug, Drop)]
+#[derive(Drop)]
 pub struct InitDeclarator {
     pub declarator: Declarator,
     pub init: Option<Boxed<Init>>,
@@ -21,7 +21,7 @@ pub struct InitDeclarator {
 
 /// An initialiser.
 #[cycle(init)]
-#[derive(Debug, Drop)]
+#[derive(Drop)]
 pub enum Init {
     One(Boxed<Expr>),
     /// Those in braces, in their order.
@@ -30,14 +30,14 @@ pub enum Init {
 
 /// An initialiser in braces, with its designators.
 #[cycle(init)]
-#[derive(Debug, Drop)]
+#[derive(Drop)]
 pub struct InitItem {
     pub designators: List<Designator>,
     pub init: Init,
 }
 
 /// What an initialiser in braces is for.
-#[derive(Debug, Drop)]
+#[derive(Drop)]
 pub enum Designator {
     /// `. name`
     Field(NameId),

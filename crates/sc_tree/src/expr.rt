@@ -18,7 +18,7 @@ pub struct Place {
 
 /// An expression, one variant for each row of the grammar.
 #[cycle(tree)]
-#[derive(Debug, Drop)]
+#[derive(Drop)]
 pub enum Expr {
     /// `a , b`
     Comma(Boxed<Expr>, Boxed<Expr>, Place),
@@ -58,7 +58,7 @@ pub enum Expr {
 
 /// Specifiers and a declarator: a parameter, a type in an expression, or the head of a function.
 #[cycle(tree)]
-#[derive(Debug, Drop)]
+#[derive(Drop)]
 pub struct Head {
     /// Its first token.
     pub pos: Pos,
@@ -77,7 +77,7 @@ pub enum Storage {
 
 /// Specifiers (C11 6.7): the storage words in their order, and the type.
 #[cycle(tree)]
-#[derive(Debug, Drop)]
+#[derive(Drop)]
 pub struct Specs {
     pub storage: List<Storage>,
     pub base: Base,
@@ -85,7 +85,7 @@ pub struct Specs {
 
 /// The type that specifiers name (C11 6.7.2).
 #[cycle(tree)]
-#[derive(Debug, Drop)]
+#[derive(Drop)]
 pub enum Base {
     /// What type words name.
     Words(CType),
@@ -97,7 +97,7 @@ pub enum Base {
 
 /// A `struct` or `union` with its tag, its body or both (C11 6.7.2.1).
 #[cycle(tree)]
-#[derive(Debug, Drop)]
+#[derive(Drop)]
 pub struct Aggregate {
     /// The place of its tag, or of its keyword where it has no tag.
     pub pos: Pos,
@@ -108,7 +108,7 @@ pub struct Aggregate {
 
 /// A line of members (C11 6.7.2.1).
 #[cycle(tree)]
-#[derive(Debug, Drop)]
+#[derive(Drop)]
 pub struct Member {
     pub specs: Specs,
     pub parts: List<Part>,
@@ -117,7 +117,7 @@ pub struct Member {
 /// One member of a line: its declarator, and its width where it is a bit field. One of the two is
 /// there.
 #[cycle(tree)]
-#[derive(Debug, Drop)]
+#[derive(Drop)]
 pub struct Part {
     pub declarator: Option<Boxed<Declarator>>,
     pub width: Option<Boxed<Expr>>,
@@ -125,7 +125,7 @@ pub struct Part {
 
 /// An `enum` with its tag, its body or both (C11 6.7.2.2).
 #[cycle(tree)]
-#[derive(Debug, Drop)]
+#[derive(Drop)]
 pub struct EnumSpec {
     /// The place of its tag, or of its keyword where it has no tag.
     pub pos: Pos,
@@ -135,7 +135,7 @@ pub struct EnumSpec {
 
 /// An enumerator with its value where one is written.
 #[cycle(tree)]
-#[derive(Debug, Drop)]
+#[derive(Drop)]
 pub struct Enumerator {
     pub pos: Pos,
     pub name: NameId,
@@ -144,7 +144,7 @@ pub struct Enumerator {
 
 /// A declarator (C11 6.7.6), from the outside in.
 #[cycle(tree)]
-#[derive(Debug, Drop)]
+#[derive(Drop)]
 pub enum Declarator {
     /// The name and its place, or none in a type and in a parameter without a name.
     Name(Option<(NameId, Pos)>),

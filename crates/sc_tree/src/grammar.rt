@@ -113,7 +113,7 @@ pub struct TypeWords {
 }
 
 /// A piece of specifiers (C11 6.7).
-#[derive(Debug, Drop)]
+#[derive(Drop)]
 pub enum Piece {
     Storage(Storage),
     Word(TypeWord),
@@ -122,7 +122,7 @@ pub enum Piece {
 }
 
 /// The type that the pieces of specifiers make so far.
-#[derive(Debug, Drop)]
+#[derive(Drop)]
 pub enum SoFar {
     Untyped,
     Words(TypeWords),
@@ -130,14 +130,14 @@ pub enum SoFar {
 }
 
 /// The pieces of specifiers so far: the storage words in their order, and the type.
-#[derive(Debug, Drop)]
+#[derive(Drop)]
 pub struct Gathered {
     pub storage: List<Storage>,
     pub so_far: SoFar,
 }
 
 /// Specifiers that name a type.
-#[derive(Debug, Drop)]
+#[derive(Drop)]
 pub struct Specified {
     pub specs: Specs,
     /// Which body they have.

@@ -6,7 +6,7 @@ use sc_base::{Boxed, List, NameId, Pos};
 
 /// A statement, one variant for each row of the grammar, with the place of its keyword, its name or
 /// its first token. `case` and `default` stand among the items of a `switch` alone.
-#[derive(Debug, Drop)]
+#[derive(Drop)]
 pub enum Stmt {
     /// `{ items }`, with the places of both braces.
     Block(List<Stmt>, Pos, Pos),
@@ -41,7 +41,7 @@ pub enum Stmt {
 }
 
 /// What stands in the first place of a `for`.
-#[derive(Debug, Drop)]
+#[derive(Drop)]
 pub enum ForStart {
     Nothing,
     Expr(Boxed<Expr>),
@@ -51,7 +51,7 @@ pub enum ForStart {
 
 /// What stands between the brackets of a `for`: `.. ; e ; e`, where each may be left out. (Boxed, so
 /// that a statement is small.)
-#[derive(Debug, Drop)]
+#[derive(Drop)]
 pub struct ForHead {
     pub start: Boxed<ForStart>,
     pub test: Boxed<Option<Boxed<Expr>>>,

@@ -6,7 +6,7 @@ use crate::stmt::Stmt;
 use sc_base::{Boxed, List, Pos, Skip};
 
 /// The segments of a file, in order.
-#[derive(Debug, Drop)]
+#[derive(Drop)]
 pub struct Unit {
     /// The number of the file.
     pub file: u32,
@@ -14,7 +14,7 @@ pub struct Unit {
 }
 
 /// A segment: what it spells, or why it is skipped.
-#[derive(Debug, Drop)]
+#[derive(Drop)]
 pub enum Segment {
     Decl(FileDecl),
     Function(Boxed<Head>, Boxed<Body>),
@@ -22,7 +22,7 @@ pub enum Segment {
 }
 
 /// A declaration at file scope.
-#[derive(Debug, Drop)]
+#[derive(Drop)]
 pub enum FileDecl {
     /// The empty declaration, a lone `;`, with its place.
     Empty(Pos),
@@ -30,7 +30,7 @@ pub enum FileDecl {
 }
 
 /// The body of a function: its block, or why it is skipped.
-#[derive(Debug, Drop)]
+#[derive(Drop)]
 pub enum Body {
     Tree(Boxed<Stmt>),
     Skipped(Skip),

@@ -6,7 +6,7 @@ use sc_tree::ctype::Widths;
 use sc_tree::unit::Unit;
 
 /// The trees of all files, with the widths of the target.
-#[derive(Debug, Drop)]
+#[derive(Drop)]
 pub struct Sources<'a> {
     /// The texts of all names.
     pub names: Names,
