@@ -11,4 +11,5 @@ mod found;
 mod workers;
 
 pub use alone::bench_alone;
+pub use bench_checks::generated;
 pub use workers::bench_main;

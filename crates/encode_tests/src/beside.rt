@@ -117,6 +117,23 @@ pub fn gates_of<'p, 'm, 'f>(
     }
 }
 
+// These gates and the runs of the function at hand agree on every choice.
+fn gates_agree<'p, 'm, 'f>(
+    alloc: Global,
+    given: Ground<'p, 'm, 'f>,
+    places: &'f Places<'p>,
+    gates: &InGates,
+) -> Option<Tally>
+    requires inputs { input_count gates.now.net ≡ (laid.layout_of places.now).bits }
+    requires whole { IsWhole (laid.ground_of given).source.machine }
+    requires closed { IsClosed (laid.layout_of places.now) }
+{
+    match Machine::reserve(alloc, given, places) {
+        Ok(mut runs) => all_agree(alloc, &mut runs, gates, places.choice_len()),
+        Err(_) => None,
+    }
+}
+
 // Gates and runs of the function at hand agree on every choice.
 fn runs_agree<'p, 'm, 'f>(
     alloc: Global,
@@ -127,10 +144,7 @@ fn runs_agree<'p, 'm, 'f>(
     requires closed { IsClosed (laid.layout_of places.now) }
 {
     let gates = gates_of(alloc, given, places)?;
-    match Machine::reserve(alloc, given, places) {
-        Ok(mut runs) => all_agree(alloc, &mut runs, &gates, places.choice_len()),
-        Err(_) => None,
-    }
+    gates_agree(alloc, given, places, &gates)
 }
 
 // The verdict of the function at hand, by trying every choice.
@@ -153,6 +167,20 @@ fn tried<'p, 'm, 'f>(
     }
 }
 
+// The same of what the run and the gates stand on, with the verdict.
+fn both_agree<'p, 'm, 'f>(
+    alloc: Global,
+    given: Ground<'p, 'm, 'f>,
+    places: &'f Places<'p>,
+) -> Option<Compared>
+    requires whole { IsWhole (laid.ground_of given).source.machine }
+    requires closed { IsClosed (laid.layout_of places.now) }
+{
+    let tally = runs_agree(alloc, given, places)?;
+    let verdict = tried(alloc, given, places)?;
+    Some(Compared { tally, verdict })
+}
+
 /// Gates and runs of the function at hand, which has this layout, agree on every choice. None where they do not, where it has no
 /// gates, and where it has more bits than any here.
 #[tactic(auto, unfolding(layout_base::specs::Seen::ground_of, sc_gather::specs::Seen::source_of, sc_world::specs::Programs::source_by))]
@@ -167,8 +195,5 @@ pub fn beside<'p>(alloc: Global, here: &Context<'p, '_>, places: &Places<'p>) ->
         here,
         found: &found,
     };
-    Some(Compared {
-        tally: runs_agree(alloc, given, places)?,
-        verdict: tried(alloc, given, places)?,
-    })
+    both_agree(alloc, given, places)
 }

@@ -2,7 +2,7 @@
 //!
 //! `setting` reads a text and lays a function of it out, `told` has what gates tell of one run, `beside` sets it beside that run,
 //! `programs` goes through the functions of a program. `statements`, `expressions`, `calls` and `machines` have programs by what they
-//! do, `generated` and its fellows those of a generator, `worked` and `rows` worked rows.
+//! do, `generated_locks` and its fellows those of a generator, `worked` and `rows` worked rows.
 #![tactic(auto)]
 
 #[cfg(test)]
@@ -11,8 +11,6 @@ mod beside;
 mod calls;
 #[cfg(test)]
 mod expressions;
-#[cfg(test)]
-mod generated;
 #[cfg(test)]
 mod generated_locks;
 #[cfg(test)]

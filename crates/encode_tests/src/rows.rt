@@ -2,7 +2,9 @@
 
 ghost use Rattle.std.specs.Prelude.{◌≡◌, length};
 ghost use Rattle.bit_net.specs.Circuit.{input_count};
+ghost use Rattle.fn_analysis.specs.Analysis.{HasWholeMachine};
 ghost use Rattle.fsm_spec.specs.Table.{IsWhole};
+ghost use Rattle.layout_base.specs.Seen as laid;
 
 use crate::beside::gates_of;
 use crate::setting::{laid_out, machine, program};
@@ -10,9 +12,11 @@ use crate::told::{value_of, which_hold};
 use flow_ends::Encoded;
 use fn_analysis::analyse;
 use fn_gates::InGates;
-use layout_base::Ground;
+use fsm_spec::MachineSpec;
+use layout_base::{Ground, Places};
 use run_world::Value;
 use sc_gather::{Context, gather};
+use sc_typed::Program;
 use std::alloc::Global;
 use sum_rows::{ItemRows, Verdict};
 
@@ -50,12 +54,34 @@ fn told_on(alloc: Global, gates: &InGates, choice: &[bool], cell: usize) -> Opti
     told_by(values.as_slice(), &gates.encoded, cell)
 }
 
-// The same of the function at hand, with the state of the location with that number.
+// The same of the function with this layout, with the state of the location with that number.
+fn told_with<'p, 'm, 'f>(
+    alloc: Global,
+    given: Ground<'p, 'm, 'f>,
+    places: &'f Places<'p>,
+    choice: &[bool],
+    location: usize,
+) -> Option<Told>
+    requires { IsWhole (laid.ground_of given).source.machine }
+{
+    let gates = gates_of(alloc, given, places)?;
+    if choice.len() != places.choice_len() {
+        return None;
+    }
+    let cell = places.count().saturating_add(location);
+    told_on(alloc, &gates, choice, cell)
+}
+
 #[tactic(auto, unfolding(layout_base::specs::Seen::ground_of, sc_gather::specs::Seen::source_of, sc_world::specs::Programs::source_by))]
-fn told_of(alloc: Global, here: &Context, choice: &[bool], location: usize) -> Option<Told>
+fn told_by_places<'p>(
+    alloc: Global,
+    here: &Context<'p, '_>,
+    places: &Places<'p>,
+    choice: &[bool],
+    location: usize,
+) -> Option<Told>
     requires { IsWhole here.now.machine.now }
 {
-    let places = laid_out(alloc, here)?;
     let Ok(found) = gather(alloc, here) else {
         return None;
     };
@@ -63,25 +89,30 @@ fn told_of(alloc: Global, here: &Context, choice: &[bool], location: usize) -> O
         here,
         found: &found,
     };
-    let gates = gates_of(alloc, given, &places)?;
-    if choice.len() != places.choice_len() {
-        return None;
-    }
-    told_on(
-        alloc,
-        &gates,
-        choice,
-        places.count().saturating_add(location),
-    )
+    told_with(alloc, given, places, choice, location)
 }
 
-// The same of the first function of a text.
-fn told_first(alloc: Global, text: &str, choice: &[bool], location: usize) -> Option<Told> {
-    let machine = machine(alloc, "")?;
-    let program = program(alloc, text, "")?;
+// The same of the function at hand.
+fn told_of(alloc: Global, here: &Context, choice: &[bool], location: usize) -> Option<Told>
+    requires { IsWhole here.now.machine.now }
+{
+    let places = laid_out(alloc, here)?;
+    told_by_places(alloc, here, &places, choice, location)
+}
+
+// The same of the first function of a program.
+fn told_in(
+    alloc: Global,
+    program: &Program,
+    machine: &MachineSpec,
+    choice: &[bool],
+    location: usize,
+) -> Option<Told>
+    requires { IsWhole machine.now }
+{
     let here = Context {
-        program: &program,
-        machine: &machine,
+        program,
+        machine,
         tries: true,
         function: 0,
         kept: &[],
@@ -90,6 +121,25 @@ fn told_first(alloc: Global, text: &str, choice: &[bool], location: usize) -> Op
         reach: 2,
     };
     told_of(alloc, &here, choice, location)
+}
+
+fn told_of_text(
+    alloc: Global,
+    text: &str,
+    machine: &MachineSpec,
+    choice: &[bool],
+    location: usize,
+) -> Option<Told>
+    requires { IsWhole machine.now }
+{
+    let program = program(alloc, text, "")?;
+    told_in(alloc, &program, machine, choice, location)
+}
+
+// The same of the first function of a text.
+fn told_first(alloc: Global, text: &str, choice: &[bool], location: usize) -> Option<Told> {
+    let machine = machine(alloc, "")?;
+    told_of_text(alloc, text, &machine, choice, location)
 }
 
 const TWICE: &str =
@@ -153,13 +203,19 @@ fn count(items: &[ItemRows]) -> (usize, usize) {
 const ONCE: &str = "typedef struct{int v;}spinlock_t;void f(_Bool c,spinlock_t*l){spin_lock(l);}";
 
 // Two rows of the end, and four of the lock.
+fn has_six_rows(alloc: Global, program: &Program) -> bool
+    requires { HasWholeMachine program.now }
+{
+    match analyse(alloc, program, 0, &[], &[], 2, 2) {
+        Ok(verdict) => rows_of(&verdict) == Some((6, 2)),
+        Err(_) => false,
+    }
+}
+
 fn it_has_six_rows(alloc: Global) -> bool {
     match program(alloc, ONCE, "") {
+        Some(program) => has_six_rows(alloc, &program),
         None => false,
-        Some(program) => match analyse(alloc, &program, 0, &[], &[], 2, 2) {
-            Ok(verdict) => rows_of(&verdict) == Some((6, 2)),
-            Err(_) => false,
-        },
     }
 }
 

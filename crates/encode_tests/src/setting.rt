@@ -77,17 +77,44 @@ fn checked(
     }
 }
 
+// What a file was read as.
+#[derive(Drop)]
+struct Reading {
+    names: Names,
+    units: Vec<Unit>,
+}
+
+// These segments, with the names that were met.
+fn with_names(alloc: Global, names: Interner, unit: Unit) -> Option<Reading> {
+    let mut units = Vec::new(alloc);
+    units.push(unit).ok()?;
+    match names.into_names() {
+        Ok(names) => Some(Reading { names, units }),
+        Err(_) => None,
+    }
+}
+
+// What this text is read as.
+fn read_alone(alloc: Global, text: &str) -> Option<Reading> {
+    let mut names = Interner::new(alloc);
+    let found = read(alloc, &mut names, text);
+    match found {
+        Ok(unit) => with_names(alloc, names, unit),
+        Err(_) => None,
+    }
+}
+
 // The same of its text.
 fn typed(alloc: Global, text: &str, machine: Option<MachineSpec>) -> Option<Program>
     requires { IfSome machine IsWhole }
     ensures { IfSome result (λ p. HasWholeMachine p) }
 {
-    let mut names = Interner::new(alloc);
-    let mut units = Vec::new(alloc);
-    units.push(read(alloc, &mut names, text).ok()?).ok()?;
-    let files = List::new(alloc);
-    let names = names.into_names().ok()?;
-    checked(alloc, names, files, units.as_slice(), machine)
+    match read_alone(alloc, text) {
+        Some(Reading { names, units }) => {
+            checked(alloc, names, List::new(alloc), units.as_slice(), machine)
+        }
+        None => None,
+    }
 }
 
 /// The typed program of a file, with the machine that the second text spells; with that of locks where that is empty.

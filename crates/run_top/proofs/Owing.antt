@@ -16,8 +16,7 @@ use Rattle.top_answers.proofs.Dues.{inside}
 use Rattle.top_answers.proofs.Owed.{Owed, help, bad, text, IsSound}
 use Rattle.top_answers.proofs.Owed as owed
 use Rattle.top_answers.proofs.ByRefusal.{by_refusal}
-use Rattle.saturn_top.specs.Checks.{machine_of, files_of}
-use Rattle.run_top.specs.Runs.{due_of_told, told_of, IsFound, refused, read, Ask, IsDue, helped, bad_words, found, wording}
+use Rattle.run_top.specs.Runs.{due_of_told, told_of, machine_of, files_of, IsFound, refused, read, Ask, IsDue, helped, bad_words, found, wording}
 
 -- words with a fault, or with a call for help, are not good
 pub sound : (words : List (List ℕ)) → IsSound (wording words)

@@ -1,23 +1,24 @@
 -- Which answer `saturn_run` owes: help or bad words, where the words ask for that or have a fault; else the first refusal
 -- of the files that they name; else the text of the run, or the line that says why there is none.
 
-use Rattle.std.specs.Prelude.{◌≡◌, ◌⊎◌, ℕ, true, List, [], Some, codes}
+use Rattle.std.specs.Prelude.{◌≡◌, ◌⊎◌, ℕ, true, List, [], Option, Some, map, option_map, codes}
 use Rattle.clap.specs.Words.{App, Row}
 use Rattle.sc_base.specs.Held.{is_named}
 use Rattle.sc_input.specs.declared.input.Input.{Input}
 use Rattle.sc_input.specs.declared.refusal.Refusal.{Refusal}
 use Rattle.sc_input.specs.Input.{Outside, IsInput, Refuse}
+use Rattle.saturn_words.specs.declared.asked.Options.{Options}
 use Rattle.saturn_words.specs.declared.asked.RunWords.{RunWords}
 use Rattle.saturn_words.specs.Commands.{IsRun}
 use Rattle.saturn_words.specs.declared.words.NoWords.{NoWords}
 use Rattle.saturn_words.specs.Words.{AskForNothing, CallForHelp, HaveFault, Give, HaveRun, faults}
+use Rattle.whole_replays.specs.Typed.{Sources}
 use Rattle.whole_replays.specs.Told.{Told, Text, Twice, Beyond, NoFunction, Skipped, BadChoice, told}
 use Rattle.top_answers.specs.declared.status.Status.TheVariants.{Clean, BadWords, Helped}
 use Rattle.top_answers.specs.Answer.{Due, ToOutput, ToErrors}
 use Rattle.top_answers.specs.Lines.{limit_tail, twice_tail}
 use Rattle.top_answers.specs.Promises.{Wording}
 use Rattle.top_answers.specs.Refusals.{due_of_refusal, refused_with}
-use Rattle.saturn_top.specs.Checks.{sources_of, machine_of, files_of}
 use Rattle.run_top.specs.Lines.{no_function_tail, skipped_tail, bad_choice_tail}
 
 -- ---- the text of the run
@@ -30,6 +31,18 @@ due_of_told program name (Beyond kind count) = refused_with program (limit_tail 
 due_of_told program name NoFunction = refused_with program (no_function_tail name)
 due_of_told program name Skipped = refused_with program (skipped_tail name)
 due_of_told program name BadChoice = refused_with program bad_choice_tail
+
+-- the trees of the files, with the widths that the words name
+abbrev pub sources_of : Options → Input → Sources
+sources_of options input =
+    record { names = input.names; files = input.files; units = input.units; widths = options.widths; machine = input.machine }
+
+-- the file of the machine of states, if the words name one, and the files
+abbrev pub machine_of : Options → Option (List ℕ)
+machine_of options = option_map (λ name. name.now) options.machine
+
+abbrev pub files_of : Options → List (List ℕ)
+files_of options = map (λ name. name.now) options.files.items
 
 -- what is told of the input
 abbrev pub told_of : RunWords → Input → Told

@@ -2,20 +2,19 @@
 
 ghost use Rattle.std.specs.Prelude.{◌≡◌, ◌≢◌, ℕ, List, map, string_bytes, codes, IfOk};
 ghost use Rattle.sc_input.specs.Input.{Outside};
-ghost use Rattle.saturn_top.specs.Said.{HasWholeMachine};
 ghost use Rattle.top_answers.specs.Promises.{around, change, Promises};
 ghost use Rattle.top_answers.specs.Seen.{seen};
+ghost use Rattle.whole_replays.specs.Said.{HasWholeMachine};
 ghost use Rattle.run_top.specs.Runs.{due_of_told, told_of, IsDue, IsFound, AskNothing, wording};
 
 use crate::lines::answer_of;
 use fsm_spec::whole_machines;
-use saturn_top::Sources;
 use saturn_words::{NoWords, RunWords, run_words};
 use sc_base::{Files, OutOfMemory, Sink};
 use sc_input::{Input, read_input};
 use std::alloc::Global;
 use top_answers::{Answer, Status, give, refused};
-use whole_replays::{Asked, tell};
+use whole_replays::{Asked, Sources, tell};
 
 // What is due for the input.
 fn answer_for(alloc: Global, asked: &RunWords, input: Input) -> Result<Answer, OutOfMemory>

@@ -1,10 +1,9 @@
 // Files and sinks that fail, words that ask for nothing, and limits.
 
-use crate::rows::{Ran, run};
+use crate::rows::{Call, Ran, run};
 use saturn_top::Status;
 use sc_base::OutOfMemory;
 use std::alloc::Global;
-use std::test::Fail;
 
 const FILES: [(&str, &str); 1] = [(
     "a.c",
@@ -22,52 +21,84 @@ function f at a.c:2:6
 total functions 1 skipped 0 rows 3 reports 0
 ";
 
-// Checks the file by these words, where this call of the files fails.
-fn failing(alloc: Global, call: u64) -> Result<Ran, OutOfMemory> {
-    run(alloc, &["saturn_check", "a.c"], &FILES, &[call], 10_000)
+// Checks the file by these words, where these calls of the files fail and the output has this room.
+fn checked(
+    alloc: Global,
+    words: &[&str],
+    failing: &[u64],
+    room: usize,
+) -> Result<Ran, OutOfMemory> {
+    run(alloc, Call::Check, words, &FILES, failing, room)
+}
+
+// Whether the check ends so where this call of the files fails.
+fn fails_so(alloc: Global, call: u64, status: Status, out: &str, err: &str) -> bool {
+    match checked(alloc, &["saturn_check", "a.c"], &[call], 10_000) {
+        Ok(ran) => ran.ended(status, out.as_bytes(), err.as_bytes()),
+        Err(_) => false,
+    }
 }
 
 #[test]
-fn a_file_that_fails_is_named(rt: HostRuntime) -> Result<(), Fail> {
+fn a_file_that_fails_is_named(rt: HostRuntime) {
+    let line = "saturn_check: cannot read a.c\n";
     for call in 1..4 {
-        let ran = failing(rt.alloc(), call)?;
-        assert_eq!(rt; ran.status, Status::ReadFault, "call {call}");
-        assert!(rt; ran.out.is_empty());
-        assert_eq!(rt;
-            ran.err.as_slice(),
-            b"saturn_check: cannot read a.c\n".as_slice()
+        assert!(rt;
+            fails_so(rt.alloc(), call, Status::ReadFault, "", line),
+            "call {call}"
         );
     }
-    let ran = failing(rt.alloc(), 4)?;
-    assert_eq!(rt; ran.status, Status::Clean);
-    assert_eq!(rt; ran.out.as_slice(), TEXT.as_bytes());
-    Ok(())
+    assert!(rt; fails_so(rt.alloc(), 4, Status::Clean, TEXT, ""));
 }
 
-#[test]
-fn a_full_sink_has_the_front_of_the_text(rt: HostRuntime) -> Result<(), Fail> {
-    let text = TEXT.as_bytes();
-    for room in 0..text.len() + 1 {
-        let ran = run(rt.alloc(), &["saturn_check", "a.c"], &FILES, &[], room)?;
-        let status = if room < text.len() {
-            Status::WriteFault
-        } else {
-            Status::Clean
-        };
-        assert_eq!(rt; ran.status, status, "room {room}");
-        assert_eq!(rt; ran.out.as_slice(), &text[..room]);
-        assert!(rt; ran.err.is_empty());
+// Whether an output of this room, which is at most the length of the text, takes the front of the text.
+fn has_the_front(alloc: Global, room: usize) -> bool {
+    let Some(front) = TEXT.as_bytes().get(..room) else {
+        return false;
+    };
+    let status = if room < TEXT.len() {
+        Status::WriteFault
+    } else {
+        Status::Clean
+    };
+    match checked(alloc, &["saturn_check", "a.c"], &[], room) {
+        Ok(ran) => ran.ended(status, front, b""),
+        Err(_) => false,
     }
-    Ok(())
-}
-
-// Checks the file by these words.
-fn by_words(alloc: Global, words: &[&str]) -> Result<Ran, OutOfMemory> {
-    run(alloc, words, &FILES, &[], 10_000)
 }
 
 #[test]
-fn words_that_ask_for_nothing_are_bad_or_get_help(rt: HostRuntime) -> Result<(), Fail> {
+fn a_full_sink_has_the_front_of_the_text(rt: HostRuntime) {
+    for room in 0..=TEXT.len() {
+        assert!(rt; has_the_front(rt.alloc(), room), "room {room}");
+    }
+}
+
+fn are_bad(alloc: Global, words: &[&str]) -> bool {
+    match checked(alloc, words, &[], 10_000) {
+        Ok(ran) => ran.only_erred(Status::BadWords),
+        Err(_) => false,
+    }
+}
+
+fn is_helped(alloc: Global) -> bool {
+    match checked(alloc, &["saturn_check", "--help"], &[], 10_000) {
+        Ok(ran) => ran.only_told(Status::Helped),
+        Err(_) => false,
+    }
+}
+
+// Whether the words may ask for the most of what has a limit.
+fn are_taken_to_their_limits(alloc: Global) -> bool {
+    let words = ["saturn_check", "a.c", "--jobs", "64", "--reach", "4"];
+    match checked(alloc, &words, &[], 10_000) {
+        Ok(ran) => ran.ended(Status::Clean, TEXT.as_bytes(), b""),
+        Err(_) => false,
+    }
+}
+
+#[test]
+fn words_that_ask_for_nothing_are_bad_or_get_help(rt: HostRuntime) {
     let bad: [&[&str]; 5] = [
         &["saturn_check"],
         &["saturn_check", "--depth", "9", "a.c"],
@@ -76,20 +107,8 @@ fn words_that_ask_for_nothing_are_bad_or_get_help(rt: HostRuntime) -> Result<(),
         &["saturn_check", "--jobs", "65", "a.c"],
     ];
     for words in bad {
-        let ran = by_words(rt.alloc(), words)?;
-        assert_eq!(rt; ran.status, Status::BadWords);
-        assert!(rt; ran.out.is_empty());
-        assert!(rt; !ran.err.is_empty());
+        assert!(rt; are_bad(rt.alloc(), words));
     }
-    let ran = by_words(rt.alloc(), &["saturn_check", "--help"])?;
-    assert_eq!(rt; ran.status, Status::Helped);
-    assert!(rt; !ran.out.is_empty());
-    assert!(rt; ran.err.is_empty());
-    let ran = by_words(
-        rt.alloc(),
-        &["saturn_check", "a.c", "--jobs", "64", "--reach", "4"],
-    )?;
-    assert_eq!(rt; ran.status, Status::Clean);
-    assert_eq!(rt; ran.out.as_slice(), TEXT.as_bytes());
-    Ok(())
+    assert!(rt; is_helped(rt.alloc()));
+    assert!(rt; are_taken_to_their_limits(rt.alloc()));
 }

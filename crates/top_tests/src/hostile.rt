@@ -1,26 +1,28 @@
 // Files that are made to break a check: cut off, very long, nested very deep, with very many calls; and errors that cannot be
 // written.
 
-use crate::numbers::NUMBERS;
-use crate::rows::{Ran, Row, owned};
-use saturn_top::{Status, check_alone};
-use sc_base::{MemFiles, MemSink, OutOfMemory};
+use crate::numbers::DRIVER;
+use crate::rows::{Call, Ran, Room, run_on};
+use saturn_top::Status;
+use sc_base::{MemFiles, OutOfMemory};
 use std::alloc::Global;
 
 // Checks one file of these bytes, where standard error has this room.
 fn checked(alloc: Global, bytes: Vec<u8>, room: usize) -> Result<Ran, OutOfMemory> {
-    let words = owned(alloc, &["saturn_check", "a.c"])?;
     let mut held = Vec::new(alloc);
     held.push((String::from_str(alloc, "a.c")?, bytes))?;
     let mut files = MemFiles::new(held, Vec::new(alloc));
-    let mut out = MemSink::new(alloc, 10_000)?;
-    let mut err = MemSink::new(alloc, room)?;
-    let status = check_alone(alloc, &words, &mut files, &mut out, &mut err);
-    Ok(Ran {
-        status,
-        out: out.bytes().to_vec(alloc)?,
-        err: err.bytes().to_vec(alloc)?,
-    })
+    let room = Room {
+        out: 10_000,
+        err: room,
+    };
+    run_on(
+        alloc,
+        Call::Check,
+        &["saturn_check", "a.c"],
+        &mut files,
+        room,
+    )
 }
 
 // Whether a check of these bytes ends and writes so.
@@ -32,11 +34,7 @@ fn ends_so(
     err: &str,
 ) -> Result<bool, OutOfMemory> {
     let ran = checked(alloc, bytes, 1000)?;
-    Ok(
-        ran.status == status
-            && ran.out.as_slice() == out.as_bytes()
-            && ran.err.as_slice() == err.as_bytes(),
-    )
+    Ok(ran.ended(status, out.as_bytes(), err.as_bytes()))
 }
 
 fn put_text(bytes: &mut Vec<u8>, text: &str) -> Result<(), OutOfMemory> {
@@ -58,7 +56,7 @@ fn is_write_fault(alloc: Global) -> Result<bool, OutOfMemory> {
     let mut bytes = Vec::new(alloc);
     put_text(&mut bytes, "int a[;")?;
     let ran = checked(alloc, bytes, 0)?;
-    Ok(ran.status == Status::WriteFault && ran.out.is_empty() && ran.err.is_empty())
+    Ok(ran.ended(Status::WriteFault, b"", b""))
 }
 
 #[test]
@@ -67,22 +65,6 @@ fn a_refusal_that_cannot_be_written_is_a_write_fault(rt: HostRuntime) {
 }
 
 // ---- files that are cut off
-
-fn is_driver(row: &Row) -> bool {
-    row.name == "driver leaks on an error path"
-}
-
-// The text of a function of a driver.
-fn driver() -> &'static str {
-    for row in NUMBERS.as_slice() {
-        if is_driver(row) {
-            for (_, text) in row.files {
-                return text;
-            }
-        }
-    }
-    ""
-}
 
 // Whether a check ended with a text, or with a refusal and no text.
 fn is_defined(ran: &Ran) -> bool {
@@ -106,7 +88,7 @@ fn fronts_are_answered(alloc: Global, bytes: &[u8]) -> Result<bool, OutOfMemory>
 
 #[test]
 fn a_file_cut_after_each_byte_has_an_answer(rt: HostRuntime) {
-    let bytes = driver().as_bytes();
+    let bytes = DRIVER.as_bytes();
     assert!(rt; bytes.len() > 1000);
     assert!(rt; matches!(fronts_are_answered(rt.alloc(), bytes), Ok(true)));
 }

@@ -1,10 +1,13 @@
-//! The tests of the top call: whole runs over files and sinks in memory. `rows` runs the rows of `locks`, `numbers`,
-//! `memory`, `skips`, `options`, `refusals` and `json_values`; `faults` has files and sinks that fail and words;
-//! `hostile` has files that are cut, very long or nested very deep; `workers` has runs with workers.
+//! The tests of the top calls: whole runs over files and sinks in memory. `rows` runs checks and replays: the rows of `locks`,
+//! `numbers`, `memory`, `skips`, `options`, `refusals`, `json_values` and `replays`. `faults` has files and sinks that fail and
+//! words; `hostile` has files that are cut, very long or nested very deep; `workers` has runs with workers; `benches` has counted
+//! checks of generated programs.
 //!
-//! They stand in a crate of their own, so that the top call is proved once, without tests.
+//! They stand in one crate of their own, so that the top calls are proved once, without tests, and built once for all of them.
 #![tactic(auto)]
 
+#[cfg(test)]
+mod benches;
 #[cfg(test)]
 mod faults;
 #[cfg(test)]
@@ -21,6 +24,8 @@ mod numbers;
 mod options;
 #[cfg(test)]
 mod refusals;
+#[cfg(test)]
+mod replays;
 #[cfg(test)]
 mod rows;
 #[cfg(test)]

@@ -1,20 +1,9 @@
 // Locks: each row is one that a run has.
 
-use crate::rows::Row;
-use saturn_top::Status;
+use crate::rows::{Row, rows};
 
-pub static LOCKS: [Row; 11] = [
-    Row {
-        name: "lock taken at exit",
-        words: &["saturn_check", "a.c"],
-        files: &[(
-            "a.c",
-            "\
-typedef struct{int v;}spinlock_t;
-void f(_Bool c,spinlock_t*l){spin_lock(l);}",
-        )],
-        status: Status::Clean,
-        out: "\
+pub const LOCKS: &[Row] = rows![
+    "lock taken at exit": Clean ["saturn_check", "a.c"] [("a.c", "typedef struct{int v;}spinlock_t;\nvoid f(_Bool c,spinlock_t*l){spin_lock(l);}")] => "\
 function f at a.c:2:6
   entry c l
   exits
@@ -27,19 +16,8 @@ function f at a.c:2:6
     11 L -> - !
 total functions 1 skipped 0 rows 6 reports 0
 ",
-        err: "",
-    },
-    Row {
-        name: "double lock under a condition",
-        words: &["saturn_check", "a.c"],
-        files: &[(
-            "a.c",
-            "\
-typedef struct{int v;}spinlock_t;
-void f(_Bool c,spinlock_t*l){spin_lock(l);if(c)spin_lock(l);}",
-        )],
-        status: Status::Reports,
-        out: "\
+    "double lock under a condition": Reports ["saturn_check", "a.c"]
+        [("a.c", "typedef struct{int v;}spinlock_t;\nvoid f(_Bool c,spinlock_t*l){spin_lock(l);if(c)spin_lock(l);}")] => "\
 function f at a.c:2:6
   entry c l
   exits
@@ -60,19 +38,8 @@ function f at a.c:2:6
     2:30 error *l
 total functions 1 skipped 0 rows 5 reports 1
 ",
-        err: "",
-    },
-    Row {
-        name: "trylock told by the result",
-        words: &["saturn_check", "a.c"],
-        files: &[(
-            "a.c",
-            "\
-typedef struct{int v;}spinlock_t;
-int f(spinlock_t*l){if(spin_trylock(l))return 1;return 0;}",
-        )],
-        status: Status::Clean,
-        out: "\
+    "trylock told by the result": Clean ["saturn_check", "a.c"]
+        [("a.c", "typedef struct{int v;}spinlock_t;\nint f(spinlock_t*l){if(spin_trylock(l))return 1;return 0;}")] => "\
 function f at a.c:2:5
   entry l
   exits
@@ -84,19 +51,8 @@ function f at a.c:2:5
     1 L -> 0 L
 total functions 1 skipped 0 rows 5 reports 0
 ",
-        err: "",
-    },
-    Row {
-        name: "trylock not told by the result",
-        words: &["saturn_check", "a.c"],
-        files: &[(
-            "a.c",
-            "\
-typedef struct{int v;}spinlock_t;
-int f(spinlock_t*l){if(spin_trylock(l))return 0;return 0;}",
-        )],
-        status: Status::Reports,
-        out: "\
+    "trylock not told by the result": Reports ["saturn_check", "a.c"]
+        [("a.c", "typedef struct{int v;}spinlock_t;\nint f(spinlock_t*l){if(spin_trylock(l))return 0;return 0;}")] => "\
 function f at a.c:2:5
   entry l
   exits
@@ -116,20 +72,8 @@ function f at a.c:2:5
     2:40 return
 total functions 1 skipped 0 rows 4 reports 1
 ",
-        err: "",
-    },
-    Row {
-        name: "two lock paths to one lock",
-        words: &["saturn_check", "a.c"],
-        files: &[(
-            "a.c",
-            "\
-typedef struct{int v;}spinlock_t;
-void g(spinlock_t*a,spinlock_t*b){spin_lock(a);spin_lock(b);}
-void h(spinlock_t*p){g(p,p);}",
-        )],
-        status: Status::Clean,
-        out: "\
+    "two lock paths to one lock": Clean ["saturn_check", "a.c"]
+        [("a.c", "typedef struct{int v;}spinlock_t;\nvoid g(spinlock_t*a,spinlock_t*b){spin_lock(a);spin_lock(b);}\nvoid h(spinlock_t*p){g(p,p);}")] => "\
 function g at a.c:2:6
   entry a b
   exits
@@ -146,20 +90,8 @@ function h at a.c:3:6
   exits no
 total functions 2 skipped 0 rows 6 reports 0
 ",
-        err: "",
-    },
-    Row {
-        name: "double lock by two calls",
-        words: &["saturn_check", "a.c"],
-        files: &[(
-            "a.c",
-            "\
-typedef struct{int v;}spinlock_t;
-void g(spinlock_t*l){spin_lock(l);}
-void h(spinlock_t*l){g(l);g(l);}",
-        )],
-        status: Status::Reports,
-        out: "\
+    "double lock by two calls": Reports ["saturn_check", "a.c"]
+        [("a.c", "typedef struct{int v;}spinlock_t;\nvoid g(spinlock_t*l){spin_lock(l);}\nvoid h(spinlock_t*l){g(l);g(l);}")] => "\
 function g at a.c:2:6
   entry l
   exits
@@ -183,19 +115,8 @@ function h at a.c:3:6
     3:22 error *l
 total functions 2 skipped 0 rows 5 reports 1
 ",
-        err: "",
-    },
-    Row {
-        name: "double lock of a local",
-        words: &["saturn_check", "a.c"],
-        files: &[(
-            "a.c",
-            "\
-typedef struct{int v;}spinlock_t;
-void f(void){spinlock_t s;spin_lock(&s);spin_lock(&s);}",
-        )],
-        status: Status::Reports,
-        out: "\
+    "double lock of a local": Reports ["saturn_check", "a.c"]
+        [("a.c", "typedef struct{int v;}spinlock_t;\nvoid f(void){spinlock_t s;spin_lock(&s);spin_lock(&s);}")] => "\
 function f at a.c:2:6
   entry -
   exits no
@@ -206,19 +127,8 @@ function f at a.c:2:6
     2:41 error s
 total functions 1 skipped 0 rows 0 reports 1
 ",
-        err: "",
-    },
-    Row {
-        name: "narrow loop of two turns",
-        words: &["saturn_check", "--depth", "2", "a.c"],
-        files: &[(
-            "a.c",
-            "\
-typedef struct{int v;}spinlock_t;
-void f(spinlock_t*l,unsigned char n){int i;spin_lock(l);for(i=0;i<n;i++)if(i==2)spin_lock(l);}",
-        )],
-        status: Status::Clean,
-        out: "\
+    "narrow loop of two turns": Clean ["saturn_check", "--depth", "2", "a.c"]
+        [("a.c", "typedef struct{int v;}spinlock_t;\nvoid f(spinlock_t*l,unsigned char n){int i;spin_lock(l);for(i=0;i<n;i++)if(i==2)spin_lock(l);}")] => "\
 function f at a.c:2:6
   entry l n
   exits
@@ -231,19 +141,8 @@ function f at a.c:2:6
     11 L -> - !
 total functions 1 skipped 0 rows 6 reports 0
 ",
-        err: "",
-    },
-    Row {
-        name: "narrow loop of three turns",
-        words: &["saturn_check", "--depth", "3", "a.c"],
-        files: &[(
-            "a.c",
-            "\
-typedef struct{int v;}spinlock_t;
-void f(spinlock_t*l,unsigned char n){int i;spin_lock(l);for(i=0;i<n;i++)if(i==2)spin_lock(l);}",
-        )],
-        status: Status::Reports,
-        out: "\
+    "narrow loop of three turns": Reports ["saturn_check", "--depth", "3", "a.c"]
+        [("a.c", "typedef struct{int v;}spinlock_t;\nvoid f(spinlock_t*l,unsigned char n){int i;spin_lock(l);for(i=0;i<n;i++)if(i==2)spin_lock(l);}")] => "\
 function f at a.c:2:6
   entry l n
   exits
@@ -271,21 +170,8 @@ function f at a.c:2:6
     2:44 error *l
 total functions 1 skipped 0 rows 7 reports 1
 ",
-        err: "",
-    },
-    Row {
-        name: "narrow mutual recursion",
-        words: &["saturn_check", "a.c"],
-        files: &[(
-            "a.c",
-            "\
-typedef struct{int v;}spinlock_t;
-void b(spinlock_t*l,_Bool n);
-void a(spinlock_t*l,_Bool n){spin_unlock(l);if(n)b(l,!n);}
-void b(spinlock_t*l,_Bool n){spin_lock(l);a(l,n);}",
-        )],
-        status: Status::Clean,
-        out: "\
+    "narrow mutual recursion": Clean ["saturn_check", "a.c"]
+        [("a.c", "typedef struct{int v;}spinlock_t;\nvoid b(spinlock_t*l,_Bool n);\nvoid a(spinlock_t*l,_Bool n){spin_unlock(l);if(n)b(l,!n);}\nvoid b(spinlock_t*l,_Bool n){spin_lock(l);a(l,n);}")] => "\
 function a at a.c:3:6
   entry l n
   exits
@@ -314,19 +200,8 @@ function b at a.c:4:6
     11 -> - escaped
 total functions 2 skipped 0 rows 16 reports 0
 ",
-        err: "",
-    },
-    Row {
-        name: "promotion and unsigned comparison",
-        words: &["saturn_check", "a.c"],
-        files: &[(
-            "a.c",
-            "\
-typedef struct{int v;}spinlock_t;
-void f(spinlock_t*l,unsigned char x){spin_lock(l);if(x+1==256)spin_lock(l);if(-1<1u)spin_lock(l);}",
-        )],
-        status: Status::Reports,
-        out: "\
+    "promotion and unsigned comparison": Reports ["saturn_check", "a.c"]
+        [("a.c", "typedef struct{int v;}spinlock_t;\nvoid f(spinlock_t*l,unsigned char x){spin_lock(l);if(x+1==256)spin_lock(l);if(-1<1u)spin_lock(l);}")] => "\
 function f at a.c:2:6
   entry l x
   exits
@@ -349,6 +224,4 @@ function f at a.c:2:6
     2:38 error *l
 total functions 1 skipped 0 rows 7 reports 1
 ",
-        err: "",
-    },
 ];

@@ -1,15 +1,9 @@
 // Objects that are made, freed and lost.
 
-use crate::rows::Row;
-use saturn_top::Status;
+use crate::rows::{Row, rows};
 
-pub static MEMORY: [Row; 4] = [
-    Row {
-        name: "parameter freed",
-        words: &["saturn_check", "a.c"],
-        files: &[("a.c", "void f(char*p){kfree(p);}")],
-        status: Status::Clean,
-        out: "\
+pub const MEMORY: &[Row] = rows![
+    "parameter freed": Clean ["saturn_check", "a.c"] [("a.c", "void f(char*p){kfree(p);}")] => "\
 function f at a.c:1:6
   entry p
   exits
@@ -19,14 +13,7 @@ function f at a.c:1:6
     1 -> - freed
 total functions 1 skipped 0 rows 3 reports 0
 ",
-        err: "",
-    },
-    Row {
-        name: "leak where the condition is false",
-        words: &["saturn_check", "a.c"],
-        files: &[("a.c", "void f(_Bool c){char*p=kmalloc(8,0);if(c)kfree(p);}")],
-        status: Status::Reports,
-        out: "\
+    "leak where the condition is false": Reports ["saturn_check", "a.c"] [("a.c", "void f(_Bool c){char*p=kmalloc(8,0);if(c)kfree(p);}")] => "\
 function f at a.c:1:6
   entry c
   exits
@@ -39,14 +26,7 @@ function f at a.c:1:6
     1:51 end
 total functions 1 skipped 0 rows 2 reports 1
 ",
-        err: "",
-    },
-    Row {
-        name: "out parameter kept",
-        words: &["saturn_check", "a.c"],
-        files: &[("a.c", "void m(char**o,_Bool c){if(c)*o=0;}")],
-        status: Status::Clean,
-        out: "\
+    "out parameter kept": Clean ["saturn_check", "a.c"] [("a.c", "void m(char**o,_Bool c){if(c)*o=0;}")] => "\
 function m at a.c:1:6
   entry o c
   exits
@@ -59,19 +39,8 @@ function m at a.c:1:6
   writes *o
 total functions 1 skipped 0 rows 5 reports 0
 ",
-        err: "",
-    },
-    Row {
-        name: "leak of an out parameter",
-        words: &["saturn_check", "a.c"],
-        files: &[(
-            "a.c",
-            "\
-void mk(char**o){*o=kmalloc(4,0);}
-void use(_Bool c){char*p;mk(&p);if(c)kfree(p);}",
-        )],
-        status: Status::Reports,
-        out: "\
+    "leak of an out parameter": Reports ["saturn_check", "a.c"]
+        [("a.c", "void mk(char**o){*o=kmalloc(4,0);}\nvoid use(_Bool c){char*p;mk(&p);if(c)kfree(p);}")] => "\
 function mk at a.c:1:6
   entry o
   exits
@@ -92,6 +61,4 @@ function use at a.c:2:6
     2:47 end
 total functions 2 skipped 0 rows 5 reports 1
 ",
-        err: "",
-    },
 ];

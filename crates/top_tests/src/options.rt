@@ -1,20 +1,10 @@
 // What options change.
 
-use crate::rows::Row;
-use saturn_top::Status;
+use crate::rows::{INTERRUPTS, LOCK_MACHINE, Row, rows};
 
-pub static OPTIONS: [Row; 7] = [
-    Row {
-        name: "long against unsigned of 32 bits",
-        words: &["saturn_check", "--model", "ilp32", "a.c"],
-        files: &[(
-            "a.c",
-            "\
-typedef struct{int v;}spinlock_t;
-void f(spinlock_t*l){spin_lock(l);if((long)-1<1u)spin_lock(l);}",
-        )],
-        status: Status::Clean,
-        out: "\
+pub const OPTIONS: &[Row] = rows![
+    "long against unsigned of 32 bits": Clean ["saturn_check", "--model", "ilp32", "a.c"]
+        [("a.c", "typedef struct{int v;}spinlock_t;\nvoid f(spinlock_t*l){spin_lock(l);if((long)-1<1u)spin_lock(l);}")] => "\
 function f at a.c:2:6
   entry l
   exits
@@ -24,19 +14,8 @@ function f at a.c:2:6
     1 L -> - !
 total functions 1 skipped 0 rows 3 reports 0
 ",
-        err: "",
-    },
-    Row {
-        name: "long against unsigned of 64 bits",
-        words: &["saturn_check", "--model", "lp64", "a.c"],
-        files: &[(
-            "a.c",
-            "\
-typedef struct{int v;}spinlock_t;
-void f(spinlock_t*l){spin_lock(l);if((long)-1<1u)spin_lock(l);}",
-        )],
-        status: Status::Reports,
-        out: "\
+    "long against unsigned of 64 bits": Reports ["saturn_check", "--model", "lp64", "a.c"]
+        [("a.c", "typedef struct{int v;}spinlock_t;\nvoid f(spinlock_t*l){spin_lock(l);if((long)-1<1u)spin_lock(l);}")] => "\
 function f at a.c:2:6
   entry l
   exits no
@@ -54,30 +33,8 @@ function f at a.c:2:6
     2:22 error *l
 total functions 1 skipped 0 rows 2 reports 1
 ",
-        err: "",
-    },
-    Row {
-        name: "machine of three states",
-        words: &["saturn_check", "--machine", "m", "a.c"],
-        files: &[
-            (
-                "a.c",
-                "\
-struct h{int x;};
-void f(struct h*p){irq_on(p);irq_on(p);}",
-            ),
-            (
-                "m",
-                "\
-machine irq
-states off on nested
-op irq_on void off>on on>nested nested>!
-op irq_off void off>! on>off nested>on
-",
-            ),
-        ],
-        status: Status::Clean,
-        out: "\
+    "machine of three states": Clean ["saturn_check", "--machine", "m", "a.c"]
+        [("a.c", "struct h{int x;};\nvoid f(struct h*p){irq_on(p);irq_on(p);}"), ("m", INTERRUPTS)] => "\
 function f at a.c:2:6
   entry p
   exits
@@ -88,30 +45,8 @@ function f at a.c:2:6
     1 nested -> - !
 total functions 1 skipped 0 rows 4 reports 0
 ",
-        err: "",
-    },
-    Row {
-        name: "machine left by every state",
-        words: &["saturn_check", "--machine", "m", "a.c"],
-        files: &[
-            (
-                "a.c",
-                "\
-struct h{int x;};
-void f(struct h*p){irq_on(p);irq_on(p);irq_on(p);}",
-            ),
-            (
-                "m",
-                "\
-machine irq
-states off on nested
-op irq_on void off>on on>nested nested>!
-op irq_off void off>! on>off nested>on
-",
-            ),
-        ],
-        status: Status::Reports,
-        out: "\
+    "machine left by every state": Reports ["saturn_check", "--machine", "m", "a.c"]
+        [("a.c", "struct h{int x;};\nvoid f(struct h*p){irq_on(p);irq_on(p);irq_on(p);}"), ("m", INTERRUPTS)] => "\
 function f at a.c:2:6
   entry p
   exits no
@@ -134,34 +69,8 @@ function f at a.c:2:6
     2:20 error *p
 total functions 1 skipped 0 rows 3 reports 1
 ",
-        err: "",
-    },
-    Row {
-        name: "machine lock lock taken at exit",
-        words: &["saturn_check", "--machine", "m", "a.c"],
-        files: &[
-            (
-                "a.c",
-                "\
-typedef struct{int v;}spinlock_t;
-void f(_Bool c,spinlock_t*l){spin_lock(l);}",
-            ),
-            (
-                "m",
-                "\
-machine lock
-states U L
-op spin_lock void U>L L>!
-op mutex_lock void U>L L>!
-op pthread_mutex_lock zero U>L L>!
-op spin_unlock void U>! L>U
-op mutex_unlock void U>! L>U
-op pthread_mutex_unlock zero U>! L>U
-",
-            ),
-        ],
-        status: Status::Clean,
-        out: "\
+    "machine lock lock taken at exit": Clean ["saturn_check", "--machine", "m", "a.c"]
+        [("a.c", "typedef struct{int v;}spinlock_t;\nvoid f(_Bool c,spinlock_t*l){spin_lock(l);}"), ("m", LOCK_MACHINE)] => "\
 function f at a.c:2:6
   entry c l
   exits
@@ -174,34 +83,8 @@ function f at a.c:2:6
     11 L -> - !
 total functions 1 skipped 0 rows 6 reports 0
 ",
-        err: "",
-    },
-    Row {
-        name: "machine lock double lock under a condition",
-        words: &["saturn_check", "--machine", "m", "a.c"],
-        files: &[
-            (
-                "a.c",
-                "\
-typedef struct{int v;}spinlock_t;
-void f(_Bool c,spinlock_t*l){spin_lock(l);if(c)spin_lock(l);}",
-            ),
-            (
-                "m",
-                "\
-machine lock
-states U L
-op spin_lock void U>L L>!
-op mutex_lock void U>L L>!
-op pthread_mutex_lock zero U>L L>!
-op spin_unlock void U>! L>U
-op mutex_unlock void U>! L>U
-op pthread_mutex_unlock zero U>! L>U
-",
-            ),
-        ],
-        status: Status::Reports,
-        out: "\
+    "machine lock double lock under a condition": Reports ["saturn_check", "--machine", "m", "a.c"]
+        [("a.c", "typedef struct{int v;}spinlock_t;\nvoid f(_Bool c,spinlock_t*l){spin_lock(l);if(c)spin_lock(l);}"), ("m", LOCK_MACHINE)] => "\
 function f at a.c:2:6
   entry c l
   exits
@@ -222,35 +105,8 @@ function f at a.c:2:6
     2:30 error *l
 total functions 1 skipped 0 rows 5 reports 1
 ",
-        err: "",
-    },
-    Row {
-        name: "machine lock double lock by two calls",
-        words: &["saturn_check", "--machine", "m", "a.c"],
-        files: &[
-            (
-                "a.c",
-                "\
-typedef struct{int v;}spinlock_t;
-void g(spinlock_t*l){spin_lock(l);}
-void h(spinlock_t*l){g(l);g(l);}",
-            ),
-            (
-                "m",
-                "\
-machine lock
-states U L
-op spin_lock void U>L L>!
-op mutex_lock void U>L L>!
-op pthread_mutex_lock zero U>L L>!
-op spin_unlock void U>! L>U
-op mutex_unlock void U>! L>U
-op pthread_mutex_unlock zero U>! L>U
-",
-            ),
-        ],
-        status: Status::Reports,
-        out: "\
+    "machine lock double lock by two calls": Reports ["saturn_check", "--machine", "m", "a.c"]
+        [("a.c", "typedef struct{int v;}spinlock_t;\nvoid g(spinlock_t*l){spin_lock(l);}\nvoid h(spinlock_t*l){g(l);g(l);}"), ("m", LOCK_MACHINE)] => "\
 function g at a.c:2:6
   entry l
   exits
@@ -274,6 +130,4 @@ function h at a.c:3:6
     3:22 error *l
 total functions 2 skipped 0 rows 5 reports 1
 ",
-        err: "",
-    },
 ];

@@ -1,89 +1,17 @@
 // Refusals, and two files.
 
-use crate::rows::Row;
-use saturn_top::Status;
+use crate::rows::{Row, rows};
 
-pub static REFUSALS: [Row; 8] = [
-    Row {
-        name: "unbalanced brackets",
-        words: &["saturn_check", "a.c"],
-        files: &[("a.c", "void f(void){if(1)")],
-        status: Status::Refused,
-        out: "",
-        err: "saturn_check: a.c:1:13: unbalanced\n",
-    },
-    Row {
-        name: "bracket never closed",
-        words: &["saturn_check", "a.c"],
-        files: &[("a.c", "int a[;")],
-        status: Status::Refused,
-        out: "",
-        err: "saturn_check: a.c:1:6: unbalanced\n",
-    },
-    Row {
-        name: "byte that begins no token",
-        words: &["saturn_check", "a.c"],
-        files: &[("a.c", "int x=@;")],
-        status: Status::Refused,
-        out: "",
-        err: "saturn_check: a.c:1:7: lexical\n",
-    },
-    Row {
-        name: "machine without states",
-        words: &["saturn_check", "--machine", "m", "a.c"],
-        files: &[
-            (
-                "a.c",
-                "\
-struct h{int x;};
-",
-            ),
-            (
-                "m",
-                "\
-machine irq
-op irq_on void off>on on>nested nested>!
-op irq_off void off>! on>off nested>on
-",
-            ),
-        ],
-        status: Status::Refused,
-        out: "",
-        err: "saturn_check: machine 2\n",
-    },
-    Row {
-        name: "one name in two files",
-        words: &["saturn_check", "a.c", "b.c"],
-        files: &[("a.c", "void f(void){}"), ("b.c", "void f(void){}")],
-        status: Status::Refused,
-        out: "",
-        err: "saturn_check: duplicate f\n",
-    },
-    Row {
-        name: "one name twice in a file",
-        words: &["saturn_check", "a.c"],
-        files: &[("a.c", "void f(void){}void f(void){}")],
-        status: Status::Refused,
-        out: "",
-        err: "saturn_check: duplicate f\n",
-    },
-    Row {
-        name: "file that is missing",
-        words: &["saturn_check", "a.c", "b.c"],
-        files: &[("a.c", "")],
-        status: Status::ReadFault,
-        out: "",
-        err: "saturn_check: cannot read b.c\n",
-    },
-    Row {
-        name: "static name in two files",
-        words: &["saturn_check", "a.c", "b.c"],
-        files: &[
-            ("a.c", "static void f(void){}"),
-            ("b.c", "static void f(void){}"),
-        ],
-        status: Status::Clean,
-        out: "\
+pub const REFUSALS: &[Row] = rows![
+    "unbalanced brackets": Refused ["saturn_check", "a.c"] [("a.c", "void f(void){if(1)")] => "saturn_check: a.c:1:13: unbalanced\n",
+    "bracket never closed": Refused ["saturn_check", "a.c"] [("a.c", "int a[;")] => "saturn_check: a.c:1:6: unbalanced\n",
+    "byte that begins no token": Refused ["saturn_check", "a.c"] [("a.c", "int x=@;")] => "saturn_check: a.c:1:7: lexical\n",
+    "machine without states": Refused ["saturn_check", "--machine", "m", "a.c"]
+        [("a.c", "struct h{int x;};\n"), ("m", "machine irq\nop irq_on void off>on on>nested nested>!\nop irq_off void off>! on>off nested>on\n")] => "saturn_check: machine 2\n",
+    "one name in two files": Refused ["saturn_check", "a.c", "b.c"] [("a.c", "void f(void){}"), ("b.c", "void f(void){}")] => "saturn_check: duplicate f\n",
+    "one name twice in a file": Refused ["saturn_check", "a.c"] [("a.c", "void f(void){}void f(void){}")] => "saturn_check: duplicate f\n",
+    "file that is missing": ReadFault ["saturn_check", "a.c", "b.c"] [("a.c", "")] => "saturn_check: cannot read b.c\n",
+    "static name in two files": Clean ["saturn_check", "a.c", "b.c"] [("a.c", "static void f(void){}"), ("b.c", "static void f(void){}")] => "\
 function f at a.c:1:13
   entry -
   exits
@@ -94,6 +22,4 @@ function f at b.c:1:13
     - -> -
 total functions 2 skipped 0 rows 2 reports 0
 ",
-        err: "",
-    },
 ];

@@ -2,7 +2,7 @@
 //! those that the function needs, and the text of its run; or the first reason why there is none.
 //!
 //! `named` finds the function, `spared` the functions that it does not need, `needed` the verdicts of the others as a
-//! work over the plan, `telling` the whole, and `told` is what comes out.
+//! work over the plan, `telling` the whole, and `told` is what comes out. The trees that are replayed (`Sources`) are passed on.
 #![tactic(auto)]
 
 mod named;
@@ -13,3 +13,4 @@ mod told;
 
 pub use telling::{Asked, tell};
 pub use told::Told;
+pub use whole_checks::Sources;

@@ -4,10 +4,9 @@ use Rattle.std.proofs.lemmas.Result.{IfOk-weaker}
 use Rattle.sc_input.specs.Input.{Outside, IsInput, Refuse}
 use Rattle.top_answers.specs.Answer.{Due}
 use Rattle.top_answers.specs.Promises.{around}
-use Rattle.saturn_top.specs.Checks.{machine_of, files_of}
-use Rattle.run_top.specs.Runs.{IsFound, refused, read}
+use Rattle.run_top.specs.Runs.{machine_of, files_of, IsFound, refused, read}
 use Rattle.top_answers.specs.Seen.{seen}
-use Rattle.saturn_top.proofs.Machines.{input_whole}
+use Rattle.run_top.proofs.Machines.{input_whole}
 use Rattle.run_top.proofs.running.find.Goals as goal
 
 pub answer_for-requires : goal.answer_for-requires
