@@ -97,8 +97,7 @@ fn with_names(alloc: Global, names: Interner, unit: Unit) -> Option<Reading> {
 // What this text is read as.
 fn read_alone(alloc: Global, text: &str) -> Option<Reading> {
     let mut names = Interner::new(alloc);
-    let found = read(alloc, &mut names, text);
-    match found {
+    match read(alloc, &mut names, text) {
         Ok(unit) => with_names(alloc, names, unit),
         Err(_) => None,
     }

@@ -9,6 +9,6 @@ pub enum Replayed {
     Skipped,
     /// No choice of the function is spelled so.
     BadChoice,
-    /// The text of the run.
-    Text(Vec<u8>),
+    /// The run, in the form that was asked for.
+    Told(Vec<u8>),
 }

@@ -9,10 +9,11 @@ ghost use Rattle.layout_base.specs.Seen as laid;
 ghost use Rattle.program_verdicts.specs.Verdicts.{texts};
 ghost use Rattle.choice_texts.specs.Choices.{choice_spelled};
 ghost use Rattle.fn_replay.specs.Replays.{on_choice, replay_of, replay_given, HasWholeMachine};
-ghost use Rattle.fn_replay.specs.Seen.{seen};
+ghost use Rattle.fn_replay.specs.Seen.{form_of, seen};
 
+use crate::forms::Form;
 use crate::replayed::Replayed;
-use crate::running::text_of_run;
+use crate::running::tell_run;
 use choice_texts::read_choice;
 use fsm_spec::{locks, whole_machines};
 use layout_base::{Ground, Places};
@@ -25,9 +26,11 @@ use sc_typed::{Function, Program, TBody};
 use std::alloc::Global;
 use sum_rows::Verdict;
 
-/// Which run is replayed, and how far it goes.
-#[derive(Clone, Copy, Debug)]
+/// Which run is replayed, in which form, and how far it goes.
+#[derive(Clone, Copy)]
 pub struct Run<'a> {
+    /// The form in which the run is told.
+    pub form: Form<'a>,
     /// The number of the function.
     pub function: u32,
     /// The digits that spell the choice.
@@ -42,6 +45,7 @@ pub struct Run<'a> {
 #[tactic(auto, unfolding(layout_base::specs::Seen::ground_of))]
 fn on_choice<'p>(
     alloc: Global,
+    form: Form<'_>,
     here: &Context<'p, '_>,
     function: &'p Function,
     layout: &Places<'p>,
@@ -49,7 +53,7 @@ fn on_choice<'p>(
 ) -> Result<Replayed, OutOfMemory>
     requires whole { IsWhole (source_of here.now).machine }
     requires laid { laying.places (source_of here.now) ≡ Ok (laid.layout_of layout.now) }
-    ensures { IfOk result (λ r. seen r ≡ on_choice here.now.program.now (source_of here.now)
+    ensures { IfOk result (λ r. seen r ≡ on_choice (form_of form.entry) here.now.program.now function.now (source_of here.now)
         (texts here.now.program.now function.now (laid.layout_of layout.now)) (Some choice.now)) }
 {
     layouts_are_closed();
@@ -67,14 +71,15 @@ fn on_choice<'p>(
         function,
         places: layout,
     };
-    let text = text_of_run(alloc, given, &names, choice)?;
-    Ok(Replayed::Text(text))
+    let told = tell_run(alloc, form, given, &names, choice)?;
+    Ok(Replayed::Told(told))
 }
 
 // The same on the choice that digits spell.
 #[tactic(auto, unfolding(layout_base::specs::Seen::layout_of))]
 fn on_digits<'p>(
     alloc: Global,
+    form: Form<'_>,
     here: &Context<'p, '_>,
     function: &'p Function,
     layout: &Places<'p>,
@@ -82,12 +87,12 @@ fn on_digits<'p>(
 ) -> Result<Replayed, OutOfMemory>
     requires whole { IsWhole (source_of here.now).machine }
     requires laid { laying.places (source_of here.now) ≡ Ok (laid.layout_of layout.now) }
-    ensures { IfOk result (λ r. seen r ≡ on_choice here.now.program.now (source_of here.now)
+    ensures { IfOk result (λ r. seen r ≡ on_choice (form_of form.entry) here.now.program.now function.now (source_of here.now)
         (texts here.now.program.now function.now (laid.layout_of layout.now))
         (choice_spelled (laid.layout_of layout.now).bits digits.now)) }
 {
     match read_choice(alloc, digits, layout.bits)? {
-        Some(choice) => on_choice(alloc, here, function, layout, choice.as_slice()),
+        Some(choice) => on_choice(alloc, form, here, function, layout, choice.as_slice()),
         None => Ok(Replayed::BadChoice),
     }
 }
@@ -95,6 +100,7 @@ fn on_digits<'p>(
 // The replay of the function at hand, which has a body.
 fn of_body<'p>(
     alloc: Global,
+    form: Form<'_>,
     here: &Context<'p, '_>,
     function: &'p Function,
     digits: &[u8],
@@ -102,7 +108,7 @@ fn of_body<'p>(
     requires whole { IsWhole (source_of here.now).machine }
     requires given { source_of here.now ≡ source here.now.program.now here.now.function here.now.kept.now here.now.verdicts.now
         here.now.depth here.now.reach }
-    ensures { IfOk result (λ r. seen r ≡ replay_of here.now.program.now (source_of here.now)
+    ensures { IfOk result (λ r. seen r ≡ replay_of (form_of form.entry) here.now.program.now function.now (source_of here.now)
         (texts here.now.program.now function.now) digits.now) }
 {
     match places(
@@ -114,7 +120,7 @@ fn of_body<'p>(
         here.depth,
         here.reach,
     ) {
-        Ok(layout) => on_digits(alloc, here, function, &layout, digits),
+        Ok(layout) => on_digits(alloc, form, here, function, &layout, digits),
         Err(PlaceAnswer::Limit(_, _)) => Ok(Replayed::Skipped),
         Err(PlaceAnswer::OutOfMemory) => Err(OutOfMemory),
     }
@@ -122,7 +128,7 @@ fn of_body<'p>(
 
 /// The replay of a run. `kept` are the kept callees of its function, ascending, and `verdicts` has the verdict of each.
 /// It is `Skipped` exactly where the function is skipped, be it for a limit, and `BadChoice` where no choice of the
-/// function is spelled by the digits; else the text of the run, however it ends. A number that no function has is
+/// function is spelled by the digits; else the run in that form, however it ends. A number that no function has is
 /// answered by `Skipped`.
 ///
 /// # Errors
@@ -137,7 +143,7 @@ pub fn replay_run<'p>(
     run: Run<'_>,
 ) -> Result<Replayed, OutOfMemory>
     requires whole { HasWholeMachine program.now }
-    ensures { IfOk result (λ r. seen r ≡ replay_given program.now run.entry.depth run.entry.reach run.entry.function kept.now
+    ensures { IfOk result (λ r. seen r ≡ replay_given (form_of run.entry.form) program.now run.entry.depth run.entry.reach run.entry.function kept.now
         verdicts.now run.entry.digits.now) }
 {
     whole_machines();
@@ -150,6 +156,7 @@ pub fn replay_run<'p>(
     match &program.machine {
         Some(machine) => of_body(
             alloc,
+            run.form,
             &Context {
                 program,
                 machine,
@@ -170,6 +177,7 @@ pub fn replay_run<'p>(
             };
             of_body(
                 alloc,
+                run.form,
                 &Context {
                     program,
                     machine: &machine,

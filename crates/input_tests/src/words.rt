@@ -152,6 +152,7 @@ const RUN: &[&str] = &[
 fn is_run_of_f(asked: &RunWords) -> bool {
     asked.function == "f"
         && asked.choice == "4f"
+        && asked.format == Format::Text
         && asked.options.depth == 8
         && asked.options.reach == 2
         && asked.options.widths == Widths::Ilp32
@@ -259,6 +260,16 @@ const BAD_RUNS: &[&[&str]] = &[
         "4",
         "--jobs",
         "1",
+        "a.c",
+    ],
+    &[
+        "saturn_run",
+        "--function",
+        "f",
+        "--choice",
+        "4",
+        "--format",
+        "sarif",
         "a.c",
     ],
 ];

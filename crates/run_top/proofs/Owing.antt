@@ -7,7 +7,7 @@ use Rattle.sc_input.specs.Input.{Outside}
 use Rattle.sc_input.specs.declared.refusal.Refusal.{Refusal}
 use Rattle.sc_input.specs.declared.refusal.Refusal.TheVariants as refusal
 use Rattle.saturn_words.specs.declared.asked.RunWords.{RunWords}
-use Rattle.whole_replays.specs.Told.{Told, Text, Twice, Beyond, NoFunction, Skipped, BadChoice}
+use Rattle.whole_replays.specs.Told.{Told, Run, Twice, Beyond, NoFunction, Skipped, BadChoice}
 use Rattle.top_answers.specs.declared.status.Status.{Status}
 use Rattle.top_answers.specs.declared.status.Status.TheVariants.{Reports, Refused, ReadFault, WriteFault}
 use Rattle.top_answers.specs.Answer.{Due, ToOutput, ToErrors, IsAnswered}
@@ -29,7 +29,7 @@ sound words = record {
 
 module _ (words : List (List ℕ)) (outside : Outside) where
   owing_told : (program name : List ℕ) (t : Told) → Owed (wording words) outside (due_of_told program name t)
-  owing_told program name (Text bytes) = text _ bytes (inl refl)
+  owing_told program name (Run bytes) = text _ bytes (inl refl)
   owing_told program name (Twice twice) = owed.refusal _
   owing_told program name (Beyond kind count) = owed.refusal _
   owing_told program name NoFunction = owed.refusal _
@@ -55,7 +55,7 @@ HasNone (ToOutput due bytes) = due ≡ Reports → ⊥
 HasNone (ToErrors due bytes) = due ≡ Reports → ⊥
 
 none_told : (program name : List ℕ) (t : Told) → HasNone (due_of_told program name t)
-none_told program name (Text bytes) = λ e. cc
+none_told program name (Run bytes) = λ e. cc
 none_told program name (Twice twice) = λ e. cc
 none_told program name (Beyond kind count) = λ e. cc
 none_told program name NoFunction = λ e. cc

@@ -1,5 +1,5 @@
 -- Which answer `saturn_run` owes: help or bad words, where the words ask for that or have a fault; else the first refusal
--- of the files that they name; else the text of the run, or the line that says why there is none.
+-- of the files that they name; else the run as text or as JSON, or the line that says why there is none.
 
 use Rattle.std.specs.Prelude.{◌≡◌, ◌⊎◌, ℕ, true, List, [], Option, Some, map, option_map, codes}
 use Rattle.clap.specs.Words.{App, Row}
@@ -7,13 +7,17 @@ use Rattle.sc_base.specs.Held.{is_named}
 use Rattle.sc_input.specs.declared.input.Input.{Input}
 use Rattle.sc_input.specs.declared.refusal.Refusal.{Refusal}
 use Rattle.sc_input.specs.Input.{Outside, IsInput, Refuse}
+use Rattle.line_marks.specs.declared.marks.Mark.{Mark}
+use Rattle.saturn_words.specs.declared.asked.Format.{Format}
+use Rattle.saturn_words.specs.declared.asked.Format.TheVariants as form
 use Rattle.saturn_words.specs.declared.asked.Options.{Options}
 use Rattle.saturn_words.specs.declared.asked.RunWords.{RunWords}
 use Rattle.saturn_words.specs.Commands.{IsRun}
 use Rattle.saturn_words.specs.declared.words.NoWords.{NoWords}
 use Rattle.saturn_words.specs.Words.{AskForNothing, CallForHelp, HaveFault, Give, HaveRun, faults}
+use Rattle.whole_replays.specs.Forms.{Form, AsText, AsJson}
 use Rattle.whole_replays.specs.Typed.{Sources}
-use Rattle.whole_replays.specs.Told.{Told, Text, Twice, Beyond, NoFunction, Skipped, BadChoice, told}
+use Rattle.whole_replays.specs.Told.{Told, Run, Twice, Beyond, NoFunction, Skipped, BadChoice, told}
 use Rattle.top_answers.specs.declared.status.Status.TheVariants.{Clean, BadWords, Helped}
 use Rattle.top_answers.specs.Answer.{Due, ToOutput, ToErrors}
 use Rattle.top_answers.specs.Lines.{limit_tail, twice_tail}
@@ -21,11 +25,11 @@ use Rattle.top_answers.specs.Promises.{Wording}
 use Rattle.top_answers.specs.Refusals.{due_of_refusal, refused_with}
 use Rattle.run_top.specs.Lines.{no_function_tail, skipped_tail, bad_choice_tail}
 
--- ---- the text of the run
+-- ---- the run
 
 -- What is due for what is told of the function of this name. A run is Clean however it ends.
 abbrev pub due_of_told : (program name : List ℕ) → Told → Due
-due_of_told program name (Text bytes) = ToOutput Clean bytes
+due_of_told program name (Run bytes) = ToOutput Clean bytes
 due_of_told program name (Twice twice) = refused_with program (twice_tail twice)
 due_of_told program name (Beyond kind count) = refused_with program (limit_tail kind count)
 due_of_told program name NoFunction = refused_with program (no_function_tail name)
@@ -44,10 +48,15 @@ machine_of options = option_map (λ name. name.now) options.machine
 abbrev pub files_of : Options → List (List ℕ)
 files_of options = map (λ name. name.now) options.files.items
 
+-- the form that the words name, with the line markers of the files
+abbrev pub form_as : Format → (marks : List (List Mark)) → Form
+form_as form.Text marks = AsText
+form_as form.Json marks = AsJson marks
+
 -- what is told of the input
 abbrev pub told_of : RunWords → Input → Told
 told_of asked input =
-    told (sources_of asked.options input) asked.options.depth asked.options.reach asked.function.now asked.choice.now
+    told (form_as asked.format input.marks) (sources_of asked.options input) asked.options.depth asked.options.reach asked.function.now asked.choice.now
 
 -- What is due for what the words ask for and the files outside: the first refusal, or what is told of the input.
 pub data IsFound (asked : RunWords) (outside : Outside) : Due → Type 0 where

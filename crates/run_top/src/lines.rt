@@ -20,7 +20,7 @@ pub(crate) fn answer_of(
     ensures { IfOk result (λ answer. seen answer ≡ due_of_told program.now name.now (replay.seen told)) }
 {
     match told {
-        Told::Text(text) => Ok(Answer::Output(Status::Clean, text)),
+        Told::Run(bytes) => Ok(Answer::Output(Status::Clean, bytes)),
         Told::Twice(twice) => {
             let line = name_line(alloc, program, b"duplicate ", &twice)?;
             Ok(Answer::Errors(Status::Refused, line))

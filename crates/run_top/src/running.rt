@@ -4,17 +4,21 @@ ghost use Rattle.std.specs.Prelude.{◌≡◌, ◌≢◌, ℕ, List, map, string
 ghost use Rattle.sc_input.specs.Input.{Outside};
 ghost use Rattle.top_answers.specs.Promises.{around, change, Promises};
 ghost use Rattle.top_answers.specs.Seen.{seen};
+ghost use Rattle.whole_replays.specs.Forms.{form_of};
 ghost use Rattle.whole_replays.specs.Said.{HasWholeMachine};
-ghost use Rattle.run_top.specs.Runs.{due_of_told, told_of, IsDue, IsFound, AskNothing, wording};
+ghost use Rattle.run_top.specs.Runs.{due_of_told, form_as, told_of, IsDue, IsFound, AskNothing, wording};
+ghost use Rattle.whole_replays.specs.Forms.{form_of};
+ghost use Rattle.whole_replays.specs.Said.{HasWholeMachine};
+ghost use Rattle.run_top.specs.Runs.{due_of_told, form_as, told_of, IsDue, IsFound, AskNothing, wording};
 
-use crate::lines::answer_of;
-use fsm_spec::whole_machines;
-use saturn_words::{NoWords, RunWords, run_words};
+use crate::lines::{answer_of, answer_of};
+use fsm_spec::{whole_machines, whole_machines};
+use line_marks::{LineMarks, LineMarks};
+use saturn_words::{Format, Format, NoWords, NoWords, RunWords, RunWords, run_words, run_words};
 use sc_base::{Files, OutOfMemory, Sink};
 use sc_input::{Input, read_input};
 use std::alloc::Global;
 use top_answers::{Answer, Status, give, refused};
-use whole_replays::{Asked, Sources, tell};
 
 // What is due for the input.
 fn answer_for(alloc: Global, asked: &RunWords, input: Input) -> Result<Answer, OutOfMemory>
@@ -25,6 +29,7 @@ fn answer_for(alloc: Global, asked: &RunWords, input: Input) -> Result<Answer, O
         names,
         files,
         units,
+        marks,
         machine,
         ..
     } = input;
@@ -38,6 +43,7 @@ fn answer_for(alloc: Global, asked: &RunWords, input: Input) -> Result<Answer, O
     };
     let name = asked.function.as_bytes();
     let replayed = Asked {
+        form: form_as(asked.format, marks.as_slice()),
         name,
         digits: asked.choice.as_bytes(),
         depth: options.depth,
@@ -88,7 +94,7 @@ fn answer<F: Files>(
 /// order of the program. `words` are the program's name and the words of `saturn_run`. It works on the calling thread,
 /// and always returns.
 ///
-/// The text of the run, or that of help, goes to `out`; the line that says why there is none goes to `err`. Either is
+/// The run as text or as JSON, or the text of help, goes to `out`; the line that says why there is none goes to `err`. Either is
 /// made whole before its first byte is written. The status of a run is `Clean`, however the run ends.
 pub fn run_main<F: Files, O: Sink, E: Sink>(
     alloc: Global,

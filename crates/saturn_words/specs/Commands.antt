@@ -61,11 +61,12 @@ check_command models formats =
     (options models
     (word_option (codes "format") formats ∷ number_option (codes "jobs") (pos 1) (pos 64) ∷ files_argument ∷ []))
 
--- `saturn_run [--depth D] [--reach R] [--model M] [--machine FILE] --function NAME --choice HEX FILE ..`
-unfoldable pub run_command : Bor (List (Bor Text)) → App
-run_command models =
+-- `saturn_run [--depth D] [--reach R] [--model M] [--machine FILE] [--format WORD] --function NAME --choice HEX FILE ..`
+unfoldable pub run_command : (models formats : Bor (List (Bor Text))) → App
+run_command models formats =
     command (codes "saturn_run")
-    (options models (needed_option (codes "function") ∷ needed_option (codes "choice") ∷ files_argument ∷ []))
+    (options models
+    (word_option (codes "format") formats ∷ needed_option (codes "function") ∷ needed_option (codes "choice") ∷ files_argument ∷ []))
 
 -- `saturn_bench [--jobs J] N SEED`
 unfoldable pub bench_command : App
@@ -100,7 +101,9 @@ IsCheck command =
     × (formats : Bor (List (Bor Text))) × AreFormats formats × (command ≡ check_command models formats)
 
 abbrev pub IsRun : App → Type 0
-IsRun command = (models : Bor (List (Bor Text))) × AreModels models × (command ≡ run_command models)
+IsRun command =
+    (models : Bor (List (Bor Text))) × AreModels models
+    × (formats : Bor (List (Bor Text))) × AreFormats formats × (command ≡ run_command models formats)
 
 abbrev pub IsBench : App → Type 0
 IsBench command = command ≡ bench_command

@@ -54,6 +54,7 @@ pub record HaveCheck (rows : List Row) (asked : CheckWords) : Type 0 where
 
 pub record HaveRun (rows : List Row) (asked : RunWords) : Type 0 where
   pub options : HaveOptions rows asked.options
+  pub format : asked.format ≡ format_of (first_of (codes "format") rows)
   pub function : Some asked.function.now ≡ first_of (codes "function") rows
   pub choice : Some asked.choice.now ≡ first_of (codes "choice") rows
 

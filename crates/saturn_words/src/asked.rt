@@ -23,10 +23,10 @@ pub struct Options<'a> {
     pub files: Vec<&'a str>,
 }
 
-/// The form of what is said of the files.
+/// The form of what is said of the files, or of a run.
 #[derive(Clone, Copy, Debug, PartialEq, Eq)]
 pub enum Format {
-    /// The text of the whole check.
+    /// The text of the whole check, or of the run.
     Text,
     /// The same as one value of JSON.
     Json,
@@ -46,6 +46,8 @@ pub struct CheckWords<'a> {
 #[derive(Debug, Drop)]
 pub struct RunWords<'a> {
     pub options: Options<'a>,
+    /// The form of the output.
+    pub format: Format,
     /// The name of the function that is run.
     pub function: &'a str,
     /// The choice, in hexadecimal digits.
@@ -166,8 +168,10 @@ pub fn run_of<'a>(alloc: Global, matches: &ArgMatches<'a>) -> Option<RunWords<'a
     let options = options_of(alloc, matches)?;
     let function = matches.get_str("function")?;
     let choice = matches.get_str("choice")?;
+    let format = format_of(matches.get_str("format"));
     Some(RunWords {
         options,
+        format,
         function,
         choice,
     })

@@ -170,10 +170,15 @@ Example:
   saturn_run --function open_device --choice 86 driver.c";
 
 /// The command of `saturn_run`.
-pub fn run_command<'a>(alloc: Global, models: &'a [&'a str]) -> Result<Command<'a>, AllocError>
-    ensures { IfOk result (λ made. app_of made ≡ run_command models.entry) }
+pub fn run_command<'a>(
+    alloc: Global,
+    models: &'a [&'a str],
+    formats: &'a [&'a str],
+) -> Result<Command<'a>, AllocError>
+    ensures { IfOk result (λ made. app_of made ≡ run_command models.entry formats.entry) }
 {
     with_options(alloc, "saturn_run", models, RUN_END)?
+        .arg(word_option(alloc, "format", formats, "the form of the output (text)"))?
         .arg(needed_option(alloc, "function", "the name of the function that is run"))?
         .arg(needed_option(
             alloc,

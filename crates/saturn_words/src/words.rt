@@ -84,7 +84,7 @@ pub fn run_words<'a>(alloc: Global, words: &'a [String]) -> Result<RunWords<'a>,
     ensures nothing { IfErr result (λ why. (command : App) × IsRun command
         × AskForNothing command (map string_bytes words.entry.now) why) }
 {
-    let command = match run_command(alloc, MODELS.as_slice()) {
+    let command = match run_command(alloc, MODELS.as_slice(), FORMATS.as_slice()) {
         Ok(command) => command,
         Err(_) => return Err(NoWords::Memory),
     };

@@ -1,4 +1,4 @@
-// Replays of runs: each has its text. Where there is none, each reason has its line.
+// Replays of runs: each has its text, and as JSON its value. Where there is none, each reason has its line.
 
 use crate::rows::{Call, INTERRUPTS, Ran, Row, rows, run};
 use saturn_top::Status;
@@ -53,6 +53,47 @@ outcome error *l
 2:40 error *p
 outcome error *p
 ",
+];
+
+/// Replays as JSON. The values were worked out from `docs/JSON.md` and the texts of the same runs.
+pub const JSON_REPLAYS: &[Row] = rows![
+    "an error, and what its choice says": Clean ["saturn_run", "--format", "json", "--function", "f", "--choice", "c", "a.c"]
+        [("a.c", DOUBLE)] => "\
+{\"format\":\"nalvegop run\",\"version\":1,\"options\":{\"depth\":2,\"reach\":2,\"model\":\"ilp32\",\"machine\":\"lock\",\"states\":[\"U\",\"L\"]},\
+\"function\":{\"name\":\"f\",\"place\":{\"file\":\"a.c\",\"line\":2,\"column\":6,\"source\":{\"file\":\"a.c\",\"line\":2}},\"in_header\":false},\
+\"run\":{\"choice\":\"c\",\"location\":\"*l\",\"events\":[{\"place\":{\"file\":\"a.c\",\"line\":2,\"column\":30,\"source\":{\"file\":\"a.c\",\
+\"line\":2}},\"kind\":\"call\",\"callee\":\"spin_lock\"},{\"place\":{\"file\":\"a.c\",\"line\":2,\"column\":43,\"source\":{\"file\":\"a.c\",\
+\"line\":2}},\"kind\":\"if\",\"holds\":true},{\"place\":{\"file\":\"a.c\",\"line\":2,\"column\":48,\"source\":{\"file\":\"a.c\",\"line\":2}},\
+\"kind\":\"call\",\"callee\":\"spin_lock\"},{\"place\":{\"file\":\"a.c\",\"line\":2,\"column\":48,\"source\":{\"file\":\"a.c\",\"line\":2}},\
+\"kind\":\"error\"}],\"says\":[{\"kind\":\"cell\",\"location\":\"c\",\"value\":{\"number\":\"1\"}},{\"kind\":\"cell\",\"location\":\"l\",\
+\"value\":{\"object\":\"*l\"}},{\"kind\":\"state\",\"location\":\"*l\",\"value\":{\"state\":\"U\"}}]},\"outcome\":\"error\"}",
+    "a run that is set aside": Clean ["saturn_run", "--function", "f", "--choice", "8000000000000000", "a.c", "--model", "lp64", "--depth", "3", "--reach", "1", "--format=json"]
+        [("a.c", DIVIDE)] => "\
+{\"format\":\"nalvegop run\",\"version\":1,\"options\":{\"depth\":3,\"reach\":1,\"model\":\"lp64\",\"machine\":\"lock\",\"states\":[\"U\",\"L\"]},\
+\"function\":{\"name\":\"f\",\"place\":{\"file\":\"a.c\",\"line\":1,\"column\":5,\"source\":{\"file\":\"a.c\",\"line\":1}},\"in_header\":false},\
+\"run\":{\"choice\":\"8000000000000000\",\"location\":\"\",\"events\":[],\"says\":[{\"kind\":\"cell\",\"location\":\"a\",\
+\"value\":{\"number\":\"-2147483648\"}},{\"kind\":\"cell\",\"location\":\"b\",\"value\":{\"number\":\"0\"}}]},\"outcome\":{\"aside\":\"divide\"}}",
+    "a run without bits that comes to its end": Clean ["saturn_run", "--format", "json", "--function", "f", "--choice", "none", "a.c"]
+        [("a.c", "void f(void){}")] => "\
+{\"format\":\"nalvegop run\",\"version\":1,\"options\":{\"depth\":2,\"reach\":2,\"model\":\"ilp32\",\"machine\":\"lock\",\"states\":[\"U\",\"L\"]},\
+\"function\":{\"name\":\"f\",\"place\":{\"file\":\"a.c\",\"line\":1,\"column\":6,\"source\":{\"file\":\"a.c\",\"line\":1}},\"in_header\":false},\
+\"run\":{\"choice\":\"none\",\"location\":\"\",\"events\":[{\"place\":{\"file\":\"a.c\",\"line\":1,\"column\":14,\"source\":{\"file\":\"a.c\",\
+\"line\":1}},\"kind\":\"end\"}],\"says\":[]},\"outcome\":\"exit\"}",
+    "known calls behind a line marker": Clean ["saturn_run", "--format", "json", "--function", "h", "--choice", "98", "a.c", "b.c"]
+        [("a.c", "typedef struct{int v;}spinlock_t;\nvoid g(spinlock_t*l){spin_lock(l);}"), ("b.c", "# 10 \"src/h.c\"\ntypedef struct{int v;}spinlock_t;\nvoid g(spinlock_t*l);\nvoid h(spinlock_t*l){g(l);g(l);}")] => "\
+{\"format\":\"nalvegop run\",\"version\":1,\"options\":{\"depth\":2,\"reach\":2,\"model\":\"ilp32\",\"machine\":\"lock\",\"states\":[\"U\",\"L\"]},\
+\"function\":{\"name\":\"h\",\"place\":{\"file\":\"b.c\",\"line\":4,\"column\":6,\"source\":{\"file\":\"src/h.c\",\"line\":12}},\"in_header\":false},\
+\"run\":{\"choice\":\"98\",\"location\":\"*l\",\"events\":[{\"place\":{\"file\":\"b.c\",\"line\":4,\"column\":22,\"source\":{\"file\":\"src/h.c\",\
+\"line\":12}},\"kind\":\"call\",\"callee\":\"g\"},{\"place\":{\"file\":\"b.c\",\"line\":4,\"column\":27,\"source\":{\"file\":\"src/h.c\",\
+\"line\":12}},\"kind\":\"call\",\"callee\":\"g\"},{\"place\":{\"file\":\"b.c\",\"line\":4,\"column\":27,\"source\":{\"file\":\"src/h.c\",\
+\"line\":12}},\"kind\":\"error\"}],\"says\":[{\"kind\":\"cell\",\"location\":\"l\",\"value\":{\"object\":\"*l\"}},{\"kind\":\"state\",\
+\"location\":\"*l\",\"value\":{\"state\":\"U\"}},{\"kind\":\"item\",\"place\":{\"file\":\"b.c\",\"line\":4,\"column\":22,\
+\"source\":{\"file\":\"src/h.c\",\"line\":12}},\"turn\":0,\"item\":\"state\",\"path\":{\"text\":\"*l\",\"root\":{\"kind\":\"parameter\",\"number\":0,\
+\"name\":\"l\"},\"steps\":[\"target\"]},\"value\":{\"state\":\"L\"}},{\"kind\":\"item\",\"place\":{\"file\":\"b.c\",\"line\":4,\"column\":27,\
+\"source\":{\"file\":\"src/h.c\",\"line\":12}},\"turn\":0,\"item\":\"state\",\"path\":{\"text\":\"*l\",\"root\":{\"kind\":\"parameter\",\"number\":0,\
+\"name\":\"l\"},\"steps\":[\"target\"]},\"value\":\"error\"}]},\"outcome\":\"error\"}",
+    "a choice that is refused as in text": Refused ["saturn_run", "--format", "json", "--function", "f", "--choice", "5", "a.c"]
+        [("a.c", DOUBLE)] => "saturn_run: bad choice\n",
 ];
 
 /// Where there is no run: each reason has its line.

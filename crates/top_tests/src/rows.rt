@@ -7,7 +7,7 @@ use crate::memory::MEMORY;
 use crate::numbers::NUMBERS;
 use crate::options::OPTIONS;
 use crate::refusals::REFUSALS;
-use crate::replays::{REPLAYS, UNREPLAYED};
+use crate::replays::{JSON_REPLAYS, REPLAYS, UNREPLAYED};
 use crate::skips::SKIPS;
 use run_top::run_main;
 use saturn_top::{Status, check_alone};
@@ -229,6 +229,7 @@ fn each_refusal_has_its_line(rt: HostRuntime) {
 #[test]
 fn each_choice_has_its_run(rt: HostRuntime) {
     expect(&rt, rt.alloc(), Call::Replay, REPLAYS);
+    expect(&rt, rt.alloc(), Call::Replay, JSON_REPLAYS);
 }
 
 #[test]

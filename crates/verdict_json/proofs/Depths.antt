@@ -56,11 +56,11 @@ use Rattle.report_text.specs.Checks.{skipped_in, rows_in, reports_in}
 use Rattle.report_text.specs.Functions.{entry_params}
 use Rattle.json_places.specs.Arrays.{array_by}
 use Rattle.json_places.specs.Places.{source_value, source_at, place_value}
-use Rattle.verdict_json.specs.Tellings.{Says, says_by, says_of, source_among}
+use Rattle.verdict_json.specs.Tellings.{Says, says_by, says_of, says_with, source_among}
 use Rattle.verdict_json.specs.Reasons.{limit_value, grammar_value, kind_value, skip_value}
 use Rattle.json_places.specs.Paths.{rooted_value, field_value, element_value, step_value, root_value, path_value}
 use Rattle.verdict_json.specs.Rows.{bits_values, entry_value, named_state, state_value, row_value, rows_value, end_value, location_value, parameter_item, value_of_item, item_value, write_value}
-use Rattle.verdict_json.specs.Runs.{callee_value, what_members, event_place, event_value, run_value}
+use Rattle.verdict_json.specs.Runs.{callee_value, what_members, event_place, event_value, ran_value, run_value}
 use Rattle.verdict_json.specs.Reports.{runs_value, location_report, inner_report, leak_report, report_value}
 use Rattle.verdict_json.specs.Functions.{parameter_value, summary_members, skipped_members, done_members, verdict_members, function_value}
 use Rattle.verdict_json.specs.Checks.{state_name, count_of_states, options_value, totals_value, totals_of, file_value, functions_values, functions_value, found_members, check_value}
@@ -77,7 +77,7 @@ source_depth : (o : Origin) → depth (source_value o) ≤ 1
 unfolding source_value
 source_depth o = omega arith
 
-place_depth : (p : Program) (marks : List (List Mark)) (at : Pos) → depth (place_value p marks at) ≤ 2
+pub place_depth : (p : Program) (marks : List (List Mark)) (at : Pos) → depth (place_value p marks at) ≤ 2
 unfolding place_value
 place_depth p marks at = omega (arith, source_depth (source_at p marks at.file at.line))
 
@@ -237,19 +237,28 @@ says_depth p marks s x choice =
     (said (length s.machine.states) choice (things s x.layout))
 
 -- a member that tells a choice nests no deeper than this
-abbrev IsShallow : Says → Type 0
+abbrev pub IsShallow : Says → Type 0
 IsShallow says = (choice : List Bool) → members_depth (says choice no_members) ≤ 5
+
+pub with_depth : (p : Program) (marks : List (List Mark)) (s : Source) (x : Texts) → IsShallow (says_with p marks s x)
+with_depth p marks s x choice = omega (arith, says_depth p marks s x choice)
 
 told_depth : (p : Program) (marks : List (List Mark)) (s : Source) (x : Layout → Texts) (l : Result Layout LimitKind)
     → IsShallow (says_by p marks s x l)
 unfolding says_by
 told_depth p marks s x (Err e) choice = omega arith
-told_depth p marks s x (Ok l) choice = omega (arith, says_depth p marks s (x l) choice)
+told_depth p marks s x (Ok l) choice = with_depth p marks s (x l) choice
 
 module _ (p : Program) (marks : List (List Mark)) (says : Says) (shallow : IsShallow says) where
+  pub ran_depth : (file : ℕ) (choice : List Bool) (location : List ℕ) (events : List Event)
+      → depth (ran_value p marks file says choice location events) ≤ 6
+  unfolding ran_value
+  ran_depth file choice location events =
+      omega (arith, by_depth (event_value p marks file) 3 (event_depth p marks file) events, shallow choice)
+
   run_depth : (file : ℕ) (s : Shown) → depth (run_value p marks file says s) ≤ 6
   unfolding run_value
-  run_depth file s = omega (arith, by_depth (event_value p marks file) 3 (event_depth p marks file) s.trace, shallow s.choice)
+  run_depth file s = ran_depth file s.choice s.text s.trace
 
   runs_depth : (file : ℕ) (runs : List Shown) → depth (runs_value p marks says file runs) ≤ 7
   runs_depth file runs = by_depth (run_value p marks file says) 6 (run_depth file) runs
@@ -299,7 +308,7 @@ module _ (p : Program) (marks : List (List Mark)) (says : ℕ → Function → S
   unfolding functions_value
   functions_depth fs vs = omega (arith, each_function_depth 0 fs vs)
 
-options_depth : (p : Program) (d r : ℕ) → depth (options_value p d r) ≤ 2
+pub options_depth : (p : Program) (d r : ℕ) → depth (options_value p d r) ≤ 2
 unfolding options_value
 options_depth p d r =
     omega (arith, by_depth (state_name p.machine) 0 (λ n. omega arith) (range_with_len 0 (count_of_states p.machine)))

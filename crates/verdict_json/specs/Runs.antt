@@ -1,5 +1,5 @@
 -- Runs that are shown: the choice in digits, the location of an error, and the events.
-use Rattle.std.specs.Prelude.{ℕ, Option, Some, None, List, codes}
+use Rattle.std.specs.Prelude.{ℕ, Bool, Option, Some, None, List, codes}
 use Rattle.std.specs.Fmt.{signed_decimal}
 use Rattle.sc_base.specs.declared.pos.NameId.{NameId}
 use Rattle.sc_base.specs.declared.pos.Pos.{Pos}
@@ -49,9 +49,12 @@ module _ (p : Program) (marks : List (List Mark)) (file : ℕ) where
   unfoldable pub event_value : Event → Json
   event_value e = object (with (codes "place") (place_value p marks (event_place e)) (what_members p e.what))
 
-  -- with what its choice says
+  -- a run: its choice with what it says, the text of the location of its error, and its events
+  unfoldable pub ran_value : Says → (choice : List Bool) → (location : List ℕ) → List Event → Json
+  ran_value says choice location events =
+      object (with (codes "choice") (text_value (choice_text choice))
+      (with (codes "location") (text_value location)
+      (with (codes "events") (array_by event_value events) (says choice no_members))))
+
   unfoldable pub run_value : Says → Shown → Json
-  run_value says s =
-      object (with (codes "choice") (text_value (choice_text s.choice))
-      (with (codes "location") (text_value s.text)
-      (with (codes "events") (array_by event_value s.trace) (says s.choice no_members))))
+  run_value says s = ran_value says s.choice s.text s.trace

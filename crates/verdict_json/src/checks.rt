@@ -86,7 +86,12 @@ fn put_states(text: &mut JsonText, machine: &Option<MachineSpec>) -> Result<(), 
     Ok(())
 }
 
-fn put_options(text: &mut JsonText, check: &Check) -> Result<(), OutOfMemory>
+/// Puts the options of a check.
+///
+/// # Errors
+///
+/// `OutOfMemory` where memory is refused, or a count does not fit its type.
+pub fn put_options(text: &mut JsonText, check: &Check) -> Result<(), OutOfMemory>
     ensures { OnOk result (text.new ≡ text.old
         ++ json_tokens (spec.options_value check.now.program.now check.now.depth check.now.reach)) }
 {

@@ -1,7 +1,8 @@
 //! The verdicts of a whole check as JSON, for programs that show findings.
 //!
 //! `reasons`, `rows`, `runs`, `reports` and `functions` put the values of these things, each behind the tokens that are there
-//! already, and `checks` puts the whole. Places and paths, and what is read beside the verdicts, are those of `json_places`.
+//! already, and `checks` puts the whole. What one run is told with is passed on, for who tells it alone. Places and paths,
+//! and what is read beside the verdicts, are those of `json_places`.
 #![tactic(auto)]
 
 mod checks;
@@ -12,5 +13,7 @@ mod rows;
 mod runs;
 mod tellings;
 
-pub use checks::check_json;
+pub use checks::{check_json, put_options};
 pub use json_places::Check;
+pub use runs::put_ran;
+pub use tellings::Telling;

@@ -146,7 +146,35 @@ fn put_choice_member(text: &mut JsonText, alloc: Global, choice: &[bool]) -> Res
     text.bytes_member("choice", digits.as_slice())
 }
 
-/// Puts a run of a function in the file with that number, with what its choice says.
+/// Puts a run of a function in the file with that number: its choice with what it says, the text of the location of its error,
+/// and its events.
+///
+/// # Errors
+///
+/// `OutOfMemory` where memory is refused.
+pub fn put_ran(
+    text: &mut JsonText,
+    check: &Check,
+    telling: Option<Telling>,
+    file: u32,
+    choice: &[bool],
+    location: &[u8],
+    events: &[Event],
+) -> Result<(), OutOfMemory>
+    ensures { OnOk result (text.new ≡ text.old
+        ++ json_tokens (spec.ran_value check.now.program.now check.now.marks.now file (says_told check.now telling.entry)
+        choice.now location.now events.now)) }
+{
+    text.begin_object()?;
+    put_choice_member(text, check.alloc, choice)?;
+    text.bytes_member("location", location)?;
+    text.key("events")?;
+    put_events(text, check, file, events)?;
+    end_told(text, check, telling, choice)?;
+    Ok(())
+}
+
+/// The same of a run that is shown.
 pub(crate) fn put_run(
     text: &mut JsonText,
     check: &Check,
@@ -157,13 +185,15 @@ pub(crate) fn put_run(
     ensures { OnOk result (text.new ≡ text.old
         ++ json_tokens (spec.run_value check.now.program.now check.now.marks.now file (says_told check.now telling.entry) run.now)) }
 {
-    let choice = run.choice.as_slice();
-    text.begin_object()?;
-    put_choice_member(text, check.alloc, choice)?;
-    text.bytes_member("location", run.text.as_slice())?;
-    text.key("events")?;
-    put_events(text, check, file, run.trace.as_slice())?;
-    end_told(text, check, telling, choice)?;
+    put_ran(
+        text,
+        check,
+        telling,
+        file,
+        run.choice.as_slice(),
+        run.text.as_slice(),
+        run.trace.as_slice(),
+    )?;
     Ok(())
 }
 

@@ -22,9 +22,9 @@ use verdict_copies::copy;
 
 /// What is read to tell the choices of a function: the function with its kept callees, and its layout.
 #[derive(Clone, Copy)]
-pub(crate) struct Telling<'t, 'p, 'm, 'f, 'g> {
-    pub(crate) ground: Ground<'p, 'm, 'f>,
-    pub(crate) names: &'t Texts<'p, 'g>,
+pub struct Telling<'t, 'p, 'm, 'f, 'g> {
+    pub ground: Ground<'p, 'm, 'f>,
+    pub names: &'t Texts<'p, 'g>,
 }
 
 /// The whole check: what is read beside the verdicts, the plan of the functions, and the verdicts.

@@ -6,7 +6,9 @@ ghost use Rattle.sc_check.specs.Typed.{Sources as Trees};
 ghost use Rattle.whole_checks.specs.Planned.{Says};
 ghost use Rattle.whole_checks.specs.Said.{HasWholeMachine};
 ghost use Rattle.whole_checks.specs.Seen as seen_of;
+ghost use Rattle.fn_replay.specs.Replays.{Form as Forms};
 ghost use Rattle.fn_replay.specs.Seen as replay;
+ghost use Rattle.fn_replay.specs.Seen.{form_of};
 ghost use Rattle.whole_replays.specs.Told.{told, told_of_function, told_of_replay};
 ghost use Rattle.whole_replays.specs.Seen.{seen};
 
@@ -14,16 +16,18 @@ use crate::named::function_named;
 use crate::needed::needed_verdicts;
 use crate::spared::callees;
 use crate::told::Told;
-use fn_replay::{Replayed, Run, replay_run};
+use fn_replay::{Form, Replayed, Run, replay_run};
 use plan_core::Plan;
 use sc_base::OutOfMemory;
 use sc_typed::Program;
 use std::alloc::Global;
 use whole_checks::{Analysis, NoPlan, Sources, planned};
 
-/// What is replayed.
-#[derive(Clone, Copy, Debug)]
+/// What is replayed, and in which form.
+#[derive(Clone, Copy)]
 pub struct Asked<'a> {
+    /// The form in which the run is told.
+    pub form: Form<'a>,
     /// The name of the function.
     pub name: &'a [u8],
     /// The digits that spell the choice.
@@ -34,9 +38,10 @@ pub struct Asked<'a> {
     pub reach: u32,
 }
 
-// What is said in place of the text of a run where there is no plan.
+// What is said in place of a run where there is no plan.
 fn without_plan(why: NoPlan) -> Result<Told, OutOfMemory>
-    ensures { IfOk result (λ t. (s : Trees) (depth reach : ℕ) (name digits : List ℕ) → Says s why → seen t ≡ told s depth reach name digits) }
+    ensures { IfOk result (λ t. (form : Forms) (s : Trees) (depth reach : ℕ) (name digits : List ℕ) → Says s why
+        → seen t ≡ told form s depth reach name digits) }
 {
     match why {
         NoPlan::Twice(name) => Ok(Told::Twice(name)),
@@ -50,7 +55,7 @@ fn told_of(replayed: Replayed) -> Told
     ensures { seen result ≡ told_of_replay (replay.seen replayed) }
 {
     match replayed {
-        Replayed::Text(text) => Told::Text(text),
+        Replayed::Told(bytes) => Told::Run(bytes),
         Replayed::Skipped => Told::Skipped,
         Replayed::BadChoice => Told::BadChoice,
     }
@@ -68,7 +73,7 @@ fn of_function(
     requires inside { function < length program.now.functions }
     requires planned { plan.now ≡ graph.plan program.now }
     requires whole { HasWholeMachine program.now.machine }
-    ensures { IfOk result (λ t. seen t ≡ told_of_function program.now asked.entry.depth asked.entry.reach asked.entry.digits.now (Some function)) }
+    ensures { IfOk result (λ t. seen t ≡ told_of_function (form_of asked.entry.form) program.now asked.entry.depth asked.entry.reach asked.entry.digits.now (Some function)) }
 {
     let analysis = Analysis {
         alloc,
@@ -79,6 +84,7 @@ fn of_function(
     };
     let verdicts = needed_verdicts(analysis, function)?;
     let run = Run {
+        form: asked.form,
         function,
         digits: asked.digits,
         depth: asked.depth,
@@ -89,16 +95,16 @@ fn of_function(
     Ok(told_of(replayed))
 }
 
-/// What a replay says of the trees of all files: the text of the run of the first function of that name on the choice
-/// that the digits spell, however it ends; or the first reason why there is none. The verdicts that the function needs
-/// are made on the calling thread, and it always returns.
+/// What a replay says of the trees of all files: the run of the first function of that name on the choice that the digits
+/// spell, in the form that is asked for, however it ends; or the first reason why there is none. The verdicts that the
+/// function needs are made on the calling thread, and it always returns.
 ///
 /// # Errors
 ///
 /// `OutOfMemory` where memory is refused.
 pub fn tell(alloc: Global, sources: Sources<'_>, asked: Asked<'_>) -> Result<Told, OutOfMemory>
     requires whole { HasWholeMachine sources.machine }
-    ensures { IfOk result (λ t. seen t ≡ told (seen_of.sources sources.entry) asked.entry.depth asked.entry.reach asked.entry.name.now
+    ensures { IfOk result (λ t. seen t ≡ told (form_of asked.entry.form) (seen_of.sources sources.entry) asked.entry.depth asked.entry.reach asked.entry.name.now
         asked.entry.digits.now) }
 {
     let (program, plan) = match planned(alloc, sources) {

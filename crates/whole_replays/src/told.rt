@@ -7,8 +7,8 @@ use sc_base::LimitKind;
 /// What a replay says of the files that were read.
 #[derive(Debug, Drop)]
 pub enum Told {
-    /// The text of the run.
-    Text(Vec<u8>),
+    /// The run, in the form that was asked for.
+    Run(Vec<u8>),
     /// A function of this name has a second body.
     Twice(Vec<u8>),
     /// A limit, and the count that passes it.

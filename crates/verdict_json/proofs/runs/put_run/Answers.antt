@@ -1,4 +1,4 @@
-use Rattle.std.proofs.Common.{refl, append_assoc}
+use Rattle.std.proofs.Common.{refl}
 use Rattle.verdict_json.specs.Runs.{run_value}
 use Rattle.verdict_json.proofs.runs.put_run.Goals as goal
 
@@ -6,14 +6,8 @@ pub returns : goal.returns
 unfolding run_value
 returns c =
     simp (
-      append_assoc,
-      c.in_ok-end_told.ensures,
-      c.in_ok-put_events.ensures,
-      c.in_ok-key.ensures,
-      c.in_ok-bytes_member.ensures,
-      c.in_ok-put_choice_member.ensures,
-      c.in_ok-begin_object.ensures,
+      c.in_ok-put_ran.ensures,
       c.as_slice.ensures,
       c.as_slice-2.ensures,
-      c.as_slice-choice.ensures,
+      c.as_slice-3.ensures,
     ) refl

@@ -5,11 +5,11 @@ use Rattle.whole_replays.proofs.Tells.{twice_is_told, beyond_is_told}
 use Rattle.whole_replays.proofs.telling.without_plan.Goals as goal
 
 pub returns-in-Twice : goal.returns-in-Twice
-returns-in-Twice c s depth reach name digits says =
+returns-in-Twice c form s depth reach name digits says =
     let P : NoPlan → Type 0 = Says s in
-    twice_is_told s depth reach name digits c.in-Twice.name.items (subst P c.in-Twice.is says depth reach)
+    twice_is_told form s depth reach name digits c.in-Twice.name.items (subst P c.in-Twice.is says depth reach)
 
 pub returns-in-Beyond : goal.returns-in-Beyond
-returns-in-Beyond c s depth reach name digits says =
+returns-in-Beyond c form s depth reach name digits says =
     let P : NoPlan → Type 0 = Says s in
-    beyond_is_told s depth reach name digits c.in-Beyond.kind c.in-Beyond.count (subst P c.in-Beyond.is says depth reach)
+    beyond_is_told form s depth reach name digits c.in-Beyond.kind c.in-Beyond.count (subst P c.in-Beyond.is says depth reach)
