@@ -3,8 +3,7 @@ use Rattle.std.proofs.Common.{◌≡◌, ℕ, zero, suc, ◌<◌, ◌≤◌, nat
 use Rattle.bit_net.specs.declared.nodes.Gate.{Gate}
 use Rattle.bit_net.specs.declared.nodes.Node.{Node as Gates}
 use Rattle.bit_net.specs.Runs.{Runs, Always}
-use Rattle.gate_copies.specs.declared.readings.Reading.{Reading}
-use Rattle.gate_copies.specs.Readings.{readings_top}
+use Rattle.gate_inits.specs.Inits.{Reading, readings_top}
 use Rattle.gate_inits.specs.Inits.{HaveCells}
 use Rattle.gate_runs.specs.Stands.{told, gates_top}
 use Rattle.gl_store.specs.declared.stores.Store.{Store}

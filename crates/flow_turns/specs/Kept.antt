@@ -5,8 +5,7 @@ use Rattle.gl_store.specs.declared.values.Val.{Val}
 use Rattle.gl_store.specs.declared.values.Val.TheVariants as val
 use Rattle.gl_store.specs.Meets.{Meets, val_kind, val_top}
 use Rattle.gate_runs.specs.Stands.{told, gates_top}
-use Rattle.gate_copies.specs.declared.readings.Reading.{Reading}
-use Rattle.gate_copies.specs.Readings.{readings_top}
+use Rattle.gate_inits.specs.Inits.{Reading, readings_top}
 use Rattle.gate_inits.specs.Inits.{HaveCells}
 use Rattle.run_store.specs.Concrete.{Kind, Pointers}
 use Rattle.run_laws.specs.Fits.{is_scalar, IsPlaceOf}

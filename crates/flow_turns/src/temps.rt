@@ -11,7 +11,7 @@ ghost use Rattle.flow_turns.specs.Kept.{AreTemps, is_kept, vals_top};
 ghost use Rattle.flow_turns.specs.Turns.{Keeps};
 
 use bit_net::{Gate, Net, OutOfMemory};
-use gate_copies::Reading;
+use gate_inits::Reading;
 use gl_store::{Val, overwrite};
 
 /// The cells of a value, as they were read of the objects to which its place may lead.

@@ -20,6 +20,7 @@ use Rattle.gate_runs.specs.declared.ends.Ends.{Ends}
 use Rattle.gate_runs.specs.Stands.{Does, Any}
 use Rattle.gate_steps.specs.Steps.{LeadsTo}
 use Rattle.gate_places.specs.Places.{env_of}
+pub use Rattle.gate_entry.specs.Entry.{IsBit, IsNumber, IsPointer}
 use Rattle.gate_acts.specs.declared.tables.Table.{Table}
 
 -- Acts on the targets of a set: each is done where the guard of its pair holds. Where a set points to a target, that is the act on this

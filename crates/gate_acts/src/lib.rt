@@ -10,6 +10,7 @@ mod tables;
 mod tries;
 mod values;
 
+pub use gate_entry::{chosen_bit, chosen_number};
 pub use operations::operation;
 pub use tables::Table;
 pub use tries::{Trying, try_lock};

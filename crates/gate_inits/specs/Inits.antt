@@ -18,10 +18,11 @@ use Rattle.run_laws.specs.Fits.{is_scalar, if_scalar}
 use Rattle.gate_runs.specs.declared.ends.Ends.{Ends}
 use Rattle.gate_runs.specs.Stands.{Does, Any}
 use Rattle.gate_places.specs.Places.{GoodFor, env_of}
-use Rattle.gate_copies.specs.declared.readings.Reading.{Reading}
+pub use Rattle.gate_copies.specs.declared.readings.Reading.{Reading}
 use Rattle.gate_copies.specs.Objects.{object_targets}
 use Rattle.gate_copies.specs.declared.readings.Guarded.{Guarded}
-use Rattle.gate_copies.specs.Readings.{MeetsOne, Reads, readings_top, stored_at}
+use Rattle.gate_copies.specs.Readings.{MeetsOne, Reads, stored_at}
+unfoldable pub use Rattle.gate_copies.specs.Readings.{readings_top}
 
 -- What is done with the value of an expression of that type: a scalar is its value, an object is told by its place.
 

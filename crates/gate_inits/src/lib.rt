@@ -9,5 +9,6 @@ mod parts;
 mod values;
 
 pub use filling::{clear, set_part};
+pub use gate_copies::Reading;
 pub use parts::part_at;
 pub use values::{Local, cells_given, is_scalar, set_local};

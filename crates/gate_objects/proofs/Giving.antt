@@ -24,7 +24,7 @@ use Rattle.gate_runs.specs.Stands.{Any}
 use Rattle.gate_runs.proofs.Bind.{bind, does_done}
 use Rattle.gate_steps.proofs.Known.{does_same}
 use Rattle.gate_places.specs.Places.{env_of}
-use Rattle.gate_entry.specs.Entry.{IsBit, IsNumber, IsPointer}
+use Rattle.gate_acts.specs.Acts.{IsBit, IsNumber, IsPointer}
 use Rattle.gate_objects.specs.Escapes.{mark_target, MarksTarget, EscapesTarget, DoesEscapeAll}
 use Rattle.gate_objects.specs.Given.{DoesAllocate, given, DoesGive, DoesUnknown}
 

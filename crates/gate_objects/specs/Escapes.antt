@@ -17,6 +17,7 @@ use Rattle.sc_world.specs.Eval.{escape_all}
 use Rattle.gate_runs.specs.declared.ends.Ends.{Ends}
 use Rattle.gate_runs.specs.Stands.{Does, Any}
 use Rattle.gate_places.specs.Places.{env_of}
+pub use Rattle.gate_acts.specs.Acts.{IsPointerOf}
 
 -- a target is one more than a place, and 0 is null: the place is marked, and null is left alone
 abbrev pub mark_target : (target : ℕ) → Flag → Run (Unit {0})

@@ -13,7 +13,8 @@ use Rattle.sc_world.specs.World.{Run, done, Env, bit_at, number_at, null, target
 use Rattle.sc_world.specs.Eval.{allocate, escaped_object, unknown}
 use Rattle.gate_runs.specs.declared.ends.Ends.{Ends}
 use Rattle.gate_runs.specs.Stands.{Does}
-use Rattle.gate_places.specs.Places.{env_of}
+pub use Rattle.gate_places.specs.Places.{env_of}
+pub use Rattle.gate_acts.specs.Acts.{IsNumber}
 use Rattle.gate_objects.specs.Escapes.{MeetsEach}
 
 -- An allocation: the object or null, by the choice, which has no more bits than the layout.

@@ -9,14 +9,14 @@ ghost use Rattle.sc_world.specs.Tree.{is_integer, is_pointer};
 ghost use Rattle.sc_world.specs.View.{type};
 ghost use Rattle.layout_base.specs.Seen as laid;
 ghost use Rattle.run_world.specs.Seen as seen;
-ghost use Rattle.gate_entry.specs.Entry.{IsPointer};
+ghost use Rattle.gate_acts.specs.Acts.{IsPointer};
 ghost use Rattle.gate_objects.specs.Escapes.{AreBelow};
 ghost use Rattle.gate_objects.specs.Given.{DoesAllocate, DoesGive, DoesUnknown};
 
 use crate::escapes::{escape_all, escape_target};
 use crate::marks::mark_target;
 use bit_net::{Net, OutOfMemory};
-use gate_entry::{chosen_bit, chosen_number};
+use gate_acts::{chosen_bit, chosen_number};
 use gate_runs::Ends;
 use gl_sets::{Set, join};
 use gl_store::{Flag, Store, Val};

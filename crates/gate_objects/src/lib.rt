@@ -10,5 +10,6 @@ mod marks;
 mod releases;
 
 pub use escapes::{escape, escape_all};
+pub use gate_acts::{chosen_number, pointer_of};
 pub use given::{allocate, unknown};
 pub use releases::{free, release};

@@ -12,7 +12,7 @@ use Rattle.run_store.specs.Concrete.{Place, Pointers, load}
 use Rattle.sum_rows.specs.declared.path.Step.{Step}
 use Rattle.sum_rows.specs.declared.path.Step.TheVariants as step
 use Rattle.sc_world.specs.Layout.{Layout}
-use Rattle.gate_acts.specs.Acts.{IsPointerOf}
+use Rattle.gate_objects.specs.Escapes.{IsPointerOf}
 use Rattle.gate_paths.specs.declared.moves.Move.TheVariants as move
 use Rattle.gate_paths.specs.Targets.{Goes, IsUsable, Steps, gone, read_target, step_target, steps_target}
 

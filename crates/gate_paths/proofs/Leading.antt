@@ -23,7 +23,7 @@ use Rattle.gate_runs.specs.declared.ends.Ends.{Ends}
 use Rattle.gate_runs.specs.Standing.{Standing, On, Over, stand, after}
 use Rattle.gate_runs.specs.Stands.{Stands, Does, Any}
 use Rattle.gate_places.specs.Places.{env_of}
-use Rattle.gate_acts.specs.Acts.{IsPointerOf}
+use Rattle.gate_objects.specs.Escapes.{IsPointerOf}
 use Rattle.gate_objects.specs.Escapes.{MeetsEach}
 use Rattle.gate_paths.specs.declared.moves.Move.TheVariants as move
 use Rattle.gate_paths.specs.Targets.{Goes, IsUsable, Steps, argument_target, found_target, global_target, gone, read_target, step_target, steps_target, usable_target}

@@ -11,7 +11,7 @@ use crate::moves::{Move, go, target_of};
 use crate::objects::usable;
 use crate::steps::follow;
 use bit_net::{Net, OutOfMemory};
-use gate_acts::pointer_of;
+use gate_objects::pointer_of;
 use gl_sets::Set;
 use gl_store::{Store, Val};
 use layout_lookup::Lookup;

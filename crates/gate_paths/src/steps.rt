@@ -11,7 +11,7 @@ ghost use Rattle.gate_paths.specs.Targets.{Steps};
 use crate::moves::{Move, go};
 use crate::objects::usable;
 use bit_net::{Net, OutOfMemory};
-use gate_acts::pointer_of;
+use gate_objects::pointer_of;
 use gl_sets::Set;
 use gl_store::Store;
 use layout_lookup::Lookup;

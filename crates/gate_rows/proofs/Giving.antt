@@ -22,8 +22,8 @@ use Rattle.sc_world.specs.Layout.{Layout, Occurrence}
 use Rattle.sc_world.specs.World.{Env, bit_at, kind_of_type, number_at, null, target_of, target_or_null}
 use Rattle.sc_world.specs.Known as known
 use Rattle.sc_world.specs.Known.{given_by, given_int, given_nothing, given_pointer, number_gives, same_state}
-use Rattle.gate_places.specs.Places.{env_of}
-use Rattle.gate_entry.specs.Entry.{IsNumber}
+use Rattle.gate_objects.specs.Given.{env_of}
+use Rattle.gate_objects.specs.Given.{IsNumber}
 use Rattle.gate_rows.specs.declared.sought.Outcome.TheVariants as outcome
 use Rattle.gate_rows.specs.Sought.{gives_of, is_spelt, pointer_number}
 use Rattle.gate_rows.specs.Given.{IsGiven, IsPointerTo}

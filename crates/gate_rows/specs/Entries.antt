@@ -8,6 +8,7 @@ use Rattle.gl_store.specs.declared.values.Val.{Val}
 use Rattle.run_store.specs.Concrete.{Cell}
 use Rattle.sc_world.specs.Known.{given_number}
 use Rattle.gate_objects.specs.Escapes.{MeetsEach}
+pub use Rattle.gate_objects.specs.Escapes.{AreBelow}
 
 -- the bits spell the entry bits of all cells that the arguments are
 pub record AreEntryBits (ns : List Node) (args : List Val) (bits : List Gate) : Type 0 where

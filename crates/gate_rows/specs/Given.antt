@@ -16,7 +16,7 @@ use Rattle.sc_world.specs.Layout.{Layout, Occurrence}
 use Rattle.sc_world.specs.World.{bit_at, kind_of_type, target_of, target_or_null}
 use Rattle.sc_world.specs.Known as known
 use Rattle.sc_world.specs.Known.{given_by, same_state}
-use Rattle.gate_places.specs.Places.{env_of}
+use Rattle.gate_objects.specs.Given.{env_of}
 use Rattle.gate_rows.specs.declared.given.Given.{Given}
 use Rattle.gate_rows.specs.Sought.{IsOutcomeBelow, gives_of, is_spelt, pointer_number}
 

@@ -12,7 +12,7 @@ ghost use Rattle.gate_rows.specs.Given.{IsGiven, IsPointerTo};
 use crate::sought::Outcome;
 use bit_net::{Net, OutOfMemory};
 use bit_words::{Word, is_number, is_zero};
-use gate_entry::chosen_number;
+use gate_objects::chosen_number;
 use gl_sets::{Set, join};
 use gl_store::Val;
 use layout_base::Occurrence;

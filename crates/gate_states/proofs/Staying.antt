@@ -7,7 +7,7 @@ use Rattle.bit_net.specs.Runs.{Grown}
 use Rattle.gl_sets.specs.Guards.{guards_top}
 use Rattle.gl_store.specs.declared.values.Val.{Val}
 use Rattle.gl_store.specs.Meets.{val_top}
-use Rattle.gate_objects.specs.Escapes.{AreBelow}
+use Rattle.gate_rows.specs.Entries.{AreBelow}
 use Rattle.gate_paths.specs.declared.cells.Written.{Written}
 use Rattle.gate_paths.specs.declared.gathered.Found.{Found}
 use Rattle.gate_paths.specs.Cells.{AreCellsBelow, where_cell}

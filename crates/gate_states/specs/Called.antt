@@ -5,7 +5,7 @@ use Rattle.run_store.specs.Concrete.{Cell}
 use Rattle.sc_world.specs.Known as known
 use Rattle.sc_world.specs.Known.{Acting, Locked, Outed, given_number}
 use Rattle.layout_base.specs.Seen.{occurrence_of}
-use Rattle.gate_objects.specs.Escapes.{AreBelow}
+use Rattle.gate_rows.specs.Entries.{AreBelow}
 use Rattle.gate_paths.specs.Cells.{AreCellsBelow}
 use Rattle.gate_paths.specs.Gathered.{AreItemsBelow}
 use Rattle.gate_rows.specs.Entries.{AreEntryBits}

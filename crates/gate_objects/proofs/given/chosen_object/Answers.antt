@@ -1,6 +1,6 @@
 use Rattle.std.proofs.Common.{sym, subst}
 use Rattle.run_world.specs.Seen.{env}
-use Rattle.gate_entry.specs.Entry.{IsPointer}
+use Rattle.gate_acts.specs.Acts.{IsPointer}
 use Rattle.gate_objects.proofs.Giving.{object_some}
 use Rattle.gate_objects.proofs.given.chosen_object.Goals as goal
 
