@@ -80,52 +80,75 @@ fn told(alloc: Global, held: &[(&str, &str)], failing: &[u64], named: &[&str]) -
     told_of(alloc, &input).ok()
 }
 
-#[test]
-fn trees_and_names_stand_in_order(rt: HostRuntime) {
-    let Some(told) = told(rt.alloc(), &TWO, &[], &["a.c", "b.c"]) else {
-        panic!(rt; "there is no input")
-    };
-    assert!(rt; told.names.as_slice() == b"a.c f x b.c g y ".as_slice());
-    assert!(rt; told.files.as_slice() == b"a.c b.c ".as_slice());
-    assert!(rt; told.counts.as_slice() == [(0, 1, 0), (1, 0, 2)].as_slice());
-    assert!(rt; !told.has_machine);
-    assert!(rt; told.used == 43);
+/// Whether all that is told of an input without a machine is this.
+fn is_told(
+    told: &Account,
+    names: &str,
+    files: &str,
+    counts: &[(u32, u32, u32)],
+    used: usize,
+) -> bool {
+    told.names.as_slice() == names.as_bytes()
+        && told.files.as_slice() == files.as_bytes()
+        && told.counts.as_slice() == counts
+        && !told.has_machine
+        && told.used == used
 }
 
-#[test]
-fn the_order_is_that_of_the_words(rt: HostRuntime) {
-    let Some(told) = told(rt.alloc(), &TWO, &[], &["b.c", "a.c", "b.c"]) else {
-        panic!(rt; "there is no input")
-    };
-    assert!(rt; told.names.as_slice() == b"b.c g f y a.c x ".as_slice());
-    assert!(rt; told.files.as_slice() == b"b.c a.c b.c ".as_slice());
-    assert!(rt; told.counts.as_slice() == [(0, 0, 2), (1, 1, 0), (2, 0, 2)].as_slice());
-    assert!(rt; told.used == 63);
-}
+/// Files, of which the calls of these numbers fail, the names of the files that are read, and what is told of the
+/// input: the texts of all names, the names of the files, what each tree counts, and how many bytes are used.
+type Row = (
+    &'static [(&'static str, &'static str)],
+    &'static [u64],
+    &'static [&'static str],
+    &'static str,
+    &'static str,
+    &'static [(u32, u32, u32)],
+    usize,
+);
 
-#[test]
-fn a_file_may_have_the_name_of_a_word(rt: HostRuntime) {
-    let Some(told) = told(
-        rt.alloc(),
+const ROWS: &[Row] = &[
+    // Trees and names stand in order.
+    (
+        &TWO,
+        &[],
+        &["a.c", "b.c"],
+        "a.c f x b.c g y ",
+        "a.c b.c ",
+        &[(0, 1, 0), (1, 0, 2)],
+        43,
+    ),
+    // The order is that of the words.
+    (
+        &TWO,
+        &[],
+        &["b.c", "a.c", "b.c"],
+        "b.c g f y a.c x ",
+        "b.c a.c b.c ",
+        &[(0, 0, 2), (1, 1, 0), (2, 0, 2)],
+        63,
+    ),
+    // A file may have the name of a word.
+    (
         &[("f", "int f;"), ("int", "")],
         &[],
         &["f", "int"],
-    ) else {
-        panic!(rt; "there is no input")
-    };
-    assert!(rt; told.names.as_slice() == b"f int ".as_slice());
-    assert!(rt; told.counts.len() == 2);
-    assert!(rt; told.used == 6);
-}
+        "f int ",
+        "f int ",
+        &[(0, 0, 1), (1, 0, 0)],
+        6,
+    ),
+    // No file has no tree.
+    (&[], &[1], &[], "", "", &[], 0),
+];
 
 #[test]
-fn no_file_has_no_tree(rt: HostRuntime) {
-    let Some(told) = told(rt.alloc(), &[], &[1], &[]) else {
-        panic!(rt; "there is no input")
-    };
-    assert!(rt; told.names.is_empty());
-    assert!(rt; told.counts.is_empty());
-    assert!(rt; told.used == 0);
+fn trees_and_names_stand_in_order(rt: HostRuntime) {
+    for &(held, failing, named, names, files, counts, used) in ROWS {
+        let told = told(rt.alloc(), held, failing, named);
+        let holds = matches!(&told, Some(told) if is_told(told, names, files, counts, used));
+        assert!(rt; holds, "{named:?}");
+    }
 }
 
 fn is_of_interrupts(machine: &MachineSpec) -> bool {

@@ -30,92 +30,128 @@ fn told<'a>(
     Ok(read_input(alloc, &mut files, machine, named).err())
 }
 
-/// A place of the file with this number.
-fn at(file: u32, line: u32, col: u32) -> Pos {
-    Pos { file, line, col }
-}
+/// The calls that fail, the machine, the files that are named, and why there is no input; none where there is one.
+type Row = (
+    &'static [u64],
+    Option<&'static str>,
+    &'static [&'static str],
+    Option<Refusal<'static>>,
+);
 
-/// Whether that is why.
-fn is_told(
-    alloc: Global,
-    failing: &[u64],
-    machine: Option<&str>,
-    named: &[&str],
-    want: Refusal,
-) -> bool {
-    told(alloc, failing, machine, named) == Ok(Some(want))
-}
+/// Where `odd.c` has what begins no token, as the first file.
+const ODD: Pos = Pos {
+    file: 0,
+    line: 2,
+    col: 7,
+};
+
+/// Where `open.c` has a bracket without its other half, as the first file.
+const OPEN: Pos = Pos {
+    file: 0,
+    line: 2,
+    col: 5,
+};
+
+/// The same as the third file.
+const OPEN_THIRD: Pos = Pos {
+    file: 2,
+    line: 2,
+    col: 5,
+};
+
+/// Where `both.c` has what begins no token, as the second file.
+const BOTH: Pos = Pos {
+    file: 1,
+    line: 2,
+    col: 1,
+};
+
+/// The first two files that are named are `good.c` and `odd.c`.
+const GOOD_ODD: &[&str] = &["good.c", "odd.c"];
+
+/// More names than files may have.
+const MANY: [&str; 65] = ["none.c"; 65];
+
+const ROWS: &[Row] = &[
+    (&[], None, &["good.c"], None),
+    (
+        &[],
+        None,
+        &["good.c", "none.c"],
+        Some(Refusal::Unread("none.c")),
+    ),
+    // Each file has a call that starts it, one that reads its bytes, and one that finds its end.
+    (&[1], None, GOOD_ODD, Some(Refusal::Unread("good.c"))),
+    (&[2], None, GOOD_ODD, Some(Refusal::Unread("good.c"))),
+    (&[3], None, GOOD_ODD, Some(Refusal::Unread("good.c"))),
+    (&[4], None, GOOD_ODD, Some(Refusal::Unread("odd.c"))),
+    (&[5], None, GOOD_ODD, Some(Refusal::Unread("odd.c"))),
+    (&[6], None, GOOD_ODD, Some(Refusal::Unread("odd.c"))),
+    // A machine file comes before the others.
+    (
+        &[],
+        Some("none"),
+        &["none.c"],
+        Some(Refusal::Unread("none")),
+    ),
+    (&[2], Some("m"), &["good.c"], Some(Refusal::Unread("m"))),
+    (&[4], Some("broken"), &["good.c"], Some(Refusal::Machine(2))),
+    (
+        &[4],
+        Some("m"),
+        &["good.c"],
+        Some(Refusal::Unread("good.c")),
+    ),
+    // What has no tokens is placed.
+    (&[], None, &["odd.c"], Some(Refusal::Lexical("odd.c", ODD))),
+    (
+        &[],
+        None,
+        &["good.c", "good.c", "open.c"],
+        Some(Refusal::Unbalanced("open.c", OPEN_THIRD)),
+    ),
+    // A place where nothing begins counts before a bracket, wherever they stand.
+    (
+        &[],
+        Some("m"),
+        &["good.c", "both.c"],
+        Some(Refusal::Lexical("both.c", BOTH)),
+    ),
+    // The first refusal is told.
+    (
+        &[],
+        None,
+        &["odd.c", "none.c"],
+        Some(Refusal::Lexical("odd.c", ODD)),
+    ),
+    (
+        &[],
+        None,
+        &["open.c", "odd.c"],
+        Some(Refusal::Unbalanced("open.c", OPEN)),
+    ),
+    (
+        &[],
+        None,
+        &["none.c", "odd.c"],
+        Some(Refusal::Unread("none.c")),
+    ),
+    // Too many files are told before all.
+    (&[], Some("none"), &MANY, Some(Refusal::Files(65))),
+];
 
 #[test]
-fn a_file_that_is_not_read_is_named(rt: HostRuntime) {
-    let alloc = rt.alloc();
-    assert!(rt; told(alloc, &[], None, &["good.c"]) == Ok(None));
-    let missing = Refusal::Unread("none.c");
-    assert!(rt; is_told(alloc, &[], None, &["good.c", "none.c"], missing));
-    // Each file has a call that starts it, one that reads its bytes, and one that finds its end.
-    for (call, name) in [
-        (1, "good.c"),
-        (2, "good.c"),
-        (3, "good.c"),
-        (4, "odd.c"),
-        (5, "odd.c"),
-        (6, "odd.c"),
-    ] {
-        let unread = Refusal::Unread(name);
+fn each_refusal_is_told(rt: HostRuntime) {
+    for &(failing, machine, named, want) in ROWS {
         assert!(rt;
-            is_told(alloc, &[call], None, &["good.c", "odd.c"], unread),
-            "{call}"
+            told(rt.alloc(), failing, machine, named) == Ok(want),
+            "{named:?}"
         );
     }
 }
 
 #[test]
-fn a_machine_file_comes_before_the_others(rt: HostRuntime) {
-    let alloc = rt.alloc();
-    let missing = Refusal::Unread("none");
-    assert!(rt; is_told(alloc, &[], Some("none"), &["none.c"], missing));
-    let unread = Refusal::Unread("m");
-    assert!(rt; is_told(alloc, &[2], Some("m"), &["good.c"], unread));
-    assert!(rt;
-        is_told(
-            alloc,
-            &[4],
-            Some("broken"),
-            &["good.c"],
-            Refusal::Machine(2)
-        )
-    );
-    let late = Refusal::Unread("good.c");
-    assert!(rt; is_told(alloc, &[4], Some("m"), &["good.c"], late));
-}
-
-#[test]
-fn what_has_no_tokens_is_placed(rt: HostRuntime) {
-    let alloc = rt.alloc();
-    let odd = Refusal::Lexical("odd.c", at(0, 2, 7));
-    assert!(rt; is_told(alloc, &[], None, &["odd.c"], odd));
-    let open = Refusal::Unbalanced("open.c", at(2, 2, 5));
-    assert!(rt; is_told(alloc, &[], None, &["good.c", "good.c", "open.c"], open));
-    // A place where nothing begins counts before a bracket, wherever they stand.
-    let both = Refusal::Lexical("both.c", at(1, 2, 1));
-    assert!(rt; is_told(alloc, &[], Some("m"), &["good.c", "both.c"], both));
-}
-
-#[test]
-fn the_first_refusal_is_told(rt: HostRuntime) {
-    let alloc = rt.alloc();
-    let odd = Refusal::Lexical("odd.c", at(0, 2, 7));
-    assert!(rt; is_told(alloc, &[], None, &["odd.c", "none.c"], odd));
-    let open = Refusal::Unbalanced("open.c", at(0, 2, 5));
-    assert!(rt; is_told(alloc, &[], None, &["open.c", "odd.c"], open));
-    let missing = Refusal::Unread("none.c");
-    assert!(rt; is_told(alloc, &[], None, &["none.c", "odd.c"], missing));
-}
-
-#[test]
-fn too_many_files_are_told_before_all(rt: HostRuntime) {
-    let named = ["none.c"; 65];
-    assert!(rt; is_told(rt.alloc(), &[], Some("none"), &named, Refusal::Files(65)));
-    let few = Refusal::Unread("none");
-    assert!(rt; is_told(rt.alloc(), &[], Some("none"), &named[..64], few));
+fn as_many_files_as_the_limit_are_not_too_many(rt: HostRuntime) {
+    let missing = Some(Refusal::Unread("none"));
+    assert!(rt; told(rt.alloc(), &[], Some("none"), &MANY[..64]) == Ok(missing));
 }

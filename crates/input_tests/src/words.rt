@@ -172,132 +172,143 @@ fn a_run_has_a_function_and_a_choice(rt: HostRuntime) {
     assert!(rt; run_is_asked(rt.alloc()) == Some(true));
 }
 
-fn bench_asked(alloc: Global, words: &[&str]) -> Option<BenchWords> {
-    let words = owned(alloc, words).ok()?;
-    bench_words(alloc, words.as_slice()).ok()
+/// Whether the words of a bench ask for so many functions, this seed and so many jobs.
+fn is_bench(alloc: Global, words: &[&str], functions: u32, seed: u32, jobs: u32) -> bool {
+    let Ok(words) = owned(alloc, words) else {
+        return false;
+    };
+    let want = BenchWords {
+        functions,
+        seed,
+        jobs,
+    };
+    match bench_words(alloc, words.as_slice()) {
+        Ok(asked) => asked == want,
+        Err(_) => false,
+    }
 }
 
 #[test]
 fn a_bench_has_two_numbers(rt: HostRuntime) {
-    let asked = bench_asked(
-        rt.alloc(),
-        &["saturn_bench", "4096", "--jobs", "3", "4294967295"],
-    );
-    let want = BenchWords {
-        functions: 4096,
-        seed: 4294967295,
-        jobs: 3,
-    };
-    assert!(rt; asked == Some(want));
-    let asked = bench_asked(rt.alloc(), &["saturn_bench", "1", "0"]);
-    let want = BenchWords {
-        functions: 1,
-        seed: 0,
-        jobs: 1,
-    };
-    assert!(rt; asked == Some(want));
+    let words = ["saturn_bench", "4096", "--jobs", "3", "4294967295"];
+    assert!(rt; is_bench(rt.alloc(), &words, 4096, 4294967295, 3));
+    assert!(rt; is_bench(rt.alloc(), &["saturn_bench", "1", "0"], 1, 0, 1));
 }
 
-/// An option; numbers: one below the least that it takes, the least, the greatest, and one above.
-const BOUNDS: &[(&str, &str, &str, &str, &str)] = &[
-    ("--depth", "0", "1", "8", "9"),
-    ("--reach", "0", "1", "4", "5"),
-    ("--jobs", "0", "1", "64", "65"),
-];
-
-fn is_check(alloc: Global, words: &[&str], want: Outcome) -> bool {
-    check_outcome(alloc, words) == Ok(want)
-}
-
-#[test]
-fn numbers_have_bounds(rt: HostRuntime) {
-    for &(option, below, least, greatest, above) in BOUNDS {
-        for good in [least, greatest] {
-            let words = ["saturn_check", option, good, "a.c"];
-            assert!(rt;
-                is_check(rt.alloc(), &words, Outcome::Asked),
-                "{option} {good}"
-            );
-        }
-        for bad in [below, above, "-1", "x", "", "1.5"] {
-            let words = ["saturn_check", option, bad, "a.c"];
-            assert!(rt;
-                is_check(rt.alloc(), &words, Outcome::Bad),
-                "{option} {bad}"
-            );
-        }
-    }
-}
-
-const BAD_CHECKS: &[&[&str]] = &[
-    &["saturn_check"],
-    &["saturn_check", "--depth", "2"],
-    &["saturn_check", "a.c", "--depth"],
-    &["saturn_check", "a.c", "--machine"],
-    &["saturn_check", "a.c", "--fast"],
-    &["saturn_check", "--depth", "2", "--depth", "2", "a.c"],
-    &["saturn_check", "--model", "lp32", "a.c"],
-    &["saturn_check", "--function", "f", "a.c"],
-    &["saturn_check", "-d", "2", "a.c"],
+/// Words of a check, and what becomes of them.
+const CHECKS: &[(&[&str], Outcome)] = &[
+    // Numbers have bounds: one below the least, the least, the greatest, one above, and what is no such number.
+    (&["saturn_check", "--depth", "0", "a.c"], Outcome::Bad),
+    (&["saturn_check", "--depth", "1", "a.c"], Outcome::Asked),
+    (&["saturn_check", "--depth", "8", "a.c"], Outcome::Asked),
+    (&["saturn_check", "--depth", "9", "a.c"], Outcome::Bad),
+    (&["saturn_check", "--depth", "-1", "a.c"], Outcome::Bad),
+    (&["saturn_check", "--depth", "x", "a.c"], Outcome::Bad),
+    (&["saturn_check", "--depth", "", "a.c"], Outcome::Bad),
+    (&["saturn_check", "--depth", "1.5", "a.c"], Outcome::Bad),
+    (&["saturn_check", "--reach", "0", "a.c"], Outcome::Bad),
+    (&["saturn_check", "--reach", "1", "a.c"], Outcome::Asked),
+    (&["saturn_check", "--reach", "4", "a.c"], Outcome::Asked),
+    (&["saturn_check", "--reach", "5", "a.c"], Outcome::Bad),
+    (&["saturn_check", "--reach", "-1", "a.c"], Outcome::Bad),
+    (&["saturn_check", "--reach", "x", "a.c"], Outcome::Bad),
+    (&["saturn_check", "--reach", "", "a.c"], Outcome::Bad),
+    (&["saturn_check", "--reach", "1.5", "a.c"], Outcome::Bad),
+    (&["saturn_check", "--jobs", "0", "a.c"], Outcome::Bad),
+    (&["saturn_check", "--jobs", "1", "a.c"], Outcome::Asked),
+    (&["saturn_check", "--jobs", "64", "a.c"], Outcome::Asked),
+    (&["saturn_check", "--jobs", "65", "a.c"], Outcome::Bad),
+    (&["saturn_check", "--jobs", "-1", "a.c"], Outcome::Bad),
+    (&["saturn_check", "--jobs", "x", "a.c"], Outcome::Bad),
+    (&["saturn_check", "--jobs", "", "a.c"], Outcome::Bad),
+    (&["saturn_check", "--jobs", "1.5", "a.c"], Outcome::Bad),
+    // Words have faults.
+    (&["saturn_check"], Outcome::Bad),
+    (&["saturn_check", "--depth", "2"], Outcome::Bad),
+    (&["saturn_check", "a.c", "--depth"], Outcome::Bad),
+    (&["saturn_check", "a.c", "--machine"], Outcome::Bad),
+    (&["saturn_check", "a.c", "--fast"], Outcome::Bad),
+    (
+        &["saturn_check", "--depth", "2", "--depth", "2", "a.c"],
+        Outcome::Bad,
+    ),
+    (&["saturn_check", "--model", "lp32", "a.c"], Outcome::Bad),
+    (&["saturn_check", "--function", "f", "a.c"], Outcome::Bad),
+    (&["saturn_check", "-d", "2", "a.c"], Outcome::Bad),
+    // Help and the version are given.
+    (&["saturn_check", "--help"], Outcome::Helped),
+    (&["saturn_check", "-h"], Outcome::Helped),
+    (&["saturn_check", "--version"], Outcome::Helped),
+    (&["saturn_check", "-V"], Outcome::Helped),
 ];
 
 #[test]
-fn words_of_a_check_have_faults(rt: HostRuntime) {
-    for &words in BAD_CHECKS {
-        assert!(rt; is_check(rt.alloc(), words, Outcome::Bad));
+fn words_of_a_check(rt: HostRuntime) {
+    for &(words, want) in CHECKS {
+        assert!(rt; check_outcome(rt.alloc(), words) == Ok(want), "{words:?}");
     }
 }
 
-const BAD_RUNS: &[&[&str]] = &[
-    &["saturn_run", "--function", "f", "a.c"],
-    &["saturn_run", "--choice", "4", "a.c"],
-    &["saturn_run", "--function", "f", "--choice", "4"],
-    &[
-        "saturn_run",
-        "--function",
-        "f",
-        "--choice",
-        "4",
-        "--jobs",
-        "1",
-        "a.c",
-    ],
-    &[
-        "saturn_run",
-        "--function",
-        "f",
-        "--choice",
-        "4",
-        "--format",
-        "sarif",
-        "a.c",
-    ],
+/// Words of a run, and what becomes of them.
+const RUNS: &[(&[&str], Outcome)] = &[
+    (&["saturn_run", "--function", "f", "a.c"], Outcome::Bad),
+    (&["saturn_run", "--choice", "4", "a.c"], Outcome::Bad),
+    (
+        &["saturn_run", "--function", "f", "--choice", "4"],
+        Outcome::Bad,
+    ),
+    (
+        &[
+            "saturn_run",
+            "--function",
+            "f",
+            "--choice",
+            "4",
+            "--jobs",
+            "1",
+            "a.c",
+        ],
+        Outcome::Bad,
+    ),
+    (&["saturn_run", "a.c", "--help"], Outcome::Helped),
+    (&["saturn_run", "a.c", "-h"], Outcome::Helped),
+    (&["saturn_run", "a.c", "--version"], Outcome::Helped),
+    (&["saturn_run", "a.c", "-V"], Outcome::Helped),
+    (
+        &[
+            "saturn_run",
+            "--function",
+            "f",
+            "--choice",
+            "4",
+            "--format",
+            "sarif",
+            "a.c",
+        ],
+        Outcome::Bad,
+    ),
 ];
 
-const BAD_BENCHES: &[&[&str]] = &[
-    &["saturn_bench", "1"],
-    &["saturn_bench", "0", "0"],
-    &["saturn_bench", "4097", "0"],
-    &["saturn_bench", "1", "4294967296"],
-    &["saturn_bench", "1", "0", "0"],
-    &["saturn_bench", "--jobs", "65", "1", "0"],
+/// Words of a bench, and what becomes of them.
+const BENCHES: &[(&[&str], Outcome)] = &[
+    (&["saturn_bench", "1"], Outcome::Bad),
+    (&["saturn_bench", "0", "0"], Outcome::Bad),
+    (&["saturn_bench", "4097", "0"], Outcome::Bad),
+    (&["saturn_bench", "1", "4294967296"], Outcome::Bad),
+    (&["saturn_bench", "1", "0", "0"], Outcome::Bad),
+    (&["saturn_bench", "--jobs", "65", "1", "0"], Outcome::Bad),
+    (&["saturn_bench", "1", "--help"], Outcome::Helped),
+    (&["saturn_bench", "1", "-h"], Outcome::Helped),
+    (&["saturn_bench", "1", "--version"], Outcome::Helped),
+    (&["saturn_bench", "1", "-V"], Outcome::Helped),
 ];
 
 #[test]
-fn words_of_the_others_have_faults(rt: HostRuntime) {
-    for &words in BAD_RUNS {
-        assert!(rt; run_outcome(rt.alloc(), words) == Ok(Outcome::Bad));
+fn words_of_the_others(rt: HostRuntime) {
+    for &(words, want) in RUNS {
+        assert!(rt; run_outcome(rt.alloc(), words) == Ok(want), "{words:?}");
     }
-    for &words in BAD_BENCHES {
-        assert!(rt; bench_outcome(rt.alloc(), words) == Ok(Outcome::Bad));
-    }
-}
-
-#[test]
-fn help_and_version_are_given(rt: HostRuntime) {
-    for word in ["--help", "-h", "--version", "-V"] {
-        assert!(rt; is_check(rt.alloc(), &["saturn_check", word], Outcome::Helped));
-        assert!(rt; run_outcome(rt.alloc(), &["saturn_run", "a.c", word]) == Ok(Outcome::Helped));
-        assert!(rt; bench_outcome(rt.alloc(), &["saturn_bench", "1", word]) == Ok(Outcome::Helped));
+    for &(words, want) in BENCHES {
+        assert!(rt; bench_outcome(rt.alloc(), words) == Ok(want), "{words:?}");
     }
 }

@@ -72,6 +72,16 @@ fn locks_both(alloc: Global) -> Result<Verdict, OutOfMemory> {
     Ok(done(alloc, 2, items, List::new(alloc)))
 }
 
+// What the parameter 0 points to is written.
+fn written(alloc: Global) -> Result<List<Write>, OutOfMemory> {
+    let mut writes = List::new(alloc);
+    writes.push(Write {
+        path: behind(alloc, 0)?,
+        width: 0,
+    })?;
+    Ok(writes)
+}
+
 // The verdict of `void mk(char**o){*o=kmalloc(4,0);}`.
 fn makes_one(alloc: Global) -> Result<Verdict, OutOfMemory> {
     let rows = [
@@ -80,12 +90,16 @@ fn makes_one(alloc: Global) -> Result<Verdict, OutOfMemory> {
     ];
     let out = item(alloc, Item::Out(0), &rows)?;
     let items = vec![in alloc; ends(alloc, 1)?, out]?;
-    let mut writes = List::new(alloc);
-    writes.push(Write {
-        path: behind(alloc, 0)?,
-        width: 0,
-    })?;
+    let writes = written(alloc)?;
     Ok(done(alloc, 1, items, writes))
+}
+
+/// The verdict of a function that writes the pointer behind its parameter, without a row.
+pub fn writes_only(alloc: Global) -> Result<Vec<Verdict>, OutOfMemory> {
+    let out = item(alloc, Item::Out(0), &[])?;
+    let items = vec![in alloc; out]?;
+    let writes = written(alloc)?;
+    Ok(vec![in alloc; done(alloc, 1, items, writes)]?)
 }
 
 // Whether the run of the second function of a file, which uses the summary of the first, has that text.

@@ -8,10 +8,9 @@ use rup_check::{Checked, check_proof};
 use sat_base::{Answer, Clause, ClauseList, Lit, Log, OutOfMemory, Solver, Step};
 use sat_cdcl::Cdcl;
 use std::alloc::Global;
-use std::process::Abort;
 
 /// A formula over so many variables.
-#[derive(Debug, Drop)]
+#[derive(Drop)]
 pub struct Formula {
     pub vars: usize,
     pub clauses: ClauseList,
@@ -55,16 +54,19 @@ fn steps_below(vars: usize, steps: &[Step]) -> bool
     true
 }
 
-/// What the checker says of these steps.
+/// What the checker says of these steps; none where the formula or a step has a variable that the formula has not.
 pub fn judge(
-    rt: &impl Abort,
     alloc: Global,
     formula: &Formula,
     steps: &Vec<Step>,
-) -> Result<Checked, OutOfMemory> {
-    assert!(rt; clauses_below(formula.vars, formula.clauses.clauses()));
-    assert!(rt; steps_below(formula.vars, steps));
-    check_proof(alloc, formula.vars, &formula.clauses, steps)
+) -> Result<Option<Checked>, OutOfMemory> {
+    if !clauses_below(formula.vars, formula.clauses.clauses())
+        || !steps_below(formula.vars, steps)
+    {
+        return Ok(None);
+    }
+    let checked = check_proof(alloc, formula.vars, &formula.clauses, steps)?;
+    Ok(Some(checked))
 }
 
 fn with_variables(alloc: Global, vars: usize) -> Result<Cdcl, OutOfMemory>
@@ -112,13 +114,11 @@ fn logged(alloc: Global, solver: &mut Cdcl) -> Result<Option<Vec<Step>>, OutOfMe
     }
 }
 
-/// The certificate that the solver logs, if it finds no model.
-pub fn refutation(
-    rt: &impl Abort,
-    alloc: Global,
-    formula: &Formula,
-) -> Result<Option<Vec<Step>>, OutOfMemory> {
-    assert!(rt; clauses_below(formula.vars, formula.clauses.clauses()));
+/// The certificate that the solver logs, if it finds no model; none where a clause has a variable that the formula has not.
+pub fn refutation(alloc: Global, formula: &Formula) -> Result<Option<Vec<Step>>, OutOfMemory> {
+    if !clauses_below(formula.vars, formula.clauses.clauses()) {
+        return Ok(None);
+    }
     let mut solver = with_variables(alloc, formula.vars)?;
     match add_clauses(&mut solver, formula.clauses.clauses()) {
         Err(fault) => {

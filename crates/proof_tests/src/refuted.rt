@@ -6,22 +6,21 @@ use crate::formulas::{Formula, judge, refutation};
 use rup_check::Checked;
 use sat_base::{Clause, ClauseList, Lit, OutOfMemory, Step};
 use std::alloc::Global;
-use std::process::Abort;
-use std::test::Fail;
 
 /// There are so many clauses over three variables in which no variable stands twice.
 const CLAUSES: usize = 27;
 
-/// Whether the solver refutes the formula; if it does, the checker accepts its certificate.
-fn is_refuted(rt: &impl Abort, alloc: Global, formula: &Formula) -> Result<bool, OutOfMemory> {
-    match refutation(rt, alloc, formula)? {
+/// Whether the solver refutes the formula, and the checker accepts its certificate.
+fn is_refuted(alloc: Global, formula: &Formula) -> Result<bool, OutOfMemory> {
+    match refutation(alloc, formula)? {
+        Some(steps) => is_accepted(alloc, formula, &steps),
         None => Ok(false),
-        Some(steps) => {
-            let checked = judge(rt, alloc, formula, &steps)?;
-            assert_eq!(rt; checked, Checked::Yes);
-            Ok(true)
-        }
     }
+}
+
+fn is_accepted(alloc: Global, formula: &Formula, steps: &Vec<Step>) -> Result<bool, OutOfMemory> {
+    let checked = judge(alloc, formula, steps)?;
+    Ok(checked == Some(Checked::Yes))
 }
 
 /// The clause of a number: its digits in base 3 say of each variable whether it stands there, and with which sign.
@@ -50,45 +49,32 @@ fn formula_of(alloc: Global, numbers: &[usize]) -> Result<Formula, OutOfMemory> 
 }
 
 /// How many of the formulas with these first two clauses are refuted.
-fn refuted_with(
-    rt: &impl Abort,
-    alloc: Global,
-    one: usize,
-    two: usize,
-) -> Result<u32, OutOfMemory> {
+fn refuted_with(alloc: Global, one: usize, two: usize) -> Result<u32, OutOfMemory> {
     let mut count: u32 = 0;
     for three in two..CLAUSES {
         let formula = formula_of(alloc, &[one, two, three])?;
-        if is_refuted(rt, alloc, &formula)? {
+        if is_refuted(alloc, &formula)? {
             count = count.saturating_add(1);
         }
     }
     Ok(count)
 }
 
-/// How many of the formulas with this first clause are refuted.
-fn refuted_from(rt: &impl Abort, alloc: Global, one: usize) -> Result<u32, OutOfMemory> {
-    let mut count: u32 = 0;
-    for two in one..CLAUSES {
-        count = count.saturating_add(refuted_with(rt, alloc, one, two)?);
-    }
-    Ok(count)
-}
-
 /// How many formulas of three clauses are refuted. The order of clauses does not matter, so the numbers rise.
-fn refuted(rt: &impl Abort, alloc: Global) -> Result<u32, OutOfMemory> {
+fn refuted(alloc: Global) -> Result<u32, OutOfMemory> {
     let mut count: u32 = 0;
     for one in 0..CLAUSES {
-        count = count.saturating_add(refuted_from(rt, alloc, one)?);
+        for two in one..CLAUSES {
+            count = count.saturating_add(refuted_with(alloc, one, two)?);
+        }
     }
     Ok(count)
 }
 
 /// Of 3,654 formulas 480 have no model: counted by a program that tries all eight assignments of each.
 #[test]
-fn three_clauses_over_three_variables(rt: HostRuntime) -> Result<(), Fail> {
-    assert_eq!(rt; refuted(&rt, rt.alloc())?, 480);
-    Ok(())
+fn three_clauses_over_three_variables(rt: HostRuntime) {
+    assert!(rt; refuted(rt.alloc()) == Ok(480));
 }
 
 /// There are so many pigeons and holes at most.
@@ -167,28 +153,36 @@ fn pigeons(alloc: Global, count: usize, holes: usize) -> Result<Formula, OutOfMe
     })
 }
 
+/// Whether it is refuted that five pigeons fit into four holes.
+fn five_are_refuted(alloc: Global) -> Result<bool, OutOfMemory> {
+    let formula = pigeons(alloc, 5, 4)?;
+    is_refuted(alloc, &formula)
+}
+
 #[test]
-fn five_pigeons_do_not_fit_into_four_holes(rt: HostRuntime) -> Result<(), Fail> {
-    let formula = pigeons(rt.alloc(), 5, 4)?;
-    assert!(rt; is_refuted(&rt, rt.alloc(), &formula)?);
-    Ok(())
+fn five_pigeons_do_not_fit_into_four_holes(rt: HostRuntime) {
+    assert!(rt; five_are_refuted(rt.alloc()) == Ok(true));
 }
 
 fn takes_out(steps: &[Step]) -> bool {
     steps.iter().any(|step| matches!(step, Step::Drop(_)))
 }
 
-/// The solver deletes clauses on the way, and its certificate takes them out.
-#[test]
-fn eight_pigeons_do_not_fit_into_seven_holes(rt: HostRuntime) -> Result<(), Fail> {
-    let formula = pigeons(rt.alloc(), 8, 7)?;
-    match refutation(&rt, rt.alloc(), &formula)? {
-        None => assert!(rt; false),
+/// Whether it is refuted that eight pigeons fit into seven holes, by a certificate that is long and takes clauses out.
+fn eight_are_refuted(alloc: Global) -> Result<bool, OutOfMemory> {
+    let formula = pigeons(alloc, 8, 7)?;
+    match refutation(alloc, &formula)? {
         Some(steps) => {
-            assert!(rt; takes_out(&steps));
-            let checked = judge(&rt, rt.alloc(), &formula, &steps)?;
-            assert_eq!(rt; checked, Checked::Yes);
+            let is_long = steps.len() > 1000 && takes_out(&steps);
+            Ok(is_long && is_accepted(alloc, &formula, &steps)?)
         }
+        None => Ok(false),
     }
-    Ok(())
+}
+
+/// More than a thousand conflicts, so that the solver deletes clauses and uses their numbers again; its certificate takes
+/// them out.
+#[test]
+fn eight_pigeons_do_not_fit_into_seven_holes(rt: HostRuntime) {
+    assert!(rt; eight_are_refuted(rt.alloc()) == Ok(true));
 }

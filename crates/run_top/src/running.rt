@@ -7,18 +7,26 @@ ghost use Rattle.top_answers.specs.Seen.{seen};
 ghost use Rattle.whole_replays.specs.Forms.{form_of};
 ghost use Rattle.whole_replays.specs.Said.{HasWholeMachine};
 ghost use Rattle.run_top.specs.Runs.{due_of_told, form_as, told_of, IsDue, IsFound, AskNothing, wording};
-ghost use Rattle.whole_replays.specs.Forms.{form_of};
-ghost use Rattle.whole_replays.specs.Said.{HasWholeMachine};
-ghost use Rattle.run_top.specs.Runs.{due_of_told, form_as, told_of, IsDue, IsFound, AskNothing, wording};
 
-use crate::lines::{answer_of, answer_of};
-use fsm_spec::{whole_machines, whole_machines};
-use line_marks::{LineMarks, LineMarks};
-use saturn_words::{Format, Format, NoWords, NoWords, RunWords, RunWords, run_words, run_words};
+use crate::lines::answer_of;
+use fsm_spec::whole_machines;
+use line_marks::LineMarks;
+use saturn_words::{Format, NoWords, RunWords, run_words};
 use sc_base::{Files, OutOfMemory, Sink};
 use sc_input::{Input, read_input};
 use std::alloc::Global;
 use top_answers::{Answer, Status, give, refused};
+use whole_replays::{Asked, Form, Sources, tell};
+
+// The form that the words name, with the line markers of the files.
+fn form_as<'a>(format: Format, marks: &'a [LineMarks]) -> Form<'a>
+    ensures { form_of result ≡ form_as format marks.entry.now }
+{
+    match format {
+        Format::Text => Form::Text,
+        Format::Json => Form::Json(marks),
+    }
+}
 
 // What is due for the input.
 fn answer_for(alloc: Global, asked: &RunWords, input: Input) -> Result<Answer, OutOfMemory>

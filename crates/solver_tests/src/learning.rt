@@ -113,52 +113,12 @@ fn refutation_is_logged(solver: &mut Large, log: &mut Log) -> Result<bool, OutOf
     )
 }
 
-/// The positive literals of seven variables from this one on.
-fn seven_from(var: usize) -> [Lit; 7]
-    requires { var < 64 }
-{
-    [
-        positive(var),
-        positive(var + 1),
-        positive(var + 2),
-        positive(var + 3),
-        positive(var + 4),
-        positive(var + 5),
-        positive(var + 6),
-    ]
-}
-
-/// One of eight pigeons sits in one of seven holes, but in none with an earlier one.
-fn add_pigeon(solver: &mut Large, pigeon: usize) -> Result<bool, OutOfMemory>
-    requires { pigeon < 8 }
-{
-    let mut added = solver.add(&seven_from(7 * pigeon))?;
-    for earlier in 0..pigeon {
-        for hole in 0..7 {
-            let apart = [negative(7 * pigeon + hole), negative(7 * earlier + hole)];
-            added = solver.add(&apart)? && added;
-        }
-    }
-    Ok(added)
-}
-
-/// More than a thousand conflicts, so that learnt clauses are deleted and their numbers used again.
-fn pigeons_are_refuted(solver: &mut Large, log: &mut Log) -> Result<bool, OutOfMemory> {
-    let mut added = true;
-    for pigeon in 0..8 {
-        added = add_pigeon(solver, pigeon)? && added;
-    }
-    let answer = solver.ask_logged(&[], log)?;
-    Ok(added && answer == Some(Answer::NoModel) && log.steps().len() > 1000 && ends_empty(log))
-}
-
 /// What is asked of a new solver.
 #[derive(Clone, Copy)]
 enum Question {
     Second,
     Empty,
     Logged,
-    Pigeons,
 }
 
 /// Whether a new solver answers as it should.
@@ -169,7 +129,6 @@ fn is_answered(alloc: Global, question: Question) -> Result<bool, OutOfMemory> {
         Question::Second => second_holds(&mut solver),
         Question::Empty => empty_clause_answers(&mut solver),
         Question::Logged => refutation_is_logged(&mut solver, &mut log),
-        Question::Pigeons => pigeons_are_refuted(&mut solver, &mut log),
     }
 }
 
@@ -186,9 +145,4 @@ fn an_empty_clause_answers_at_once(rt: HostRuntime) {
 #[test]
 fn a_refutation_leaves_a_log(rt: HostRuntime) {
     assert!(rt; is_answered(rt.alloc(), Question::Logged) == Ok(true));
-}
-
-#[test]
-fn eight_pigeons_do_not_fit_into_seven_holes(rt: HostRuntime) {
-    assert!(rt; is_answered(rt.alloc(), Question::Pigeons) == Ok(true));
 }

@@ -4,61 +4,63 @@ ghost use Rattle.std.specs.Prelude.{◌≡◌};
 
 use crate::literals::{all_below, negative, positive};
 use query::{least, occurring};
-use sat_base::{Plain, Solver};
+use sat_base::{OutOfMemory, Plain, Solver};
 use sat_cdcl::Cdcl;
 use std::alloc::Global;
-use std::process::Abort;
-use std::test::Fail;
+
+/// Whether the model has these values.
+fn is_model(found: &Option<Vec<bool>>, values: &[bool]) -> bool {
+    match found {
+        Some(found) => found.as_slice() == values,
+        None => false,
+    }
+}
 
 /// One of two variables holds, and then the first does not.
-fn either_of_two<R: Abort, S: Solver>(rt: &R, alloc: Global, solver: &mut S) -> Result<(), Fail>
+fn either_of_two<S: Solver>(alloc: Global, solver: &mut S) -> Result<bool, OutOfMemory>
     requires { S.vars solver.old ≡ 0 }
 {
     let x = solver.fresh()?;
     let y = solver.fresh()?;
     let either = [positive(x), positive(y)];
-    assert!(rt; all_below(&either, 2));
+    let goals = [positive(y)];
+    if !all_below(&either, 2) || !all_below(&goals, 2) {
+        return Ok(false);
+    }
     solver.add(&either)?;
     let values = occurring(alloc, solver, &either)?;
-    assert_eq!(rt; values.as_slice(), [1, 2, 3].as_slice());
-    let goals = [positive(y)];
-    assert!(rt; all_below(&goals, 2));
     let first = least(alloc, solver, &either, &goals)?;
-    assert_eq!(rt;
-        first.ok_or("no model")?.as_slice(),
-        [false, true].as_slice()
-    );
-    Ok(())
+    Ok(values.as_slice() == [1, 2, 3].as_slice() && is_model(&first, &[false, true]))
 }
 
 /// Once the first of two variables is excluded, no model has it.
-fn the_other_of_two<R: Abort, S: Solver>(rt: &R, alloc: Global, solver: &mut S) -> Result<(), Fail>
+fn the_other_of_two<S: Solver>(alloc: Global, solver: &mut S) -> Result<bool, OutOfMemory>
     requires { S.vars solver.old ≡ 0 }
 {
     let x = solver.fresh()?;
     let y = solver.fresh()?;
     let either = [positive(x), positive(y)];
     let neither = [negative(x)];
-    assert!(rt; all_below(&either, 2));
-    assert!(rt; all_below(&neither, 2));
+    let goals = [positive(x)];
+    if !all_below(&either, 2) || !all_below(&neither, 2) || !all_below(&goals, 2) {
+        return Ok(false);
+    }
     solver.add(&either)?;
     solver.add(&neither)?;
-    let goals = [positive(x)];
-    assert!(rt; all_below(&goals, 2));
-    assert!(rt; least(alloc, solver, &either, &goals)?.is_none());
-    Ok(())
+    let first = least(alloc, solver, &either, &goals)?;
+    Ok(first.is_none())
 }
 
 #[test]
-fn the_solver_that_splits(rt: HostRuntime) -> Result<(), Fail> {
+fn the_solver_that_splits(rt: HostRuntime) {
     let alloc = rt.alloc();
-    either_of_two(&rt, alloc, &mut Plain::new(alloc))?;
-    the_other_of_two(&rt, alloc, &mut Plain::new(alloc))
+    assert!(rt; either_of_two(alloc, &mut Plain::new(alloc)) == Ok(true));
+    assert!(rt; the_other_of_two(alloc, &mut Plain::new(alloc)) == Ok(true));
 }
 
 #[test]
-fn the_solver_that_learns(rt: HostRuntime) -> Result<(), Fail> {
+fn the_solver_that_learns(rt: HostRuntime) {
     let alloc = rt.alloc();
-    either_of_two(&rt, alloc, &mut Cdcl::new(alloc))?;
-    the_other_of_two(&rt, alloc, &mut Cdcl::new(alloc))
+    assert!(rt; either_of_two(alloc, &mut Cdcl::new(alloc)) == Ok(true));
+    assert!(rt; the_other_of_two(alloc, &mut Cdcl::new(alloc)) == Ok(true));
 }

@@ -7,6 +7,9 @@ use sc_base::{IllTyped, Skip, Unsupported};
 const NOT_ALLOWED: &[(&str, IllTyped, u32)] = &[
     ("int a,b[x];", IllTyped::Name, 9),
     ("int a[1-2];", IllTyped::Constant, 8),
+    ("enum{A=1/0};", IllTyped::Constant, 6),
+    ("enum{A=(-2147483647-1)/-1};", IllTyped::Constant, 6),
+    ("enum{A=1<<32};", IllTyped::Constant, 6),
     ("int x;enum{A=1||x};", IllTyped::Constant, 12),
     ("int x;struct s{int a:x;};", IllTyped::Constant, 22),
     ("int a[4294967296];", IllTyped::Constant, 7),

@@ -78,6 +78,46 @@ const SIZES: &[(&str, u32, u32)] = &[
     ("int b[3];int a[sizeof*&b];", 12, 12),
     ("int b[3];int a[sizeof(0,b)];", 4, 8),
     ("int a[sizeof\"a\"\"\\0\"];", 3, 3),
+    (
+        "struct s{char c;int:0;long long l;char d:3;};int a[sizeof(struct s)];",
+        16,
+        24,
+    ),
+    (
+        "union u{char c;int:0;long long l;char d:3;};int a[sizeof(union u)];",
+        8,
+        8,
+    ),
+    // An alignment shows behind a character.
+    (
+        "struct s{char c;int:0;long long l;char d:3;};struct t{char c;struct s s;};int a[sizeof(struct t)];",
+        20,
+        32,
+    ),
+    (
+        "union u{char c;int:0;long long l;char d:3;};struct t{char c;union u u;};int a[sizeof(struct t)];",
+        12,
+        16,
+    ),
+    (
+        "struct s{};struct t{char c;struct s s;};int a[sizeof(struct t)];",
+        1,
+        1,
+    ),
+    ("struct s{char c;_Bool b;};int a[sizeof(struct s)];", 2, 2),
+    ("struct s{char c;short h;};int a[sizeof(struct s)];", 4, 4),
+    (
+        "struct s{char c;int i[3];};int a[sizeof(struct s)];",
+        16,
+        16,
+    ),
+    ("extern double b[];int a[sizeof b+1];", 1, 1),
+    (
+        "struct s{char c;double d[];};int a[sizeof(struct s)];",
+        4,
+        8,
+    ),
+    ("char b[2147483647];int a[sizeof b==2147483647?1:2];", 1, 1),
 ];
 
 #[test]
@@ -122,6 +162,7 @@ const CONSTANTS: &[(&str, u32, u32)] = &[
     ("int a[~0u>>31];", 1, 1),
     ("int a[1?2:1/0];", 2, 2),
     ("int a['\\377'<0?1:2];", 1, 1),
+    ("int a['\\377'==-1?1:2];", 1, 1),
     ("enum{A=3,B};int a[B];", 4, 4),
     ("int a[]={1,2,3};", 3, 3),
     ("int a[]={1,[6]=2,3};", 8, 8),
@@ -152,6 +193,13 @@ const CONSTANTS: &[(&str, u32, u32)] = &[
     ("int a[(1u<<31)/0x40000000];", 2, 2),
     ("int a[7u%4];", 3, 3),
     ("int a[(1^3)+(1|2)+(6&3)];", 7, 7),
+    ("int a[2147483647+1<0?1:2];", 1, 1),
+    ("int a[2147483647+1==-2147483647-1?1:2];", 1, 1),
+    ("int a[(-7>>1)+7];", 3, 3),
+    ("int a[-1<1?1:2];", 1, 1),
+    ("int a[(0u-1)/0x10000000];", 15, 15),
+    ("int a[1||1/0];", 1, 1),
+    ("int a[(unsigned char)300];", 44, 44),
 ];
 
 #[test]
@@ -183,6 +231,7 @@ const KINDS: &[(&str, u32, u32)] = &[
         4,
     ),
     ("int a[sizeof(__builtin_expect(1,1))];", 4, 8),
+    ("int*q;int a[sizeof*(1?(unsigned char)256:q)];", 4, 4),
 ];
 
 #[test]

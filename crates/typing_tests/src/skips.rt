@@ -198,6 +198,11 @@ const NOT_ALLOWED: &[(&str, IllTyped, u32)] = &[
     ("void f(int x){kfree(0);kfree(x);}", IllTyped::Operand, 24),
     ("void f(char*p){int y=p;}", IllTyped::Operand, 20),
     ("int f(int c,char*p){return c?p:1;}", IllTyped::Operand, 29),
+    (
+        "int f(int c,char*p){return c?p:(unsigned char)300;}",
+        IllTyped::Operand,
+        29,
+    ),
     ("int f(int*a){return 0[a];}", IllTyped::Operand, 22),
     ("char x;void f(char*p){1=p;}", IllTyped::Operand, 24),
     ("void f(int x){*x;}", IllTyped::Operand, 15),
@@ -264,6 +269,16 @@ const NOT_ALLOWED: &[(&str, IllTyped, u32)] = &[
     ("void f(int x){x();}", IllTyped::Call, 15),
     ("void g(int);void f(void){g();}", IllTyped::Call, 26),
     (
+        "int g();int g(int);void f(void){g();}",
+        IllTyped::Call,
+        33,
+    ),
+    (
+        "int g(int);int g();void f(void){g();}",
+        IllTyped::Call,
+        33,
+    ),
+    (
         "void kfree(void);void f(char*p){kfree(p);}",
         IllTyped::Call,
         33,
@@ -323,6 +338,11 @@ const NOT_ALLOWED: &[(&str, IllTyped, u32)] = &[
         "struct s;void f(void){struct s x;}",
         IllTyped::Incomplete,
         32,
+    ),
+    (
+        "struct s{char a[2147483647];_Bool b;};void f(void){sizeof(struct s);}",
+        IllTyped::Incomplete,
+        52,
     ),
     (
         "struct s;void f(void){sizeof(struct s);}",

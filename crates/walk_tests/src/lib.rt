@@ -3,7 +3,8 @@
 //!
 //! `setting` reads a text and lays a function of it out, `summaries` has what kept callees do, `walk`, `expressions`,
 //! `objects` and `calls` are the walker, `beside` sets it beside the interpreter, and `statements`, `jumps`, `operators`,
-//! `declarations` and `callees` have the functions; `driver` has one of a driver, on some of its choices.
+//! `declarations` and `callees` have the functions; `driver` has one of a driver, on some of its choices. `graphs` has
+//! graphs that were read by hand, and `told` tells a graph as text.
 #![tactic(auto)]
 
 #[cfg(test)]
@@ -19,6 +20,8 @@ mod driver;
 #[cfg(test)]
 mod expressions;
 #[cfg(test)]
+mod graphs;
+#[cfg(test)]
 mod jumps;
 #[cfg(test)]
 mod objects;
@@ -30,5 +33,7 @@ mod setting;
 mod statements;
 #[cfg(test)]
 mod summaries;
+#[cfg(test)]
+mod told;
 #[cfg(test)]
 mod walk;

@@ -13,7 +13,6 @@ use std::process::Abort;
 use std::snapshot::Snapshot;
 use std::sync::Wait;
 use std::sync::atomic::{AtomicU64, Ordering};
-use std::test::Fail;
 use std::thread;
 use std::thread::Threads;
 use work_pool::{FreeGate, Gate, run_all, run_alone};
@@ -54,14 +53,16 @@ impl Gate for Held {
     }
 }
 
-/// The outputs are 1, 3, 5 and so on, so many of them.
-fn expect_odd<R: Abort>(rt: &R, rows: &RowList<u64>, count: usize) {
-    assert_eq!(rt; rows.list.len(), count);
+/// Whether the outputs are 1, 3, 5 and so on, so many of them.
+fn are_odd(rows: &RowList<u64>, count: usize) -> bool {
     let mut expected = 1u64;
     for row in &rows.list {
-        assert_eq!(rt; **row, expected);
+        if **row != expected {
+            return false;
+        }
         expected = expected.wrapping_add(2);
     }
+    rows.list.len() == count
 }
 
 /// A gate that has counted nothing.
@@ -73,126 +74,168 @@ fn counting(alloc: Global, functions: usize) -> Result<Noting, OutOfMemory> {
     Ok(Noting { calls })
 }
 
-/// The gate was called once for each function.
-fn expect_once<R: Abort>(rt: &R, gate: &Noting) {
+/// Whether the gate was called once for each function.
+fn is_called_once(gate: &Noting) -> bool {
     for count in &gate.calls {
-        assert_eq!(rt; count.load(Ordering::SeqCst), 1);
+        if count.load(Ordering::SeqCst) != 1 {
+            return false;
+        }
     }
+    true
 }
 
-/// So many workers make the outputs that one thread makes.
-fn expect_the_same<R: Abort + Threads + Wait + Sync>(
+/// Whether one thread makes these outputs, and so many workers make the same.
+fn are_made<R: Abort + Threads + Wait + Sync>(
     rt: &R,
     alloc: Global,
     work: &Odd,
     plan: &Plan,
     jobs: u32,
-) -> Result<(), OutOfMemory>
+    count: usize,
+) -> Result<bool, OutOfMemory>
     requires plan { IsPlan plan.now.callees × (work.now.plan.value ≡ plan.now) }
     requires jobs { (0 < jobs) × (jobs ≤ 64) }
 {
     let alone = run_alone(alloc, work, plan)?;
-    let together = run_all(rt, alloc, work, plan, jobs, &FreeGate)?.rows;
-    assert_eq!(rt; together.list.len(), alone.list.len());
-    for (one, other) in together.list.iter().zip(&alone.list) {
-        assert_eq!(rt; **one, **other);
-    }
-    Ok(())
+    let together = run_all(rt, alloc, work, plan, jobs, &FreeGate)?;
+    Ok(are_odd(&alone, count) && are_odd(&together.rows, count))
 }
 
-#[test]
-fn outputs_are_the_same_for_every_number_of_jobs(rt: HostRuntime) -> Result<(), Fail> {
-    let plan = plan(&rt, rt.alloc(), 2, true, false)?;
+/// The same for each number of jobs.
+fn are_made_by_all<R: Abort + Threads + Wait + Sync>(
+    rt: &R,
+    alloc: Global,
+) -> Result<bool, OutOfMemory> {
+    let plan = plan(rt, alloc, 2, true, false)?;
     let work = work_of(&plan);
     for _run in 0..RUNS {
-        expect_odd(&rt, &run_alone(rt.alloc(), &work, &plan)?, 2);
-        expect_the_same(&rt, rt.alloc(), &work, &plan, 1)?;
-        expect_the_same(&rt, rt.alloc(), &work, &plan, 2)?;
-        expect_the_same(&rt, rt.alloc(), &work, &plan, 4)?;
-        expect_the_same(&rt, rt.alloc(), &work, &plan, 64)?;
-    }
-    Ok(())
-}
-
-#[test]
-fn more_jobs_than_functions(rt: HostRuntime) -> Result<(), Fail> {
-    let plan = plan(&rt, rt.alloc(), 3, false, false)?;
-    let work = work_of(&plan);
-    for _run in 0..RUNS {
-        let gate = counting(rt.alloc(), 3)?;
-        expect_odd(
-            &rt,
-            &run_all(&rt, rt.alloc(), &work, &plan, 64, &gate)?.rows,
-            3,
-        );
-        expect_once(&rt, &gate);
-    }
-    Ok(())
-}
-
-#[test]
-fn two_jobs_on_chains_of_64(rt: HostRuntime) -> Result<(), Fail> {
-    for forward in [false, true] {
-        let plan = plan(&rt, rt.alloc(), 64, true, forward)?;
-        let work = work_of(&plan);
-        for _run in 0..RUNS {
-            let gate = counting(rt.alloc(), 64)?;
-            expect_odd(
-                &rt,
-                &run_all(&rt, rt.alloc(), &work, &plan, 2, &gate)?.rows,
-                64,
-            );
-            expect_once(&rt, &gate);
+        let made = are_made(rt, alloc, &work, &plan, 1, 2)?
+            && are_made(rt, alloc, &work, &plan, 2, 2)?
+            && are_made(rt, alloc, &work, &plan, 4, 2)?
+            && are_made(rt, alloc, &work, &plan, 64, 2)?;
+        if !made {
+            return Ok(false);
         }
     }
-    Ok(())
+    Ok(true)
 }
 
 #[test]
-fn two_jobs_on_64_functions_without_edges(rt: HostRuntime) -> Result<(), Fail> {
-    let plan = plan(&rt, rt.alloc(), 64, false, false)?;
+fn outputs_are_the_same_for_every_number_of_jobs(rt: HostRuntime) {
+    assert!(rt; are_made_by_all(&rt, rt.alloc()) == Ok(true));
+}
+
+/// Whether so many workers make the outputs of a plan, and call the gate once for each function.
+fn are_noted_once<R: Abort + Threads + Wait + Sync>(
+    rt: &R,
+    alloc: Global,
+    work: &Odd,
+    plan: &Plan,
+    jobs: u32,
+    count: usize,
+) -> Result<bool, OutOfMemory>
+    requires plan { IsPlan plan.now.callees × (work.now.plan.value ≡ plan.now) }
+    requires jobs { (0 < jobs) × (jobs ≤ 64) }
+{
+    let gate = counting(alloc, count)?;
+    let made = run_all(rt, alloc, work, plan, jobs, &gate)?;
+    Ok(are_odd(&made.rows, count) && is_called_once(&gate))
+}
+
+/// The same each time, over a plan of so many functions, which is a chain or has no edges.
+fn are_noted_once_each_time<R: Abort + Threads + Wait + Sync>(
+    rt: &R,
+    alloc: Global,
+    functions: u32,
+    chain: bool,
+    forward: bool,
+    jobs: u32,
+) -> Result<bool, OutOfMemory>
+    requires { (0 < jobs) × (jobs ≤ 64) }
+{
+    let plan = plan(rt, alloc, functions, chain, forward)?;
     let work = work_of(&plan);
     for _run in 0..RUNS {
-        let gate = counting(rt.alloc(), 64)?;
-        expect_odd(
-            &rt,
-            &run_all(&rt, rt.alloc(), &work, &plan, 2, &gate)?.rows,
-            64,
-        );
-        expect_once(&rt, &gate);
+        if !are_noted_once(rt, alloc, &work, &plan, jobs, functions as usize)? {
+            return Ok(false);
+        }
     }
-    Ok(())
+    Ok(true)
 }
 
 #[test]
-fn two_workers_run_side_by_side(rt: HostRuntime) -> Result<(), Fail> {
-    let plan = plan(&rt, rt.alloc(), 2, false, false)?;
+fn more_jobs_than_functions(rt: HostRuntime) {
+    assert!(rt; are_noted_once_each_time(&rt, rt.alloc(), 3, false, false, 64) == Ok(true));
+}
+
+#[test]
+fn two_jobs_on_chains_of_64(rt: HostRuntime) {
+    assert!(rt; are_noted_once_each_time(&rt, rt.alloc(), 64, true, false, 2) == Ok(true));
+    assert!(rt; are_noted_once_each_time(&rt, rt.alloc(), 64, true, true, 2) == Ok(true));
+}
+
+#[test]
+fn two_jobs_on_64_functions_without_edges(rt: HostRuntime) {
+    assert!(rt; are_noted_once_each_time(&rt, rt.alloc(), 64, false, false, 2) == Ok(true));
+}
+
+/// Whether two workers make the outputs, of which the first waits in the gate until the second is there.
+fn are_side_by_side<R: Abort + Threads + Wait + Sync>(
+    rt: &R,
+    alloc: Global,
+    work: &Odd,
+    plan: &Plan,
+) -> Result<bool, OutOfMemory>
+    requires { IsPlan plan.now.callees × (work.now.plan.value ≡ plan.now) }
+{
+    let gate = Held {
+        calls: AtomicU64::new(0),
+        late: AtomicU64::new(0),
+    };
+    let made = run_all(rt, alloc, work, plan, 2, &gate)?;
+    Ok(are_odd(&made.rows, 2) && gate.late.load(Ordering::SeqCst) == 0)
+}
+
+fn are_side_by_side_each_time<R: Abort + Threads + Wait + Sync>(
+    rt: &R,
+    alloc: Global,
+) -> Result<bool, OutOfMemory> {
+    let plan = plan(rt, alloc, 2, false, false)?;
     let work = work_of(&plan);
     for _run in 0..RUNS {
-        let gate = Held {
-            calls: AtomicU64::new(0),
-            late: AtomicU64::new(0),
-        };
-        expect_odd(
-            &rt,
-            &run_all(&rt, rt.alloc(), &work, &plan, 2, &gate)?.rows,
-            2,
-        );
-        assert_eq!(rt; gate.late.load(Ordering::SeqCst), 0);
+        if !are_side_by_side(rt, alloc, &work, &plan)? {
+            return Ok(false);
+        }
     }
-    Ok(())
+    Ok(true)
 }
 
 #[test]
-fn refused_memory_stops_all_workers(rt: HostRuntime) -> Result<(), Fail> {
-    let plan = plan(&rt, rt.alloc(), 3, false, false)?;
+fn two_workers_run_side_by_side(rt: HostRuntime) {
+    assert!(rt; are_side_by_side_each_time(&rt, rt.alloc()) == Ok(true));
+}
+
+/// Whether memory that is refused for one function ends each run.
+fn all_are_stopped<R: Abort + Threads + Wait + Sync>(
+    rt: &R,
+    alloc: Global,
+) -> Result<bool, OutOfMemory> {
+    let plan = plan(rt, alloc, 3, false, false)?;
     let work = Odd {
         plan: Snapshot::of(&plan),
         refused: 1,
     };
     for _run in 0..RUNS {
-        assert!(rt; run_all(&rt, rt.alloc(), &work, &plan, 2, &FreeGate).is_err());
-        assert!(rt; run_alone(rt.alloc(), &work, &plan).is_err());
+        let stopped = run_all(rt, alloc, &work, &plan, 2, &FreeGate).is_err()
+            && run_alone(alloc, &work, &plan).is_err();
+        if !stopped {
+            return Ok(false);
+        }
     }
-    Ok(())
+    Ok(true)
+}
+
+#[test]
+fn refused_memory_stops_all_workers(rt: HostRuntime) {
+    assert!(rt; all_are_stopped(&rt, rt.alloc()) == Ok(true));
 }

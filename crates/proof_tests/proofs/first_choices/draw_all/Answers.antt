@@ -1,5 +1,5 @@
 use Rattle.bit_net.proofs.Growth.{Grown-refl, Grown-trans}
-use Rattle.question_tests.proofs.first_choices.draw_all.Goals as goal
+use Rattle.proof_tests.proofs.first_choices.draw_all.Goals as goal
 
 pub loop-gate-init : goal.loop-gate-init
 loop-gate-init c = Grown-refl _

@@ -25,7 +25,7 @@ const DRAWN: u32 = 40;
 const ASKED: u32 = 3;
 
 /// Numbers in a fixed order without a pattern.
-#[derive(Debug, Drop)]
+#[derive(Drop)]
 struct Numbers {
     state: u64,
 }
