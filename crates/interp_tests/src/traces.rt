@@ -135,6 +135,11 @@ const RUNS: &[(&str, &str, &str)] = &[
         "1:25 if 0\n1:35 end\noutcome exit\n",
     ),
     (
+        "void f(void(*g)(int)){if(g)g(1);}",
+        "8",
+        "1:23 if 1\n1:28 call *\n1:33 end\noutcome exit\n",
+    ),
+    (
         "void f(int n){if(n)exit(1);}",
         "00000000",
         "1:15 if 0\n1:28 end\noutcome exit\n",

@@ -268,16 +268,8 @@ const NOT_ALLOWED: &[(&str, IllTyped, u32)] = &[
     ("void f(void){&1;}", IllTyped::Lvalue, 14),
     ("void f(int x){x();}", IllTyped::Call, 15),
     ("void g(int);void f(void){g();}", IllTyped::Call, 26),
-    (
-        "int g();int g(int);void f(void){g();}",
-        IllTyped::Call,
-        33,
-    ),
-    (
-        "int g(int);int g();void f(void){g();}",
-        IllTyped::Call,
-        33,
-    ),
+    ("int g();int g(int);void f(void){g();}", IllTyped::Call, 33),
+    ("int g(int);int g();void f(void){g();}", IllTyped::Call, 33),
     (
         "void kfree(void);void f(char*p){kfree(p);}",
         IllTyped::Call,
