@@ -28,6 +28,29 @@ fn form_as<'a>(format: Format, marks: &'a [LineMarks]) -> Form<'a>
     }
 }
 
+// A run of the function of this name on the choice that the digits spell, in this form.
+fn replayed<'a>(
+    format: Format,
+    marks: &'a [LineMarks],
+    name: &'a [u8],
+    digits: &'a [u8],
+    depth: u32,
+    reach: u32,
+) -> Asked<'a>
+    ensures form { form_of result.form ≡ form_as format marks.entry.now }
+    ensures name { result.name.now ≡ name.entry.now }
+    ensures digits { result.digits.now ≡ digits.entry.now }
+    ensures bounds { (result.depth ≡ depth) × (result.reach ≡ reach) }
+{
+    Asked {
+        form: form_as(format, marks),
+        name,
+        digits,
+        depth,
+        reach,
+    }
+}
+
 // What is due for the input.
 fn answer_for(alloc: Global, asked: &RunWords, input: Input) -> Result<Answer, OutOfMemory>
     requires whole { HasWholeMachine input.machine }
@@ -50,14 +73,16 @@ fn answer_for(alloc: Global, asked: &RunWords, input: Input) -> Result<Answer, O
         machine,
     };
     let name = asked.function.as_bytes();
-    let replayed = Asked {
-        form: form_as(asked.format, marks.as_slice()),
+    let digits = asked.choice.as_bytes();
+    let run = replayed(
+        asked.format,
+        marks.as_slice(),
         name,
-        digits: asked.choice.as_bytes(),
-        depth: options.depth,
-        reach: options.reach,
-    };
-    let told = tell(alloc, sources, replayed)?;
+        digits,
+        options.depth,
+        options.reach,
+    );
+    let told = tell(alloc, sources, run)?;
     answer_of(alloc, b"saturn_run", name, told)
 }
 
