@@ -1,5 +1,5 @@
 use Rattle.sc_world.specs.Programs.{source}
-use Rattle.interp_tests.proofs.Layouts.{closed_if}
+use Rattle.interp_tests.proofs.Laying.{closed_if}
 use Rattle.interp_tests.proofs.runs.laid_out.Goals as goal
 
 pub returns : goal.returns
