@@ -62,18 +62,20 @@ fn a_certificate_is_read(rt: HostRuntime) {
 
 const WRITTEN: &str = "p cnf 2 2\n1 -2 0\n0\nc drat\n-2 0\nd 1 -2 0\n0\n";
 
-/// Whether a certificate is written as this text.
-fn is_written(alloc: Global, certificate: &Certificate) -> bool {
-    match write(alloc, certificate) {
-        Ok(written) => written.as_slice() == WRITTEN.as_bytes(),
+/// Whether the certificate of a text is written as that text.
+fn is_kept(alloc: Global, text: &str) -> bool {
+    let Ok(certificate) = read(alloc, text.as_bytes()) else {
+        return false;
+    };
+    match write(alloc, &certificate) {
+        Ok(written) => written.as_slice() == text.as_bytes(),
         Err(_) => false,
     }
 }
 
 #[test]
 fn what_is_written_was_read(rt: HostRuntime) {
-    let certificate = read(rt.alloc(), WRITTEN.as_bytes());
-    assert!(rt; matches!(&certificate, Ok(certificate) if is_written(rt.alloc(), certificate)));
+    assert!(rt; is_kept(rt.alloc(), WRITTEN));
 }
 
 /// Texts that have the form.
