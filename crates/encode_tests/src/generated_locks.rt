@@ -78,7 +78,7 @@ const LOCKS: &[Row] = rows![
         pthread_mutex_lock(&v0->m);v0->on=(p1^(-1%*gb));}else{spin_lock(&v0->m);}spin_lock(&v0->m);f0((1u>=*gb),mutex_trylock(&v0->m));}}return ask();}\
         void f1(_Bool*p0){spinlock_t own;struct pair nd;f0(0x80000000,(*p0-nd.on));if(*p0){{pthread_mutex_lock(&own);pthread_mutex_unlock(&nd.m);}}spin_lock(&nd.m);}\
         _Bool f2(struct node*p0,struct node*p1,spinlock_t*p2){spin_lock(p2);;return 7;}\
-        _Bool f3(_Bool*p0,spinlock_t*p1){if(*p0)f2((300?(struct node*)0:0),0,p1);if(((-1||300)/*p0))spin_unlock(p1);spin_lock(p1);return*p0;}",
+        _Bool f3(_Bool*p0,spinlock_t*p1){if(*p0)f2((300?(struct node*)0:0),0,p1);if(((-1||300)/ *p0))spin_unlock(p1);spin_lock(p1);return*p0;}",
     [[432, 136, 8]; 3] =>
         "_Bool f1(spinlock_t*,spinlock_t*);_Bool f0(struct node*p0,struct pair*p1,_Bool*p2,_Bool p3){;;*p2=1;return*p2;}\
         _Bool f1(spinlock_t*p0,spinlock_t*p1){ask();spin_lock(p1);return(128*300);}_Bool f2(_Bool p0,_Bool p1){struct pair*v0=0;char arr[3]={};switch((v0->on+p1)){\

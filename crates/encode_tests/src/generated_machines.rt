@@ -186,7 +186,7 @@ const MACHINES: &[Machined] = &[
         rows: rows![
             [[530, 2, 130]; 3] =>
                 "void f0(_Bool p0){(!p0<(p0||128));}void f1(spinlock_t*p0,_Bool p1){int v0=(~(mutex_lock(p0)));char*v1=0;char arr[3]={1,2};struct pair nd;f0(++(*v1));rcu_in(p0);}\
-                _Bool f2(spinlock_t*p0,_Bool p1,struct pair*p2){unsigned char v0=p1;_Bool*v1;char arr[3]={};for(;p1<1;){up(p0);f0(p1);rcu_in(&p2->m);}f0((p1/*v1));*v1=v0;\
+                _Bool f2(spinlock_t*p0,_Bool p1,struct pair*p2){unsigned char v0=p1;_Bool*v1;char arr[3]={};for(;p1<1;){up(p0);f0(p1);rcu_in(&p2->m);}f0((p1/ *v1));*v1=v0;\
                 spin_unlock(p0);return arr[arr[2]];}",
         ],
     },
