@@ -62,20 +62,20 @@ fn a_certificate_is_read(rt: HostRuntime) {
 
 const WRITTEN: &str = "p cnf 2 2\n1 -2 0\n0\nc drat\n-2 0\nd 1 -2 0\n0\n";
 
-/// Whether the certificate of a text is written as that text.
-fn is_kept(alloc: Global, text: &str) -> bool {
-    let Ok(certificate) = read(alloc, text.as_bytes()) else {
+/// Whether the certificate of this text is written as the text.
+fn is_kept(alloc: Global) -> bool {
+    let Ok(certificate) = read(alloc, WRITTEN.as_bytes()) else {
         return false;
     };
     match write(alloc, &certificate) {
-        Ok(written) => written.as_slice() == text.as_bytes(),
+        Ok(written) => written.as_slice() == WRITTEN.as_bytes(),
         Err(_) => false,
     }
 }
 
 #[test]
 fn what_is_written_was_read(rt: HostRuntime) {
-    assert!(rt; is_kept(rt.alloc(), WRITTEN));
+    assert!(rt; is_kept(rt.alloc()));
 }
 
 /// Texts that have the form.
